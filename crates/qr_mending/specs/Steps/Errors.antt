@@ -1,11 +1,13 @@
 -- How the errors `e` of a damaged block are found. They are the differences of its codewords from the right ones. They
 -- are also the coefficients of the error polynomial, that of the highest power first. A polynomial `p` is listed in the
 -- other order: the coefficient of the lowest power comes first.
-use Rattle.std.specs.Prelude.{◌≡◌, ℕ, ◌<◌, ◌≤◌, ◌==◌, if◌then◌else◌, List, [], ◌∷◌, length}
+use Rattle.std.specs.Prelude.{◌≡◌, ℕ, ◌+◌, ◌-◌, ◌<◌, ◌≤◌, ◌==◌, if◌then◌else◌, List, [], ◌∷◌, length, slice_index}
 use Rattle.std.specs.List.{All}
 use Rattle.qr_field.specs.Galois.{product}
 use Rattle.qr_field.specs.{Polynomial.{IsByte, power, zeros}, Distance.{differences}}
-use Rattle.qr_mending.specs.Steps.Sums.{eval, HasValues, HasSameValues}
+use Rattle.arrayvec.specs.ArrayVec.{array_vec_len}
+use Rattle.qr_mending.specs.declared.errors.Removal.{Removal}
+use Rattle.qr_mending.specs.Steps.{Sums.{eval, HasValues, HasSameValues}, Roots.{HasLeadingOne}}
 
 -- The coefficient of x^m in the polynomial with the listed coefficients, that of the highest power first. It is 0 if
 -- the list has none for x^m.
@@ -25,6 +27,28 @@ pub record IsLocated (p e : List ℕ) : Type 0 where
   pub bytes : All IsByte e
   pub most : length e ≤ 255
   pub roots : (m : ℕ) → m < length e → (eval (power m) p ≡ 0 → ⊥) → coefficient m e ≡ 0
+
+-- The errors are those of `n` codewords. `p` locates them, and `s` lists the first of their syndromes.
+pub record AreErrors (n : ℕ) (p s e : List ℕ) : Type 0 where
+  pub count : length e ≡ n
+  pub located : IsLocated p e
+  pub values : HasValues s e
+
+-- The search has `left` codewords to try. Of the values of its locator, all for these codewords from `first` on were
+-- computed: where one is 0, the locator has a root.
+pub record IsRemoval (left : ℕ) (removal : Removal) : Type 0 where
+  pub leading : HasLeadingOne removal.locator.items
+  pub enough : array_vec_len removal.locator ≤ array_vec_len removal.syndromes + 1
+  pub near : left ≤ removal.first + 16
+  pub roots : (m : ℕ) → removal.first ≤ m → m < left → slice_index removal.values (m - removal.first) ≡ 0 →
+      eval (power m) removal.locator.items ≡ 0
+
+-- The errors are those of the `left` codewords that the search has still to try. Where a value is not 0, there is no
+-- error.
+pub record AreLeft (left : ℕ) (e : List ℕ) (removal : Removal) : Type 0 where
+  pub errors : AreErrors left removal.locator.items removal.syndromes.items e
+  pub none : (m : ℕ) → removal.first ≤ m → m < left → (slice_index removal.values (m - removal.first) ≡ 0 → ⊥) →
+      coefficient m e ≡ 0
 
 -- At most `t` of the errors `e` are not 0. Item k of `s` is syndrome k, which is the value of the error polynomial at
 -- 2^k.

@@ -7,5 +7,5 @@ use Rattle.qr_mending.proofs.errors.remove.Goals as goal
 pub returns-else-error-ne0-clause-each : goal.returns-else-error-ne0-clause-each
 returns-else-error-ne0-clause-each c = λ k l.
     let none : c.args.error ≡ 0 = omega arith in
-    let place = product-of_zero (power (k * c.args.place)) (power-lt (k * c.args.place)) in
-    cc (none, place, xor_zero_r (get_or c.args.syndromes.now k 0))
+    let term = product-of_zero (power (k * c.args.location)) (power-lt (k * c.args.location)) in
+    cc (none, term, xor_zero_r (get_or c.args.syndromes.now k 0))

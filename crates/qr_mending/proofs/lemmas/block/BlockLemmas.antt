@@ -12,7 +12,7 @@ use Rattle.qr_field.proofs.lemmas.laws.DistanceLemmas.{weight-plus, difference-s
 use Rattle.qr_mending.specs.{Block.{IsBlock, IsMended}, Steps.Polynomial.{all_of, IsMonic, IsProgress}}
 use Rattle.qr_mending.specs.declared.locator.Progress.{Progress}
 use Rattle.qr_mending.specs.{Erasures.IsMendedWithErasures, declared.polynomial.Polynomial.Polynomial}
-use Rattle.qr_mending.specs.Steps.{Sums.{HasValues, HasSameValues}, Roots.HasLeadingOne, Errors.{AreFewErrors, AreFewErrorsOf, IsLocated}}
+use Rattle.qr_mending.specs.Steps.{Sums.{HasValues, HasSameValues}, Roots.HasLeadingOne, Errors.{AreFewErrors, AreFewErrorsOf, AreErrors, IsLocated}}
 use Rattle.qr_mending.proofs.lemmas.locator.SearchLemmas.{few-values, search-locates, weight-zeros}
 
 -- ---- blocks
@@ -116,19 +116,21 @@ errors-few n t r damaged b most a same l m =
 pub errors-leave : (n t : ℕ) (damaged r q s items : List ℕ) → length damaged ≤ 255 → All IsByte damaged →
     HasSameValues r damaged → length r ≡ n → HasValues s r → length s ≤ length r →
     ((e : List ℕ) → AreFewErrors t s e → IsLocated q e) →
-    ((e : List ℕ) → length e ≡ length damaged → IsLocated q e → HasValues s e → items ≡ plus damaged e) →
+    ((e : List ℕ) → AreErrors (length damaged) q s e → items ≡ plus damaged e) →
     (b : List ℕ) → IsMended n t damaged b → items ≡ b
 errors-leave n t damaged r q s items most a same l values short located sum b m =
     let e = plus damaged b in
     let count : length e ≡ length b = length-plus damaged b (omega (arith, m.long)) in
     let few = few-values t r s e values short (errors-few n t r damaged b most a same l m) in
-    sum e (omega (arith, count, m.long)) (located e few) few.values ∙ plus-cancel damaged b (sym m.long)
+    let all : AreErrors (length damaged) q s e =
+    record { count = omega (arith, count, m.long); located = located e few; values = few.values } in
+    sum e all ∙ plus-cancel damaged b (sym m.long)
 
 -- once all syndromes were taken in, the codewords without the errors that the search located are the true block
 pub candidate-mended : (progress : Progress) (t : ℕ) (damaged r items : List ℕ) → length damaged ≤ 255 → All IsByte damaged →
     HasSameValues r damaged → IsProgress t r progress → progress.taken ≡ 2 * t →
-    ((e : List ℕ) → length e ≡ length damaged → IsLocated (all_of progress.search.best) e →
-    HasValues progress.syndromes.items e → items ≡ plus damaged e) →
+    ((e : List ℕ) → AreErrors (length damaged) (all_of progress.search.best) progress.syndromes.items e →
+    items ≡ plus damaged e) →
     (b : List ℕ) → IsMended (length r) t damaged b → items ≡ b
 candidate-mended progress t damaged r items most a same h full sum b m =
     let s = progress.syndromes.items in

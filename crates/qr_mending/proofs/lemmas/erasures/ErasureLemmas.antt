@@ -13,7 +13,7 @@ use Rattle.qr_field.proofs.lemmas.polynomial.ListLemmas.{length-plus, bytes-plus
 use Rattle.qr_field.proofs.lemmas.laws.DistanceLemmas.{weight, difference-same, difference-alike}
 use Rattle.qr_mending.specs.{Erasures.read_of, Erasures.IsMendedWithErasures}
 use Rattle.qr_mending.specs.Steps.{Sums.{dot_of, eval, HasValues}, Roots.rooted}
-use Rattle.qr_mending.specs.Steps.{Errors.{coefficient, weighted, AreFewErrors, IsLocated}}
+use Rattle.qr_mending.specs.Steps.{Errors.{coefficient, weighted, AreFewErrors, AreErrors, IsLocated}}
 use Rattle.qr_mending.proofs.lemmas.sums.SumLemmas.{dot-blend, eval-lt, values-more}
 use Rattle.qr_mending.proofs.lemmas.errors.WeightLemmas.{length-weighted, bytes-weighted, difference-product, weighted-value, coefficient-lt, coefficient-weighted}
 use Rattle.qr_mending.proofs.lemmas.roots.RootLemmas.{count-more, bytes-rooted, eval-rooted, has-roots, rooted-roots}
@@ -163,8 +163,7 @@ pub erasures-leave : (n spare t : ℕ) (damaged first modified q items : List �
     length damaged ≤ 255 → length es ≡ length damaged → All IsByte damaged → HasValues first damaged → length first ≡ n →
     ((e : List ℕ) → All IsByte e → HasValues first e → HasValues modified (weighted (unread es) e)) →
     All IsByte q → ((e : List ℕ) → AreFewErrors t modified e → IsLocated q e) →
-    ((e : List ℕ) → length e ≡ length damaged → IsLocated (rooted es q) e → HasValues first e →
-    items ≡ plus damaged e) →
+    ((e : List ℕ) → AreErrors (length damaged) (rooted es q) first e → items ≡ plus damaged e) →
     t ≡ (spare - count_by (λ e. e) es) / 2 → (b : List ℕ) → IsMendedWithErasures n spare (read_of damaged es) b → items ≡ b
 erasures-leave n spare t damaged first modified q items es most marks a h l left bytes located sum tolerance b m =
     let long : length b ≡ length damaged = m.long ∙ length-read damaged es in
@@ -183,6 +182,9 @@ erasures-leave n spare t damaged first modified q items es most marks a h l left
       few = omega (arith, weight-zeros rest, weighted-few g damaged b es (bytes-unread es) le (sym long) marks none, near);
       values = left e le ve;
     } in
-    let all : IsLocated (rooted es q) e =
-    record { bytes = le; most = small; roots = joined-root es q e bytes le (located rest few).roots } in
-    sum e (omega (arith, count, long)) all ve ∙ plus-cancel damaged b (sym long)
+    let all : AreErrors (length damaged) (rooted es q) first e = record {
+      count = omega (arith, count, long);
+      located = record { bytes = le; most = small; roots = joined-root es q e bytes le (located rest few).roots };
+      values = ve;
+    } in
+    sum e all ∙ plus-cancel damaged b (sym long)

@@ -1,15 +1,16 @@
 -- The errors are found one at a time. A polynomial that has a root for each later error, but none for this one, leaves
 -- of the products of all errors only that of this one.
-use Rattle.std.proofs.Common.{◌≡◌, ℕ, zero, suc, ◌+◌, ◌-◌, ◌*◌, ◌/◌, ◌%◌, ◌<◌, ◌≤◌, List, [], ◌∷◌, ◌++◌, length, take, drop, get_or, set, refl, sym, ap, ◌∙◌, inl, inr, length-append, length-drop, arith, bit_xor}
-use Rattle.std.proofs.Math.Numerals.{suc-eq-add-one}
-use Rattle.std.proofs.lemmas.{Nat.xor_of_8, Nat.xor_comm, List.{length_push, take-append-drop, take_more, drop_all, append-nil, take_all, get_or-append-add, set-append_right}, Bool.cases_eq, List.Elements.{All-head, All-tail}}
+use Rattle.std.proofs.Common.{◌≡◌, ℕ, zero, suc, ◌+◌, ◌-◌, ◌*◌, ◌/◌, ◌%◌, ◌<◌, ◌≤◌, List, [], ◌∷◌, ◌++◌, length, take, drop, get_or, set, refl, sym, ap, ◌∙◌, inl, inr, length-drop, arith, bit_xor}
+use Rattle.std.proofs.Math.{Numerals.{suc-eq-add-one}, Seq.{take-append_seam, drop-append_seam}}
+use Rattle.std.proofs.lemmas.{Nat.xor_of_8, Nat.xor_comm, List.{length_push, length-take-le, take-append-drop, take_more, drop_all, append-nil, take_all}, Bool.cases_eq, List.Elements.{All-head, All-tail}}
 use Rattle.std.specs.{List.{All, refill}, Int.Bits.{xor_zero_r, xor_self}}
 use Rattle.qr_field.specs.{Galois.product, Polynomial.{IsByte, plus, power}, Steps.Polynomial.value_at}
 use Rattle.qr_field.proofs.lemmas.galois.{BitLemmas.xor-cancel, ByteLemmas.{product-by_zero, product-of_zero, product-by_one}, ProductLemmas.{product-lt, product-xor}}
 use Rattle.qr_field.proofs.lemmas.galois.FieldLemmas.{product-factor, sum-none}
 use Rattle.qr_field.proofs.lemmas.{logarithm.PowerLemmas.{power-lt, power-add, power-round, powers-apart}, laws.ValueLemmas.{value-zero}}
 use Rattle.qr_field.proofs.lemmas.polynomial.ListLemmas.{length-plus}
-use Rattle.qr_mending.specs.Steps.{Sums.{dot_of, eval, HasValues}, Roots.HasLeadingOne, Errors.{coefficient, weighted, IsLocated}}
+use Rattle.qr_mending.specs.declared.errors.Removal.{Removal}
+use Rattle.qr_mending.specs.Steps.{Sums.{dot_of, eval, HasValues}, Roots.HasLeadingOne, Errors.{coefficient, weighted, AreLeft, IsLocated, IsRemoval}}
 use Rattle.qr_mending.proofs.lemmas.sums.SumLemmas.{dot-blend}
 use Rattle.qr_mending.proofs.lemmas.errors.WeightLemmas.{coefficient-head, coefficient-tail, root-blends, weighted-value}
 
@@ -117,7 +118,7 @@ no-errors (x ∷ xs) (c ∷ e) l h =
     (cc (none, xor_zero_r x, rest.0), cc (none, value-zero 0 e, rest.1))
 
 -- where the locator is 1, there is no error
-none-left : (xs e : List ℕ) → length e ≡ length xs → IsLocated (1 ∷ []) e → plus xs e ≡ xs
+pub none-left : (xs e : List ℕ) → length e ≡ length xs → IsLocated (1 ∷ []) e → plus xs e ≡ xs
 none-left xs e l h =
     let all = no-errors xs e l (λ m n.
     let one : eval (power m) (1 ∷ []) ≡ 1 = let none = product-by_zero (power m) (power-lt m) in cc (none, xor_zero_r 1) in
@@ -173,33 +174,21 @@ power-some m l e =
     let none : product (power m) (power (255 - m)) ≡ 0 = cc (product-of_zero (power (255 - m)) (power-lt (255 - m))) in
     omega (arith, one, none)
 
--- the codewords, if no place has the root
-pub last-none : (before xs e : List ℕ) (root : ℕ) → length e ≡ length xs → IsLocated (root ∷ 1 ∷ []) e →
-    ((m : ℕ) → m < length e → power m ≡ root → ⊥) → before ++ xs ≡ before ++ plus xs e
-last-none before xs e root l h none =
+-- the codewords, if no location has the root
+pub last-none : (xs e : List ℕ) (root : ℕ) → length e ≡ length xs → IsLocated (root ∷ 1 ∷ []) e →
+    ((m : ℕ) → m < length e → power m ≡ root → ⊥) → xs ≡ plus xs e
+last-none xs e root l h none =
     let all = no-errors xs e l (λ m n. elsewhere-none root m e h n (none m n)) in
-    ap (λ t. before ++ t) (sym all.0)
+    sym all.0
 
 -- the codewords without the last error
-pub last-sum : (before xs e old : List ℕ) (root p at error : ℕ) → old ≡ before ++ xs → length e ≡ length xs →
-    IsLocated (root ∷ 1 ∷ []) e → power p ≡ root → p < 255 → p < length e → error ≡ value_at 0 e →
-    at ≡ length old - 1 - p → set old at (bit_xor (get_or old at 0) error) ≡ before ++ plus xs e
-last-sum before xs e old root p at error same l h log small within value place =
-    let n = length before in
-    let j = length xs - 1 - p in
-    let split : at ≡ n + j = omega (arith, place, ap length same, length-append before xs, l, within) in
-    let back : n + j - n ≡ j = omega arith in
+pub last-sum : (xs e : List ℕ) (root p error : ℕ) → length e ≡ length xs → IsLocated (root ∷ 1 ∷ []) e →
+    power p ≡ root → p < 255 → p < length e → error ≡ value_at 0 e →
+    set xs (length xs - 1 - p) (bit_xor (get_or xs (length xs - 1 - p) 0) error) ≡ plus xs e
+last-sum xs e root p error l h log small within value =
     let one = one-error xs e p l within h.bytes (λ m k o. elsewhere-none root m e h k
     (λ s. o (powers-apart m p (omega (arith, k, h.most)) small (s ∙ sym log)))) in
-    cc (
-      same,
-      split,
-      value,
-      get_or-append-add before xs j 0,
-      set-append_right before xs n (n + j) (bit_xor (get_or xs j 0) (value_at 0 e)) refl (omega arith),
-      back,
-      one,
-    )
+    cc (value, one)
 
 -- a polynomial with a leading 1 and one other coefficient
 pub leading-two : (p : List ℕ) → HasLeadingOne p → length p ≡ 2 → p ≡ get_or p 0 0 ∷ 1 ∷ []
@@ -211,7 +200,7 @@ leading-two p h l = go h.others h.whole
     go (x ∷ y ∷ v) e = absurd (omega (arith, ap length e, length_push (x ∷ y ∷ v) 1, l))
 
 -- a leading 1 with no other coefficient
-leading-alone : (p : List ℕ) → HasLeadingOne p → length p ≡ 1 → p ≡ 1 ∷ []
+pub leading-alone : (p : List ℕ) → HasLeadingOne p → length p < 2 → p ≡ 1 ∷ []
 leading-alone p h l = go h.others h.whole
   where
     go : (v : List ℕ) → p ≡ v ++ 1 ∷ [] → p ≡ 1 ∷ []
@@ -226,21 +215,9 @@ drop-plus (suc k) [] (y ∷ ys) l = absurd (omega arith)
 drop-plus (suc k) (x ∷ xs) [] l = absurd (omega arith)
 drop-plus (suc k) (x ∷ xs) (y ∷ ys) l = drop-plus k xs ys (omega (arith, l))
 
--- the codewords after one without an error
-keep-sum : (xs e : List ℕ) (k : ℕ) → k < length xs → k < length e → get_or e k 0 ≡ 0 →
-    take k (plus xs e) ++ drop k xs ≡ take (suc k) (plus xs e) ++ drop (suc k) xs
-keep-sum [] e k l m z = absurd (omega arith)
-keep-sum (x ∷ xs) [] k l m z = absurd (omega arith)
-keep-sum (x ∷ xs) (c ∷ e) zero l m z = ap (λ t. t ∷ xs) (sym (ap (bit_xor x) z ∙ xor_zero_r x))
-keep-sum (x ∷ xs) (c ∷ e) (suc k) l m z = ap (λ t. bit_xor x c ∷ t) (keep-sum xs e k (omega arith) (omega arith) z)
-
-pub sum-kept : (xs e items : List ℕ) (k : ℕ) → length e ≡ length xs → k < length xs → get_or e k 0 ≡ 0 →
-    items ≡ take k (plus xs e) ++ drop k xs → items ≡ take (k + 1) (plus xs e) ++ drop (k + 1) xs
-sum-kept xs e items k long l none same = cc (same, keep-sum xs e k l (omega (arith, long, l)) none, suc-eq-add-one k)
-
 -- the codewords after one from which the error is taken
 set-sum : (xs e : List ℕ) (k : ℕ) → k < length xs → k < length e →
-    set (take k (plus xs e) ++ drop k xs) k (bit_xor (get_or xs k 0) (get_or e k 0))
+    set (take k (plus xs e) ++ drop k xs) k (bit_xor (get_or (take k (plus xs e) ++ drop k xs) k 0) (get_or e k 0))
     ≡ take (suc k) (plus xs e) ++ drop (suc k) xs
 set-sum [] e k l m = absurd (omega arith)
 set-sum (x ∷ xs) [] k l m = absurd (omega arith)
@@ -249,75 +226,65 @@ set-sum (x ∷ xs) (c ∷ e) (suc k) l m = ap (λ t. bit_xor x c ∷ t) (set-sum
 
 pub sum-set : (xs e items : List ℕ) (k error : ℕ) → length e ≡ length xs → k < length xs → error ≡ get_or e k 0 →
     items ≡ take k (plus xs e) ++ drop k xs →
-    set items k (bit_xor (get_or xs k 0) error) ≡ take (k + 1) (plus xs e) ++ drop (k + 1) xs
+    set items k (bit_xor (get_or items k 0) error) ≡ take (k + 1) (plus xs e) ++ drop (k + 1) xs
 sum-set xs e items k error long l found same = cc (same, found, set-sum xs e k l (omega (arith, long, l)), suc-eq-add-one k)
 
--- the codewords so far and those after them, if no error is left
-pub sum-rest : (xs e p : List ℕ) (k : ℕ) → length e ≡ length xs → k ≤ length xs → HasLeadingOne p → length p ≡ 1 →
-    IsLocated p (drop k e) → take k (plus xs e) ++ drop k xs ≡ plus xs e
-sum-rest xs e p k long l leading alone located =
-    let one : p ≡ 1 ∷ [] = leading-alone p leading alone in
-    let rest = none-left (drop k xs) (drop k e) (omega (arith, length-drop k xs, length-drop k e, long)) (rw one at located) in
-    cc (rest, drop-plus k xs e (sym long), take-append-drop k (plus xs e))
-
 -- the codewords so far and those after them, without the errors of these
-pub sum-last : (xs e new : List ℕ) (k : ℕ) → length e ≡ length xs → new ≡ take k (plus xs e) ++ plus (drop k xs) (drop k e) →
-    new ≡ plus xs e
-sum-last xs e new k long same = cc (same, drop-plus k xs e (sym long), take-append-drop k (plus xs e))
+pub sum-last : (xs e items new : List ℕ) (k : ℕ) → length e ≡ length xs → k ≤ length xs →
+    items ≡ take k (plus xs e) ++ drop k xs → new ≡ plus (drop k items) (drop k e) → take k items ++ new ≡ plus xs e
+sum-last xs e items new k long l same rest =
+    let count : length (take k (plus xs e)) ≡ k = length-take-le k (plus xs e) (omega (arith, l, long, length-plus xs e (omega (arith, long)))) in
+    let first : take k items ≡ take k (plus xs e) =
+    cc (same, count, take-append_seam (take k (plus xs e)) (drop k xs)) in
+    let last : drop k items ≡ drop k xs = cc (same, count, drop-append_seam (take k (plus xs e)) (drop k xs)) in
+    cc (first, last, rest, drop-plus k xs e (sym long), take-append-drop k (plus xs e))
 
--- ---- groups of sixteen places
+-- ---- the search
 
--- at the places m below `end` in a group, item m % 16 of `values` is 0 only if 2^m is a root of `p`
-abbrev pub ShowRoots : List ℕ → List ℕ → ℕ → ℕ → Type 0
-ShowRoots values p end group = (m : ℕ) → m < end → m / 16 ≡ group → get_or values (m % 16) 0 ≡ 0 → eval (power m) p ≡ 0
+-- the values that are computed, by location
+pub values-at : (values p : List ℕ) (first m : ℕ) →
+    ((k : ℕ) → k < 16 → get_or values k 0 ≡ eval (power (first + k)) p) → first ≤ m → m < first + 16 →
+    get_or values (m - first) 0 ≡ eval (power m) p
+values-at values p first m h least most =
+    let whole : first + (m - first) ≡ m = omega (arith, least) in
+    h (m - first) (omega (arith, most)) ∙ ap (λ t. eval (power t) p) whole
 
--- at the places m below `end` in a group, item m % 16 of `values` is not 0 only if there is no error
-abbrev pub ShowErrors : List ℕ → List ℕ → ℕ → ℕ → Type 0
-ShowErrors values e end group =
-    (m : ℕ) → m < end → m / 16 ≡ group → (get_or values (m % 16) 0 ≡ 0 → ⊥) → coefficient m e ≡ 0
+-- the search after a codeword without an error
+pub removal-next : (left : ℕ) (r : Removal) → IsRemoval (left + 1) r → IsRemoval left r
+removal-next left r h = record {
+  leading = h.leading;
+  enough = h.enough;
+  near = omega (arith, h.near);
+  roots = λ m least l. h.roots m least (omega (arith, l));
+}
 
--- the place in a group
-group-place : (place m : ℕ) → m / 16 ≡ place / 16 → place - place % 16 + m % 16 ≡ m
-group-place place m g = omega (arith, g)
+-- the next codeword has no error, if a value shows it
+pub next-none : (left c : ℕ) (e : List ℕ) (r : Removal) → AreLeft (left + 1) (c ∷ e) r → r.first ≤ left →
+    (get_or r.values (left - r.first) 0 ≡ 0 → ⊥) → c ≡ 0
+next-none left c e r h least some =
+    sym (coefficient-head left c e (omega (arith, h.errors.count))) ∙ h.none left least (omega arith) some
 
--- values of the locator show its roots
-pub roots-shown : (values p : List ℕ) (place end : ℕ) →
-    ((i : ℕ) → i < 16 → get_or values i 0 ≡ eval (power (place - place % 16 + i)) p) →
-    ShowRoots values p end (place / 16)
-roots-shown values p place end h m l g z =
-    ap (λ t. eval (power t) p) (sym (group-place place m g)) ∙ (sym (h (m % 16) (omega arith)) ∙ z)
+-- where there is no error later
+pub none-later : (left c : ℕ) (e : List ℕ) (r : Removal) → AreLeft (left + 1) (c ∷ e) r → (m : ℕ) → r.first ≤ m → m < left →
+    (get_or r.values (m - r.first) 0 ≡ 0 → ⊥) → coefficient m e ≡ 0
+none-later left c e r h m least l some =
+    sym (coefficient-tail m c e (λ s. omega (arith, s, l, h.errors.count))) ∙ h.none m least (omega (arith, l)) some
 
--- and where there is no error
-pub errors-shown : (values p e : List ℕ) (place end : ℕ) →
-    ((i : ℕ) → i < 16 → get_or values i 0 ≡ eval (power (place - place % 16 + i)) p) → length e ≡ end →
-    IsLocated p e → ShowErrors values e end (place / 16)
-errors-shown values p e place end h long located m l g n =
-    located.roots m (omega (arith, l, long))
-    (λ z. n (h (m % 16) (omega arith) ∙ (ap (λ t. eval (power t) p) (group-place place m g) ∙ z)))
-
--- the roots at lower places
-pub roots-below : (values p : List ℕ) (place end next : ℕ) → end ≡ place + 1 → next ≡ place →
-    ShowRoots values p end (place / 16) → ShowRoots values p next (next / 16)
-roots-below values p place end next e n h m l g z = h m (omega (arith, l, e, n)) (g ∙ ap (λ t. t / 16) n) z
+-- the errors that are left after a codeword without an error
+pub left-next : (left c : ℕ) (e : List ℕ) (r : Removal) → AreLeft (left + 1) (c ∷ e) r → c ≡ 0 → AreLeft left e r
+left-next left c e r h none = record {
+  errors = record {
+    count = omega (arith, h.errors.count);
+    located = located-rest r.locator.items e c h.errors.located;
+    values = values-same r.syndromes.items e (rw none at h.errors.values);
+  };
+  none = none-later left c e r h;
+}
 
 -- the roots that are left after a division
-pub roots-left : (values p q : List ℕ) (place end next : ℕ) → end ≡ place + 1 → next ≡ place → place < 255 →
-    ((y : ℕ) → y < 256 → (y ≡ power place → ⊥) → eval y p ≡ 0 → eval y q ≡ 0) →
-    ShowRoots values p end (place / 16) → ShowRoots values q next (next / 16)
-roots-left values p q place end next e n small others h m l g z =
-    others (power m) (power-lt m)
-    (λ s. omega (arith, l, n, powers-apart m place (omega (arith, l, n, small)) small s))
-    (h m (omega (arith, l, e, n)) (g ∙ ap (λ t. t / 16) n) z)
-
--- the errors after the first
-pub errors-below : (values e : List ℕ) (c place end next : ℕ) → end ≡ place + 1 → next ≡ place → length e ≡ place →
-    ShowErrors values (c ∷ e) end (place / 16) → ShowErrors values e next (next / 16)
-errors-below values e c place end next f n long h m l g some =
-    sym (coefficient-tail m c e (λ s. omega (arith, s, l, n, long)))
-    ∙ h m (omega (arith, l, f, n)) (g ∙ ap (λ t. t / 16) n) some
-
--- the first error, if it is shown that there is none
-pub errors-none : (values e : List ℕ) (c place end : ℕ) → end ≡ place + 1 → length e ≡ place →
-    ShowErrors values (c ∷ e) end (place / 16) → (get_or values (place % 16) 0 ≡ 0 → ⊥) → c ≡ 0
-errors-none values e c place end f long h n =
-    sym (coefficient-head place c e (sym long)) ∙ h place (omega (arith, f)) refl n
+pub roots-left : (left : ℕ) (r : Removal) (q : List ℕ) → left < 255 → IsRemoval (left + 1) r →
+    ((y : ℕ) → y < 256 → (y ≡ power left → ⊥) → eval y r.locator.items ≡ 0 → eval y q ≡ 0) → (m : ℕ) →
+    r.first ≤ m → m < left → get_or r.values (m - r.first) 0 ≡ 0 → eval (power m) q ≡ 0
+roots-left left r q small h others m least l z =
+    others (power m) (power-lt m) (λ s. omega (arith, l, powers-apart m left (omega (arith, l, small)) small s))
+    (h.roots m least (omega (arith, l)) z)
