@@ -2,7 +2,7 @@
 //! codewords are first taken out of the syndromes, so that the locator has to find only the misread codewords.
 //!
 //! The erasure locator is a polynomial with a root for each erased codeword, and the error locator one with a root for
-//! each misread codeword. The root of a codeword is 2^m, where m is the number of codewords after it in the block.
+//! each misread codeword. The root of a codeword is 2^location.
 
 ghost use Rattle.std.specs.Prelude.{◌≡◌, ℕ, ◌+◌, ◌≤◌, List, length, IfSome, IfNone};
 ghost use Rattle.std.specs.List.{All, count_by};

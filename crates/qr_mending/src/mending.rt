@@ -85,7 +85,9 @@ fn is_same_format(a: Option<(Level, u8)>, b: Option<(Level, u8)>) -> bool
     ensures { OnTrue result (a ≡ b) }
 {
     match (a, b) {
-        (Some((level, mask)), Some((other, number))) => level == other && mask == number,
+        (Some((level, mask)), Some((other_level, other_mask))) => {
+            level == other_level && mask == other_mask
+        }
         (None, None) => true,
         _ => false,
     }

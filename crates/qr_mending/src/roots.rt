@@ -1,5 +1,5 @@
-//! Polynomials with a root for each erased codeword of a block: 2^m for a codeword that has m codewords after it.
-//! Coefficients begin with that of the lowest power.
+//! Polynomials with the root 2^location for each erased codeword of a block. Coefficients begin with that of the lowest
+//! power.
 
 ghost use Rattle.std.specs.Prelude.{◌≡◌, ◌+◌, ◌<◌, ◌≤◌, length};
 ghost use Rattle.std.specs.List.{All, count_by};
@@ -13,7 +13,7 @@ use qr_field::{mul, power_of};
 pub(crate) fn count_erased(erased: &[bool]) -> usize
     ensures { result ≡ count_by (λ e. e) erased.now }
 {
-    erased.iter().filter(|place| **place).count()
+    erased.iter().filter(|is_erased| **is_erased).count()
 }
 
 // The product of `polynomial` and x + `root`.
@@ -31,8 +31,8 @@ fn with_root(polynomial: &[u8], root: u8) -> ArrayVec<u8, 31>
     product
 }
 
-// The product of `polynomial` and a factor x + 2^m for each erased codeword that has m codewords after it. The loop
-// runs backward for the prover. The list has room for `polynomial`, so `try_extend_from_slice` cannot fail.
+// The product of `polynomial` and a factor x + 2^location for each erased codeword. The loop runs backward for the
+// prover. The list has room for `polynomial`, so `try_extend_from_slice` cannot fail.
 #[tactic(auto, using(crate::proofs::Named::root_facts))]
 pub(crate) fn with_roots(erased: &[bool], polynomial: &[u8]) -> ArrayVec<u8, 31>
     requires small { length erased.now ≤ 255 }
@@ -45,8 +45,8 @@ pub(crate) fn with_roots(erased: &[bool], polynomial: &[u8]) -> ArrayVec<u8, 31>
     let _ = product.try_extend_from_slice(polynomial);
     for i in (0..erased.len()).rev() {
         if erased[i] {
-            let place = (erased.len() - 1 - i) as u8;
-            product = with_root(product.as_slice(), power_of(place));
+            let location = (erased.len() - 1 - i) as u8;
+            product = with_root(product.as_slice(), power_of(location));
         }
     }
     product

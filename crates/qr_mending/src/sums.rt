@@ -198,14 +198,14 @@ fn times_power(element: u8, i: u8, j: u8) -> u8
     power_of((exponent % 255) as u8)
 }
 
-// The products of `digit` and 2 to the powers 0, `place`, 2 * `place` and so on up to 15 * `place`, one in each byte,
+// The products of `digit` and 2 to the powers 0, `step`, 2 * `step` and so on up to 15 * `step`, one in each byte,
 // the first in the lowest byte.
-fn multiples(place: u8, digit: u8) -> u128
-    requires place { place < 31 }
+fn multiples(step: u8, digit: u8) -> u128
+    requires step { step < 31 }
     requires digit { digit < 4 }
-    ensures { (k : ℕ) → k < 16 → byte_at k result ≡ product digit (power (k * place)) }
+    ensures { (k : ℕ) → k < 16 → byte_at k result ≡ product digit (power (k * step)) }
 {
-    MULTIPLES[4 * usize::from(place) + usize::from(digit)]
+    MULTIPLES[4 * usize::from(step) + usize::from(digit)]
 }
 
 // Multiplies each of sixteen elements by 4.
@@ -234,15 +234,15 @@ impl Sums {
         sixty_fours: 0,
     };
 
-    // Adds to sum k, for each k from 0 to 15, the product of `factor` and 2 to the power k * `place`.
-    fn add(&mut self, factor: u8, place: u8)
-        requires { place < 31 }
-        ensures { (k : ℕ) → k < 16 → sum_at k self.new ≡ bit_xor (sum_at k self.old) (product factor (power (k * place))) }
+    // Adds to sum k, for each k from 0 to 15, the product of `factor` and 2 to the power k * `step`.
+    fn add(&mut self, factor: u8, step: u8)
+        requires { step < 31 }
+        ensures { (k : ℕ) → k < 16 → sum_at k self.new ≡ bit_xor (sum_at k self.old) (product factor (power (k * step))) }
     {
-        self.ones ^= multiples(place, factor & 3);
-        self.fours ^= multiples(place, factor >> 2 & 3);
-        self.sixteens ^= multiples(place, factor >> 4 & 3);
-        self.sixty_fours ^= multiples(place, factor >> 6);
+        self.ones ^= multiples(step, factor & 3);
+        self.fours ^= multiples(step, factor >> 2 & 3);
+        self.sixteens ^= multiples(step, factor >> 4 & 3);
+        self.sixty_fours ^= multiples(step, factor >> 6);
     }
 
     fn values(self) -> [u8; 16]
@@ -262,8 +262,8 @@ pub(crate) fn sixteen_values(terms: &[u8], first: u8) -> [u8; 16]
 {
     let mut sums = Sums::NONE;
     for j in (0..terms.len()).rev() {
-        let place = j as u8;
-        sums.add(times_power(terms[j], first, place), place);
+        let exponent = j as u8;
+        sums.add(times_power(terms[j], first, exponent), exponent);
     }
     sums.values()
 }
@@ -276,8 +276,8 @@ fn sixteen_syndromes(remainder: &[u8], first: u8) -> [u8; 16]
 {
     let mut sums = Sums::NONE;
     for j in (0..remainder.len()).rev() {
-        let place = (remainder.len() - 1 - j) as u8;
-        sums.add(times_power(remainder[j], first, place), place);
+        let exponent = (remainder.len() - 1 - j) as u8;
+        sums.add(times_power(remainder[j], first, exponent), exponent);
     }
     sums.values()
 }

@@ -144,9 +144,9 @@ one-error (x ∷ xs) (c ∷ e) p l within le h = elim (cases_eq (length e) p) [
   | inl s ↦
       let rest = no-errors xs e (omega (arith, l)) (λ m n.
       sym (coefficient-tail m c e (λ t. omega (arith, t, n))) ∙ h m (omega (arith, n)) (λ t. omega (arith, t, n, s))) in
-      let place : 0 * length e ≡ 0 = omega arith in
+      let exponent : 0 * length e ≡ 0 = omega arith in
       let value : value_at 0 (c ∷ e) ≡ c =
-      cc (place, product-by_one c (All-head IsByte c e le), rest.1, xor_zero_r c) in
+      cc (exponent, product-by_one c (All-head IsByte c e le), rest.1, xor_zero_r c) in
       first-sum x (value_at 0 (c ∷ e)) (length (x ∷ xs) - 1 - p) xs (omega (arith, s, l)) ∙ cc (value, rest.0)
   | inr o ↦
       let none : c ≡ 0 = sym (coefficient-head (length e) c e refl) ∙ h (length e) (omega arith) o in

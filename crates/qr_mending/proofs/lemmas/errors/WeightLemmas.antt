@@ -48,10 +48,10 @@ weight-nothing (c ∷ e) a =
     omega (arith, none, weight-nothing e (All-tail IsByte c e a))
 
 -- a polynomial with one coefficient more
-step-terms : (a c x z place v w : ℕ) → a < 256 → c < 256 → x < 256 → z < 256 → place < 256 → v < 256 →
-    bit_xor (product (product c (bit_xor a (product x z))) place) (bit_xor (product a v) w)
-    ≡ bit_xor (product a (bit_xor (product c place) v)) (bit_xor (product (product c z) (product x place)) w)
-step-terms a c x z place v w la lc lx lz lp lv = simp field_laws
+step-terms : (a c x z y v w : ℕ) → a < 256 → c < 256 → x < 256 → z < 256 → y < 256 → v < 256 →
+    bit_xor (product (product c (bit_xor a (product x z))) y) (bit_xor (product a v) w)
+    ≡ bit_xor (product a (bit_xor (product c y) v)) (bit_xor (product (product c z) (product x y)) w)
+step-terms a c x z y v w la lc lx lz lp lv = simp field_laws
 
 -- the value at 2^i of the errors that `a ∷ p` has multiplied: `a` times the value of the errors, plus the value at 2^(i
 -- + 1) of the errors that `p` has multiplied

@@ -54,7 +54,7 @@ add-begins f zero p t lf l = refl
 add-begins f (suc a) p [] lf l = absurd (omega arith)
 add-begins f (suc a) p (x ∷ t) lf l = cc (product-by_zero f lf, xor_zero_l x, add-begins f a p t lf (omega arith))
 
--- the coefficients of the multiple at their places
+-- the coefficients of the multiple at their indices
 first-multiples : (a k : ℕ) (p : List ℕ) → take (a + k) (zeros a ++ p) ≡ zeros a ++ take k p
 first-multiples a k p =
     ap (λ n. take (n + k) (zeros a ++ p)) (sym (length-replicate {A = ℕ} a 0)) ∙ take-append-add (zeros a) p k
@@ -131,11 +131,11 @@ shift-more a k v p now l m same value =
 pub shift-leading : (a d e : ℕ) (p q : List ℕ) → e ≡ d + a → take (a + (d + 1)) q ≡ zeros a ++ take (d + 1) p →
     get_or p d 0 ≡ 1 → get_or q e 0 ≡ 1
 shift-leading a d e p q exponent same one =
-    let place : e ≡ length (zeros a) + d = omega (arith, length-replicate {A = ℕ} a 0, exponent) in
+    let index : e ≡ length (zeros a) + d = omega (arith, length-replicate {A = ℕ} a 0, exponent) in
     cc (
       get_or-take (a + (d + 1)) q e 0 (omega (arith, exponent)),
       same,
-      place,
+      index,
       get_or-append-add (zeros a) (take (d + 1) p) d 0,
       get_or-take (d + 1) p d 0 (omega arith),
       one,
@@ -199,8 +199,8 @@ solved-next i l m a b f d search r s lf ls h same up low high short sum discrepa
           cc (start, before, solved, product-by_zero f lf, xor_zero_l 0)
       | inr k ↦
           let last = h.last (a + j) (omega (arith, k, g, low, same)) in
-          let place : b + j ≡ i - l = omega (arith, k, g, high) in
-          cc (start, last, place, discrepancy, factor, xor_self d)
+          let index : b + j ≡ i - l = omega (arith, k, g, high) in
+          cc (start, last, index, discrepancy, factor, xor_self d)
     ]
 
 -- the next polynomial

@@ -162,12 +162,12 @@ digits-none k = ap (λ t. of_digits t t t t) (byte-none k)
 -- ---- powers
 
 -- an element times a power, and then another power with the same step
-pub powers-joined : (c first k place : ℕ) → c < 256 →
-    product (product c (power (first * place))) (power (k * place)) ≡ product c (power ((first + k) * place))
-powers-joined c first k place l =
-    let exponent : (first + k) * place ≡ first * place + k * place = omega arith in
+pub powers-joined : (c first k step : ℕ) → c < 256 →
+    product (product c (power (first * step))) (power (k * step)) ≡ product c (power ((first + k) * step))
+powers-joined c first k step l =
+    let exponent : (first + k) * step ≡ first * step + k * step = omega arith in
     cc (
       exponent,
-      power-add (first * place) (k * place),
-      product-assoc c (power (first * place)) (power (k * place)) l (power-lt (first * place)) (power-lt (k * place)),
+      power-add (first * step) (k * step),
+      product-assoc c (power (first * step)) (power (k * step)) l (power-lt (first * step)) (power-lt (k * step)),
     )

@@ -131,8 +131,8 @@ values-none s e h = record { each = λ k l. absurd (omega (arith, l, ap length h
 -- no terms of the whole polynomial
 pub eval-start : (m k : ℕ) (p : List ℕ) → length p ≤ k → 0 ≡ product (power (m * k)) (eval (power m) (drop k p))
 eval-start m k p l =
-    let place = power (m * k) in
-    sym (ap (λ t. product place (eval (power m) t)) (drop_all k p l) ∙ product-by_zero place (power-lt (m * k)))
+    let value = power (m * k) in
+    sym (ap (λ t. product value (eval (power m) t)) (drop_all k p l) ∙ product-by_zero value (power-lt (m * k)))
 
 -- the value at 2 to the power m of the coefficients from index k - 1 on, as terms of the whole polynomial
 pub eval-more : (m k : ℕ) (p : List ℕ) → All IsByte p → 0 < k → k ≤ length p →

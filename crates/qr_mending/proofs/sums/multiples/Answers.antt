@@ -3,4 +3,4 @@ use Rattle.qr_mending.proofs.sums.multiples.Goals as goal
 
 pub returns : goal.returns
 returns c = λ k l.
-    rw (c.from.ensures, c.from-2.ensures) (table-at c.args.place c.args.digit k c.requires.place c.requires.digit l)
+    rw (c.from.ensures, c.from-2.ensures) (table-at c.args.step c.args.digit k c.requires.step c.requires.digit l)

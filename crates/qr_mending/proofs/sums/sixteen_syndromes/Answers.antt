@@ -14,17 +14,17 @@ loop-j-preserved c = λ i l.
     let r = c.args.remainder.now in
     let j = c.loop-j.j in
     let at = c.args.first + i in
-    let place = length r - j in
+    let exponent = length r - j in
     let x = get_or r (j - 1) 0 in
-    let is : length r - 1 - (j - 1) ≡ place = omega arith in
+    let is : length r - 1 - (j - 1) ≡ exponent = omega arith in
     cc (
       c.add.ensures i l,
       c.times_power.ensures,
       is,
-      powers-joined x c.args.first i place (omega (arith, c.type_inv.remainder (j - 1))),
+      powers-joined x c.args.first i exponent (omega (arith, c.type_inv.remainder (j - 1))),
       c.loop-j.invariant i l,
       value-more at j r (omega arith) (omega arith),
-      xor_comm (value_at at (drop j r)) (product x (power (at * place))),
+      xor_comm (value_at at (drop j r)) (product x (power (at * exponent))),
     )
 
 pub returns : goal.returns

@@ -60,6 +60,6 @@ returns-clause-search c =
       room = omega (arith, h.room, degree);
       before = λ j g. h.best.solved j (omega (arith, g, degree));
       last = λ j g.
-          let place : j ≡ i - l = omega (arith, g, degree) in
-          ap (λ k. discrepancy_of c.args.self.now.best (drop k s)) place ∙ sym discrepancy;
+          let index : j ≡ i - l = omega (arith, g, degree) in
+          ap (λ k. discrepancy_of c.args.self.now.best (drop k s)) index ∙ sym discrepancy;
     }
