@@ -56,29 +56,38 @@ impl HasSquare for Symbol {
     }
 }
 
-// The width of the raster in modules, which is also its height.
-pub(crate) fn raster_width(matrix: &Matrix, margin: u8) -> u16
-    ensures value { result ≡ raster_width margin matrix.now }
-    ensures most { result < 1000 }
-{
-    2 * u16::from(margin) + u16::from(matrix.side())
+// A square, and the width of the light margin around it in modules.
+#[derive(Drop)]
+pub(crate) struct Raster<'a> {
+    pub(crate) matrix: &'a Matrix,
+    pub(crate) margin: u8,
 }
 
-// Says whether the module in row `y` and column `x` of the raster is dark. Every place outside the square is light,
-// also those outside the raster.
-#[tactic(auto, unfolding(crate::specs::Raster::is_dark_at))]
-pub(crate) fn is_dark_at(matrix: &Matrix, margin: u8, y: u16, x: u16) -> bool
-    ensures { result ≡ is_dark_at margin matrix.now y x }
-{
-    let first = u16::from(margin);
-    let end = first + u16::from(matrix.side());
-    if y < first || y >= end {
-        return false;
+impl Raster<'_> {
+    // The width of the raster in modules, which is also its height.
+    pub(crate) fn width(&self) -> u16
+        ensures value { result ≡ raster_width self.now.margin self.now.matrix.now }
+        ensures most { result < 1000 }
+    {
+        2 * u16::from(self.margin) + u16::from(self.matrix.side())
     }
-    if x < first || x >= end {
-        return false;
+
+    // Says whether the module in row `y` and column `x` of the raster is dark. Every place outside the square is light,
+    // also those outside the raster.
+    #[tactic(auto, unfolding(crate::specs::Raster::is_dark_at))]
+    pub(crate) fn is_dark_at(&self, y: u16, x: u16) -> bool
+        ensures { result ≡ is_dark_at self.now.margin self.now.matrix.now y x }
+    {
+        let first = u16::from(self.margin);
+        let end = first + u16::from(self.matrix.side());
+        if y < first || y >= end {
+            return false;
+        }
+        if x < first || x >= end {
+            return false;
+        }
+        self.matrix.dark((y - first) as u8, (x - first) as u8)
     }
-    matrix.dark((y - first) as u8, (x - first) as u8)
 }
 
 // Writes the drawing through `pen`, which may still contain its last bytes afterwards.

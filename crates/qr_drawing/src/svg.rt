@@ -9,12 +9,11 @@ ghost use Rattle.qr_drawing.specs.Steps.Pen.{Puts};
 ghost use Rattle.qr_drawing.specs.Steps.Svg.{head, tail, width_path};
 ghost use Rattle.qr_drawing.specs.Svg.{background, box_path, numbered, opening, row_path, stack_path, svg_document, symbol_path};
 
-use crate::drawing::{HasSquare, raster_width};
+use crate::drawing::{HasSquare, Raster};
 use crate::pen::{DrawFault, Pen};
 use crate::piece::Piece;
 use itoa::Buffer;
 use qr_devices::Sink;
-use qr_symbol::Matrix;
 
 // The room that is made for a box. A box has at most 22 bytes. The room stays 32, because it decides which bytes are in
 // one write (`sizes_of_single_writes` in `command_tests`).
@@ -241,19 +240,18 @@ fn put_row<W: Sink>(
     pen: &mut Pen,
     out: &mut W,
     top: u16,
-    margin: u8,
-    matrix: &Matrix,
+    raster: &Raster,
     row: u8,
 ) -> Result<(), DrawFault>
-    requires row_in { row < matrix.now.side }
+    requires row_in { row < raster.now.matrix.now.side }
     requires top { top ≤ 16 * 1000 }
     ensures { Puts (W.device out.old) (W.device out.new)
-        pen.old pen.new (row_path top margin matrix.now (margin + row)) result }
+        pen.old pen.new (row_path top raster.now.margin raster.now.matrix.now (raster.now.margin + row)) result }
 {
-    let left = u16::from(margin);
+    let left = u16::from(raster.margin);
     let y = top + left + u16::from(row);
     let row_text = text_of_row(y);
-    for run in matrix.dark_runs(row) {
+    for run in raster.matrix.dark_runs(row) {
         pen.reserve(out, BOX_MAX)?;
         push_box(
             &mut pen.piece,
@@ -269,15 +267,14 @@ fn put_symbol<W: Sink>(
     pen: &mut Pen,
     out: &mut W,
     top: u16,
-    margin: u8,
-    matrix: &Matrix,
+    raster: &Raster,
 ) -> Result<(), DrawFault>
     requires { top ≤ 16 * 1000 }
     ensures { Puts (W.device out.old) (W.device out.new)
-        pen.old pen.new (symbol_path top margin matrix.now) result }
+        pen.old pen.new (symbol_path top raster.now.margin raster.now.matrix.now) result }
 {
-    for row in 0..matrix.side() {
-        put_row(pen, out, top, margin, matrix, row)?;
+    for row in 0..raster.matrix.side() {
+        put_row(pen, out, top, raster, row)?;
     }
     Ok(())
 }
@@ -296,9 +293,12 @@ fn put_stack<S: HasSquare, W: Sink>(
 {
     let mut top = 0;
     for symbol in symbols {
-        let square = symbol.square();
-        put_symbol(pen, out, top, margin, square)?;
-        top += raster_width(square, margin);
+        let raster = Raster {
+            matrix: symbol.square(),
+            margin,
+        };
+        put_symbol(pen, out, top, &raster)?;
+        top += raster.width();
     }
     Ok(())
 }
@@ -315,7 +315,11 @@ pub(crate) fn put_document<S: HasSquare, W: Sink>(
     ensures { Puts (W.device out.old) (W.device out.new)
         pen.old pen.new (svg_document margin (map S.grid symbols.now)) result }
 {
-    let width = raster_width(symbols[0].square(), margin);
+    let first = Raster {
+        matrix: symbols[0].square(),
+        margin,
+    };
+    let width = first.width();
     let height = width * symbols.len() as u16;
     pen.reserve(out, HEAD_MAX)?;
     push_head(&mut pen.piece, width, height);

@@ -17,7 +17,7 @@ ghost use Rattle.qr_drawing.specs.Steps.Text.{AreDark, ShowsRow, bits_text, cell
 ghost use Rattle.qr_drawing.specs.Steps.Pen.{Puts};
 ghost use Rattle.qr_drawing.specs.declared.text.TextStyle.TheVariants.{HalfBlocks, Plain};
 
-use crate::drawing::{HasSquare, is_dark_at, raster_width};
+use crate::drawing::{HasSquare, Raster};
 use crate::pen::{DrawFault, Pen};
 use crate::piece::Piece;
 use qr_devices::Sink;
@@ -110,16 +110,16 @@ fn push_cell(text: &mut Piece<1208>, style: TextStyle, upper: bool, lower: bool)
     }
 }
 
-// Returns the row of `matrix` that row `row` of the raster shows, or `None` in the margin and below the raster.
+// Returns the row of the square that row `row` of the raster shows, or `None` in the margin and below the raster.
 #[tactic(auto, using(crate::proofs::lemmas::svg::PathLemmas::is_dark_at_above, crate::proofs::lemmas::svg::PathLemmas::is_dark_at_below))]
-fn square_row(matrix: &Matrix, margin: u8, row: u16) -> Option<u8>
-    ensures { ShowsRow margin matrix.now row result }
+fn square_row(raster: &Raster, row: u16) -> Option<u8>
+    ensures { ShowsRow raster.now.margin raster.now.matrix.now row result }
 {
-    let first = u16::from(margin);
+    let first = u16::from(raster.margin);
     if row < first {
         return None;
     }
-    if row >= first + u16::from(matrix.side()) {
+    if row >= first + u16::from(raster.matrix.side()) {
         return None;
     }
     Some((row - first) as u8)
@@ -280,8 +280,7 @@ fn push_light(text: &mut Piece<1208>, style: TextStyle, count: u16)
 fn push_cells(
     text: &mut Piece<1208>,
     style: TextStyle,
-    matrix: &Matrix,
-    margin: u8,
+    raster: &Raster,
     row: u16,
     first: u16,
     count: u16,
@@ -289,13 +288,14 @@ fn push_cells(
     requires row_in { row < 2000 }
     requires first_in { first < 1000 }
     requires room { length text.old + count * cell_room style ≤ 1200 }
-    ensures items { text.new ≡ text.old ++ texts_below count (λ i. cell_at style margin matrix.now row (first + i)) }
+    ensures items { text.new
+        ≡ text.old ++ texts_below count (λ i. cell_at style raster.now.margin raster.now.matrix.now row (first + i)) }
     ensures len { length text.new ≤ length text.old + count * cell_room style }
 {
     for done in 0..count {
         let x = first + done;
-        let upper = is_dark_at(matrix, margin, row, x);
-        let lower = is_dark_at(matrix, margin, row + 1, x);
+        let upper = raster.is_dark_at(row, x);
+        let lower = raster.is_dark_at(row + 1, x);
         push_cell(text, style, upper, lower);
     }
 }
@@ -304,47 +304,47 @@ fn push_cells(
 // four are left. It leaves out the columns that then remain. They are fewer than four; in a symbol it is one column.
 // The label of the loop is for the prover.
 #[inline(always)]
-fn push_columns(text: &mut Piece<1208>, style: TextStyle, matrix: &Matrix, margin: u8, row: u16)
+fn push_columns(text: &mut Piece<1208>, style: TextStyle, raster: &Raster, row: u16)
     requires row_in { row < 2000 }
-    requires room { length text.old + matrix.now.side * cell_room style ≤ 1200 }
-    ensures { text.new
-        ≡ text.old ++ texts_below (matrix.now.side / 4 * 4) (λ i. cell_at style margin matrix.now row (margin + i)) }
+    requires room { length text.old + raster.now.matrix.now.side * cell_room style ≤ 1200 }
+    ensures { text.new ≡ text.old ++ texts_below (raster.now.matrix.now.side / 4 * 4)
+        (λ i. cell_at style raster.now.margin raster.now.matrix.now row (raster.now.margin + i)) }
 {
-    let upper_row = square_row(matrix, margin, row);
-    let lower_row = square_row(matrix, margin, row + 1);
-    let end = matrix.side() / 4 * 4;
+    let upper_row = square_row(raster, row);
+    let lower_row = square_row(raster, row + 1);
+    let end = raster.matrix.side() / 4 * 4;
     let mut col = 0;
     'eights: while end - col >= 8 {
-        let upper = dark_bits(matrix, upper_row, col);
-        let lower = dark_bits(matrix, lower_row, col);
+        let upper = dark_bits(raster.matrix, upper_row, col);
+        let lower = dark_bits(raster.matrix, lower_row, col);
         push_eight(text, style, upper, lower);
         col += 8;
     }
     if col < end {
-        let upper = dark_bits(matrix, upper_row, col);
-        let lower = dark_bits(matrix, lower_row, col);
+        let upper = dark_bits(raster.matrix, upper_row, col);
+        let lower = dark_bits(raster.matrix, lower_row, col);
         push_quad(text, style, upper, lower);
     }
 }
 
 // Appends the cells of the columns that `push_columns` leaves out, and then the right margin and the newline.
 #[inline(always)]
-fn push_rest(text: &mut Piece<1208>, style: TextStyle, matrix: &Matrix, margin: u8, row: u16)
+fn push_rest(text: &mut Piece<1208>, style: TextStyle, raster: &Raster, row: u16)
     requires row_in { row < 2000 }
-    requires room { length text.old + (matrix.now.side % 4 * cell_room style + margin * cell_room style + 1) ≤ 1200 }
-    ensures { text.new ≡ text.old
-        ++ (texts_below (matrix.now.side % 4) (λ i. cell_at style margin matrix.now row (margin + matrix.now.side / 4 * 4 + i))
-        ++ (texts_below margin (λ _. cell_text style false false) ++ 10 ∷ [])) }
+    requires room { length text.old
+        + (raster.now.matrix.now.side % 4 * cell_room style + raster.now.margin * cell_room style + 1) ≤ 1200 }
+    ensures { text.new ≡ text.old ++ (texts_below (raster.now.matrix.now.side % 4)
+        (λ i. cell_at style raster.now.margin raster.now.matrix.now row (raster.now.margin + raster.now.matrix.now.side / 4 * 4 + i))
+        ++ (texts_below raster.now.margin (λ _. cell_text style false false) ++ 10 ∷ [])) }
 {
-    let first = u16::from(margin);
-    let last = u16::from(matrix.side() % 4);
+    let first = u16::from(raster.margin);
+    let last = u16::from(raster.matrix.side() % 4);
     push_cells(
         text,
         style,
-        matrix,
-        margin,
+        raster,
         row,
-        first + u16::from(matrix.side() / 4 * 4),
+        first + u16::from(raster.matrix.side() / 4 * 4),
         last,
     );
     push_light(text, style, first);
@@ -358,23 +358,22 @@ fn put_line<W: Sink>(
     pen: &mut Pen,
     out: &mut W,
     style: TextStyle,
-    matrix: &Matrix,
-    margin: u8,
+    raster: &Raster,
     y: u16,
 ) -> Result<(), DrawFault>
     requires { y < 1000 }
     ensures { Puts (W.device out.old) (W.device out.new)
-        pen.old pen.new (cells_of_line style margin matrix.now y ++ 10 ∷ []) result }
+        pen.old pen.new (cells_of_line style raster.now.margin raster.now.matrix.now y ++ 10 ∷ []) result }
 {
     let row = top_row(style, y);
-    let first = u16::from(margin);
-    let last = u16::from(matrix.side() % 4);
+    let first = u16::from(raster.margin);
+    let last = u16::from(raster.matrix.side() % 4);
     pen.reserve(out, cells_room(style, first))?;
     push_light(&mut pen.piece, style, first);
-    pen.reserve(out, cells_room(style, u16::from(matrix.side())))?;
-    push_columns(&mut pen.piece, style, matrix, margin, row);
+    pen.reserve(out, cells_room(style, u16::from(raster.matrix.side())))?;
+    push_columns(&mut pen.piece, style, raster, row);
     pen.reserve(out, cells_room(style, last + first) + 1)?;
-    push_rest(&mut pen.piece, style, matrix, margin, row);
+    push_rest(&mut pen.piece, style, raster, row);
     Ok(())
 }
 
@@ -383,16 +382,15 @@ fn put_lines<W: Sink>(
     pen: &mut Pen,
     out: &mut W,
     style: TextStyle,
-    matrix: &Matrix,
-    margin: u8,
+    raster: &Raster,
 ) -> Result<(), DrawFault>
     ensures { Puts (W.device out.old) (W.device out.new)
-        pen.old pen.new (text_drawing style margin matrix.now) result }
+        pen.old pen.new (text_drawing style raster.now.margin raster.now.matrix.now) result }
 {
     match style {
-        TextStyle::Plain => put_lines_of(pen, out, TextStyle::Plain, matrix, margin),
-        TextStyle::Inverse => put_lines_of(pen, out, TextStyle::Inverse, matrix, margin),
-        TextStyle::HalfBlocks => put_lines_of(pen, out, TextStyle::HalfBlocks, matrix, margin),
+        TextStyle::Plain => put_lines_of(pen, out, TextStyle::Plain, raster),
+        TextStyle::Inverse => put_lines_of(pen, out, TextStyle::Inverse, raster),
+        TextStyle::HalfBlocks => put_lines_of(pen, out, TextStyle::HalfBlocks, raster),
     }
 }
 
@@ -403,14 +401,13 @@ fn put_lines_of<W: Sink>(
     pen: &mut Pen,
     out: &mut W,
     style: TextStyle,
-    matrix: &Matrix,
-    margin: u8,
+    raster: &Raster,
 ) -> Result<(), DrawFault>
     ensures { Puts (W.device out.old) (W.device out.new)
-        pen.old pen.new (text_drawing style margin matrix.now) result }
+        pen.old pen.new (text_drawing style raster.now.margin raster.now.matrix.now) result }
 {
-    for y in 0..line_count(style, raster_width(matrix, margin)) {
-        put_line(pen, out, style, matrix, margin, y)?;
+    for y in 0..line_count(style, raster.width()) {
+        put_line(pen, out, style, raster, y)?;
     }
     Ok(())
 }
@@ -427,7 +424,11 @@ pub(crate) fn put_texts<S: HasSquare, W: Sink>(
         pen.old pen.new (flat_map (text_drawing style margin) (map S.grid symbols.now)) result }
 {
     for symbol in symbols {
-        put_lines(pen, out, style, symbol.square(), margin)?;
+        let raster = Raster {
+            matrix: symbol.square(),
+            margin,
+        };
+        put_lines(pen, out, style, &raster)?;
     }
     Ok(())
 }

@@ -10,8 +10,8 @@ pub returns-in_err-put_stack : goal.returns-in_err-put_stack
 returns-in_err-put_stack g c =
     let p = err_from_is_err_and c.from_residual-in_err-put_stack.result c.from_residual-in_err-put_stack.ensures.1 in
     let held = c.args.pen.now.piece in
-    let parts = document-parts g.S.HasSquare.grid c.args.margin c.raster_width-width.result _ c.args.symbols.now c.index-symbols-0.result c.requires.some
-    (rw (c.square.ensures, c.index-symbols-0.is) at c.raster_width-width.ensures.value) refl in
+    let parts = document-parts g.S.HasSquare.grid c.args.margin c.width-width.result _ c.args.symbols.now c.index-symbols-0.result c.requires.some
+    (rw (c.square.ensures, c.index-symbols-0.is) at c.width-width.ensures.value) refl in
     rw (p.1, parts) (stops_first _ _ _ held _ _ (writes_stop _ _ _ _ _ held _ _ _
     (formed _ _ _ _ held _ _ _ c.in_ok-reserve.ensures.writes c.push_head.ensures) c.in_err-put_stack.ensures))
 
@@ -19,8 +19,8 @@ pub returns-in_err-reserve-2 : goal.returns-in_err-reserve-2
 returns-in_err-reserve-2 g c =
     let p = err_from_is_err_and c.from_residual-in_err-reserve-2.result c.from_residual-in_err-reserve-2.ensures.1 in
     let held = c.args.pen.now.piece in
-    let parts = document-parts g.S.HasSquare.grid c.args.margin c.raster_width-width.result _ c.args.symbols.now c.index-symbols-0.result c.requires.some
-    (rw (c.square.ensures, c.index-symbols-0.is) at c.raster_width-width.ensures.value) refl in
+    let parts = document-parts g.S.HasSquare.grid c.args.margin c.width-width.result _ c.args.symbols.now c.index-symbols-0.result c.requires.some
+    (rw (c.square.ensures, c.index-symbols-0.is) at c.width-width.ensures.value) refl in
     rw (p.1, parts) (stops_between _ _ _ _ _ held _ _ _ (writes_on _ _ _ _ _ _ held _ _ _ _
     (formed _ _ _ _ held _ _ _ c.in_ok-reserve.ensures.writes c.push_head.ensures) c.in_ok-put_stack.ensures) c.in_err-reserve-2.ensures.writes)
 
@@ -28,8 +28,8 @@ pub returns : goal.returns
 unfolding tail closing
 returns g c =
     let held = c.args.pen.now.piece in
-    let parts = document-parts g.S.HasSquare.grid c.args.margin c.raster_width-width.result _ c.args.symbols.now c.index-symbols-0.result c.requires.some
-    (rw (c.square.ensures, c.index-symbols-0.is) at c.raster_width-width.ensures.value) refl in
+    let parts = document-parts g.S.HasSquare.grid c.args.margin c.width-width.result _ c.args.symbols.now c.index-symbols-0.result c.requires.some
+    (rw (c.square.ensures, c.index-symbols-0.is) at c.width-width.ensures.value) refl in
     rw parts (writes_on _ _ _ _ _ _ held _ _ _ _ (writes_on _ _ _ _ _ _ held _ _ _ _
     (formed _ _ _ _ held _ _ _ c.in_ok-reserve.ensures.writes c.push_head.ensures) c.in_ok-put_stack.ensures)
     (formed _ _ _ _ _ _ _ tail c.in_ok-reserve-2.ensures.writes c.push_tail.ensures))

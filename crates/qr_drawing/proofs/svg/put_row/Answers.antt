@@ -7,32 +7,32 @@ use Rattle.qr_drawing.proofs.svg.put_row.Goals as goal
 pub loop-run-init : goal.loop-run-init
 loop-run-init g c = rw c.into_iter-run-iterator.ensures.into_iter_gives (record {
   within = c.dark_runs-run-items.ensures.within;
-  path = row_boxes c.args.top c.args.margin c.args.row c.args.matrix.now _ c.requires.row_in c.dark_runs-run-items.ensures;
+  path = row_boxes c.args.top c.args.raster.now.margin c.args.row c.args.raster.now.matrix.now _ c.requires.row_in c.dark_runs-run-items.ensures;
   writes = writes_none _ _ _;
 })
 
 pub returns-in_err-reserve : goal.returns-in_err-reserve
 returns-in_err-reserve g c =
     let p = err_from_is_err_and c.from_residual.result c.from_residual.ensures.1 in
-    let box = box_of c.args.top c.args.margin c.args.row in
+    let box = box_of c.args.top c.args.raster.now.margin c.args.row in
     rw (p.1, c.loop-run.invariant.path, flat_map-append box c.loop-run.yielded c.loop-run.run-iterator)
     (stops_between _ _ _ _ _ c.args.pen.now.piece c.loop-run.pen.piece (flat_map box c.loop-run.yielded) (flat_map box c.loop-run.run-iterator)
     c.loop-run.invariant.writes c.in_err-reserve.ensures.writes)
 
 pub overflow_sub-run : goal.overflow_sub-run
 overflow_sub-run g c =
-    let within = All-head (λ run. (run.start < run.end) × (run.end ≤ c.args.matrix.now.side)) c.in-Some.run' c.next.new.self
+    let within = All-head (λ run. (run.start < run.end) × (run.end ≤ c.args.raster.now.matrix.now.side)) c.in-Some.run' c.next.new.self
     (rw c.in-Some.ensures.steps at c.loop-run.invariant.within) in
     omega (arith, within.0)
 
 pub loop-run-preserved : goal.loop-run-preserved
 loop-run-preserved g c =
-    let box = box_of c.args.top c.args.margin c.args.row in
+    let box = box_of c.args.top c.args.raster.now.margin c.args.row in
     let run = c.in-Some.run' in
-    let here = box-is c.args.top c.args.margin c.args.row (c.from-left.result + c.from-in-loop-run.result) (c.args.top + c.from-left.result + c.from.result)
+    let here = box-is c.args.top c.args.raster.now.margin c.args.row (c.from-left.result + c.from-in-loop-run.result) (c.args.top + c.from-left.result + c.from.result)
     c.from-in-loop-run-2.result run (omega arith) (omega arith) (omega arith) in
     record {
-      within = All-rest (λ run. (run.start < run.end) × (run.end ≤ c.args.matrix.now.side)) run c.next.new.self _ c.in-Some.ensures.steps c.loop-run.invariant.within;
+      within = All-rest (λ run. (run.start < run.end) × (run.end ≤ c.args.raster.now.matrix.now.side)) run c.next.new.self _ c.in-Some.ensures.steps c.loop-run.invariant.within;
       path = c.loop-run.invariant.path ∙ ap (λ runs. flat_map box (c.loop-run.yielded ++ runs)) c.in-Some.ensures.steps
           ∙ ap (flat_map box) (sym (append_assoc c.loop-run.yielded (run ∷ []) c.next.new.self));
       writes = rw (flat_map-append box c.loop-run.yielded (run ∷ []), append-nil (box run), ← here)

@@ -12,7 +12,7 @@ returns-in_err-put_symbol g c =
     let here = stack_at g.S.HasSquare.grid c.args.margin c.loop-symbol.symbol-index c.loop-symbol.top c.args.symbols.now c.symbol-item.result
     c.requires.one_side c.loop-symbol-test.true c.symbol-item.is c.loop-symbol.invariant.top in
     rw (p.1, stack_ends g.S.HasSquare.grid c.args.margin _ c.args.symbols.now refl)
-    (put_stops _ _ _ _ _ _ _ _ _ _ _ here c.loop-symbol-test.true c.loop-symbol.invariant.writes (rw c.square-square.ensures at c.in_err-put_symbol.ensures))
+    (put_stops _ _ _ _ _ _ _ _ _ _ _ here c.loop-symbol-test.true c.loop-symbol.invariant.writes (rw c.square.ensures at c.in_err-put_symbol.ensures))
 
 pub loop-symbol-preserved : goal.loop-symbol-preserved
 loop-symbol-preserved g c =
@@ -21,9 +21,9 @@ loop-symbol-preserved g c =
     let low = c.loop-symbol.invariant.low in
     record {
       top = next_top g.S.HasSquare.grid c.args.margin c.loop-symbol.symbol-index c.loop-symbol.top _ c.args.symbols.now c.symbol-item.result
-          c.requires.one_side c.loop-symbol-test.true c.symbol-item.is c.loop-symbol.invariant.top (rw c.square-square.ensures at c.raster_width-top.ensures.value);
-      low = let m = c.raster_width-top.ensures.most in omega arith;
-      writes = put_next _ _ _ _ _ _ _ _ _ _ _ _ _ here refl c.loop-symbol.invariant.writes (rw c.square-square.ensures at c.in_ok-put_symbol.ensures);
+          c.requires.one_side c.loop-symbol-test.true c.symbol-item.is c.loop-symbol.invariant.top (rw c.square.ensures at c.width-top.ensures.value);
+      low = let m = c.width-top.ensures.most in omega arith;
+      writes = put_next _ _ _ _ _ _ _ _ _ _ _ _ _ here refl c.loop-symbol.invariant.writes (rw c.square.ensures at c.in_ok-put_symbol.ensures);
     }
 
 pub returns : goal.returns

@@ -9,13 +9,13 @@ pub push_cell-requires : goal.push_cell-requires
 push_cell-requires c =
     omega (
       arith,
-      room-cells c.args.style c.args.margin c.args.matrix.now c.args.row c.args.first _ 1 c.args.count _ _ c.loop-done.invariant
+      room-cells c.args.style c.args.raster.now.margin c.args.raster.now.matrix.now c.args.row c.args.first _ 1 c.args.count _ _ c.loop-done.invariant
           (omega arith) c.requires.room,
     )
 
 pub loop-done-preserved : goal.loop-done-preserved
 loop-done-preserved c =
-    added_next c.args.text.now _ _ _ (λ i. cell_at c.args.style c.args.margin c.args.matrix.now c.args.row (c.args.first + i))
+    added_next c.args.text.now _ _ _ (λ i. cell_at c.args.style c.args.raster.now.margin c.args.raster.now.matrix.now c.args.row (c.args.first + i))
     c.loop-done.invariant (rw (c.is_dark_at-upper.ensures, c.is_dark_at-lower.ensures) at c.push_cell.ensures)
 
 pub returns-clause-len : goal.returns-clause-len

@@ -16,7 +16,7 @@ push_eight-requires c =
     let i = c.eights.invariant in
     omega (
       arith,
-      room-cells c.args.style c.args.margin c.args.matrix.now c.args.row c.args.margin _ 8 c.args.matrix.now.side _ _ i.items
+      room-cells c.args.style c.args.raster.now.margin c.args.raster.now.matrix.now c.args.row c.args.raster.now.margin _ 8 c.args.raster.now.matrix.now.side _ _ i.items
           (omega (arith, i.end, c.eights-test.true)) c.requires.room,
     )
 
@@ -27,9 +27,9 @@ eights-preserved c =
       end = i.end;
       within = omega (arith, i.within, c.eights-test.true);
       whole = omega (arith, i.whole);
-      items = added-cells c.args.style c.args.margin c.args.matrix.now c.args.row _ 8 _ _ c.args.text.now _ _ (omega arith) (omega (arith, i.end, c.eights-test.true))
-          (c.dark_bits-upper.ensures c.args.margin c.args.row c.square_row-upper_row.ensures)
-          (c.dark_bits-lower.ensures c.args.margin (c.args.row + 1) c.square_row-lower_row.ensures) i.items c.push_eight.ensures;
+      items = added-cells c.args.style c.args.raster.now.margin c.args.raster.now.matrix.now c.args.row _ 8 _ _ c.args.text.now _ _ (omega arith) (omega (arith, i.end, c.eights-test.true))
+          (c.dark_bits-upper.ensures c.args.raster.now.margin c.args.row c.square_row-upper_row.ensures)
+          (c.dark_bits-lower.ensures c.args.raster.now.margin (c.args.row + 1) c.square_row-lower_row.ensures) i.items c.push_eight.ensures;
     }
 
 pub push_quad-requires : goal.push_quad-requires
@@ -37,15 +37,15 @@ push_quad-requires c =
     let i = c.eights.invariant in
     omega (
       arith,
-      room-cells c.args.style c.args.margin c.args.matrix.now c.args.row c.args.margin _ 4 c.args.matrix.now.side _ _ i.items
+      room-cells c.args.style c.args.raster.now.margin c.args.raster.now.matrix.now c.args.row c.args.raster.now.margin _ 4 c.args.raster.now.matrix.now.side _ _ i.items
           (omega (arith, i.end, i.whole, c.if-col-end.true)) c.requires.room,
     )
 
 pub returns-then-col-end : goal.returns-then-col-end
 returns-then-col-end c =
     let i = c.eights.invariant in
-    let e : c.eights.col + 4 ≡ c.args.matrix.now.side / 4 * 4 = omega (arith, i.end, i.whole, c.eights-test.false, c.if-col-end.true) in
-    added-cells c.args.style c.args.margin c.args.matrix.now c.args.row _ 4 _ _ c.args.text.now _ _ (omega arith) (omega arith)
-    (c.dark_bits-upper-then-col-end.ensures c.args.margin c.args.row c.square_row-upper_row.ensures)
-    (c.dark_bits-lower-then-col-end.ensures c.args.margin (c.args.row + 1) c.square_row-lower_row.ensures) i.items c.push_quad.ensures
-    ∙ ap (λ n. c.args.text.now ++ texts_below n (λ i. cell_at c.args.style c.args.margin c.args.matrix.now c.args.row (c.args.margin + i))) e
+    let e : c.eights.col + 4 ≡ c.args.raster.now.matrix.now.side / 4 * 4 = omega (arith, i.end, i.whole, c.eights-test.false, c.if-col-end.true) in
+    added-cells c.args.style c.args.raster.now.margin c.args.raster.now.matrix.now c.args.row _ 4 _ _ c.args.text.now _ _ (omega arith) (omega arith)
+    (c.dark_bits-upper-then-col-end.ensures c.args.raster.now.margin c.args.row c.square_row-upper_row.ensures)
+    (c.dark_bits-lower-then-col-end.ensures c.args.raster.now.margin (c.args.row + 1) c.square_row-lower_row.ensures) i.items c.push_quad.ensures
+    ∙ ap (λ n. c.args.text.now ++ texts_below n (λ i. cell_at c.args.style c.args.raster.now.margin c.args.raster.now.matrix.now c.args.row (c.args.raster.now.margin + i))) e

@@ -14,7 +14,7 @@ returns-in_err-reserve-2 g c =
     let p = err_from_is_err_and c.from_residual-in_err-reserve-2.result c.from_residual-in_err-reserve-2.ensures.1 in
     let held = c.args.pen.now.piece in
     let left = rw c.from-first.ensures at c.push_light.ensures.items in
-    rw (p.1, line-parts c.args.style c.args.margin c.args.matrix.now c.args.y)
+    rw (p.1, line-parts c.args.style c.args.raster.now.margin c.args.raster.now.matrix.now c.args.y)
     (stops_first _ _ _ held _ _ (stops_between _ _ _ _ _ held _ _ _
     (formed _ _ _ _ held _ _ _ c.in_ok-reserve.ensures.writes left) c.in_err-reserve-2.ensures.writes))
 
@@ -27,7 +27,7 @@ returns-in_err-reserve-3 g c =
     let held = c.args.pen.now.piece in
     let left = rw c.from-first.ensures at c.push_light.ensures.items in
     let fours = rw c.top_row-row.ensures.value at c.push_columns.ensures in
-    rw (p.1, line-parts c.args.style c.args.margin c.args.matrix.now c.args.y)
+    rw (p.1, line-parts c.args.style c.args.raster.now.margin c.args.raster.now.matrix.now c.args.y)
     (stops_between _ _ _ _ _ held _ _ _ (writes_on _ _ _ _ _ _ held _ _ _ _
     (formed _ _ _ _ held _ _ _ c.in_ok-reserve.ensures.writes left)
     (formed _ _ _ _ _ _ _ _ c.in_ok-reserve-2.ensures.writes fours)) c.in_err-reserve-3.ensures.writes)
@@ -41,7 +41,7 @@ returns g c =
     let held = c.args.pen.now.piece in
     let left = rw c.from-first.ensures at c.push_light.ensures.items in
     let fours = rw c.top_row-row.ensures.value at c.push_columns.ensures in
-    rw (line-parts c.args.style c.args.margin c.args.matrix.now c.args.y)
+    rw (line-parts c.args.style c.args.raster.now.margin c.args.raster.now.matrix.now c.args.y)
     (writes_on _ _ _ _ _ _ held _ _ _ _ (writes_on _ _ _ _ _ _ held _ _ _ _
     (formed _ _ _ _ held _ _ _ c.in_ok-reserve.ensures.writes left)
     (formed _ _ _ _ _ _ _ _ c.in_ok-reserve-2.ensures.writes fours))

@@ -8,10 +8,10 @@ loop-y-init g c = put_none _ _ _ _ _ (no-texts _)
 
 pub returns-in_err-put_line : goal.returns-in_err-put_line
 returns-in_err-put_line g c = let p = err_from_is_err_and c.from_residual.result c.from_residual.ensures.1 in
-    rw p.1 (put_stops _ _ _ _ _ _ _ _ _ _ (λ y. cells_of_line c.args.style c.args.margin c.args.matrix.now y ++ 10 ∷ []) refl
-    (rw (c.line_count-y-end.ensures.value, c.raster_width.ensures.value) at c.loop-y-test.true) c.loop-y.invariant c.in_err-put_line.ensures)
+    rw p.1 (put_stops _ _ _ _ _ _ _ _ _ _ (λ y. cells_of_line c.args.style c.args.raster.now.margin c.args.raster.now.matrix.now y ++ 10 ∷ []) refl
+    (rw (c.line_count-y-end.ensures.value, c.width.ensures.value) at c.loop-y-test.true) c.loop-y.invariant c.in_err-put_line.ensures)
 
 pub loop-y-preserved : goal.loop-y-preserved
 loop-y-preserved g c =
-    put_next _ _ _ _ _ _ _ _ _ _ _ _ (λ y. cells_of_line c.args.style c.args.margin c.args.matrix.now y ++ 10 ∷ []) refl refl c.loop-y.invariant
+    put_next _ _ _ _ _ _ _ _ _ _ _ _ (λ y. cells_of_line c.args.style c.args.raster.now.margin c.args.raster.now.matrix.now y ++ 10 ∷ []) refl refl c.loop-y.invariant
     c.in_ok-put_line.ensures
