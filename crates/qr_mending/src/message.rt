@@ -130,18 +130,18 @@ fn marks_in_blocks(
 fn block_of(
     alloc: Global,
     blocks: Blocks,
-    parts: &InBlocks,
+    read: &InBlocks,
     block: usize,
 ) -> Result<Vec<u8>, AllocError>
     requires within { block < block_count (data_sizes blocks) }
-    requires data { length parts.now.data.items ≡ codeword_count (data_sizes blocks) }
-    requires checks { length parts.now.checks.items ≡ codeword_count (correction_sizes blocks) }
+    requires data { length read.now.data.items ≡ codeword_count (data_sizes blocks) }
+    requires checks { length read.now.checks.items ≡ codeword_count (correction_sizes blocks) }
     ensures value { IfOk result
-        (λ codewords. codewords.items ≡ received blocks parts.now.data.items parts.now.checks.items block) }
+        (λ codewords. codewords.items ≡ received blocks read.now.data.items read.now.checks.items block) }
     ensures len { IfOk result (λ codewords. length codewords.items ≡ block_len (data_sizes blocks) block + blocks.ec_len) }
 {
-    let data = BlockSizes::of_data(blocks).part(&parts.data, block);
-    let checks = BlockSizes::of_corrections(blocks).part(&parts.checks, block);
+    let data = BlockSizes::of_data(blocks).part(&read.data, block);
+    let checks = BlockSizes::of_corrections(blocks).part(&read.checks, block);
     let mut codewords = Vec::with_capacity(alloc, data.len() + checks.len())?;
     codewords.extend_from_slice(data)?;
     codewords.extend_from_slice(checks)?;
