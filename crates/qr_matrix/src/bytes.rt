@@ -1,10 +1,9 @@
 //! The modules of a square as bytes, row by row. A dark module is written as 1 and a light one as 0. When bytes are
 //! read, every byte but 0 means a dark module, and 2 means also that the module is not known.
 //!
-//! Eight modules are read or written at once, as one number of 64 bits. This needs no vectors, which the build for
-//! WebAssembly does not have. At the end of a row, bytes of the rows that follow are read or overwritten too. So the
-//! last rows, which have too few bytes after them, are read and written module by module. A row that has other bytes
-//! than 0 and 1 is also read module by module.
+//! Eight modules are read or written at once, as one number of 64 bits, which every processor has. At the end of a row,
+//! bytes of the rows that follow are read or overwritten too. So the last rows, which have too few bytes after them,
+//! are read and written module by module. A row that has other bytes than 0 and 1 is also read module by module.
 
 ghost use Rattle.std.specs.Prelude.{◌≡◌, ℕ, ◌+◌, ◌*◌, ◌<◌, ◌≤◌, ◌⊎◌, ◌&&◌, ◌==◌, not, false, nat_lt, length, slice_index_or, IfOk, IfSome};
 ghost use Rattle.qr_matrix.specs.Grid.{colour};
