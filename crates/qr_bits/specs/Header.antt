@@ -8,12 +8,12 @@ use Rattle.qr_bits.specs.Bits.{field}
 abbrev pub header_indicator : ℕ
 header_indicator = 3
 
--- The number of bits of a header. Without a header it is 0 (ISO/IEC 18004:2015, 8.1)
+-- The number of bits of a header, which is 20, or 0 if there is no header (ISO/IEC 18004:2015, 8.1)
 abbrev pub header_bits : Option Header → ℕ
 header_bits header = option_map_or (λ _. 20) header 0
 
--- Each number of the header fits its field: `position` and `last` fit 4 bits, and `parity` fits 8 (ISO/IEC 18004:2015,
--- 8.2, 8.3)
+-- If there is a header, each of its numbers fits its field: `position` and `last` fit 4 bits, and `parity` fits 8
+-- (ISO/IEC 18004:2015, 8.2, 8.3)
 abbrev pub HeaderFits : Option Header → Type 0
 HeaderFits header = ForSome header (λ h. (h.position < 16) × (h.last < 16) × (h.parity < 256))
 

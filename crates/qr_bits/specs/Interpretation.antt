@@ -31,8 +31,8 @@ fnc1_second_indicator = 9
 abbrev pub is_application_indicator : ℕ → Bool
 is_application_indicator a = nat_lt a 100 || nat_le 165 a && nat_le a 190 || nat_le 197 a && nat_le a 222
 
--- FNC1 may come after this item: the item is an ECI header, and `may`, which says whether FNC1 was allowed in the place
--- of this header, is true (ISO/IEC 18004:2015, 7.4.8.2)
+-- FNC1 may come directly after this item: the item is an ECI header, and FNC1 was allowed in the place of this header.
+-- `may` says whether it was allowed there (ISO/IEC 18004:2015, 7.4.8.2)
 abbrev pub may_follow : Bool → Item → Bool
 may_follow may (Eci d) = may
 may_follow may _ = false
@@ -46,11 +46,11 @@ abbrev pub InterpretationFits : Interpretation → Type 0
 InterpretationFits (written.Eci n) = n < 1000000
 InterpretationFits _ = Unit {0}
 
--- How many codewords the shortest designator of a number has (ISO/IEC 18004:2015, 7.4.2, Table 4)
+-- How many codewords the shortest designator of the ECI with the number `n` has (ISO/IEC 18004:2015, 7.4.2, Table 4)
 abbrev pub designator_codewords : ℕ → ℕ
 designator_codewords n = if nat_lt n 128 then 1 else (if nat_lt n 16384 then 2 else 3)
 
--- The bits of the shortest designator of a number (ISO/IEC 18004:2015, 7.4.2, Table 4)
+-- The bits of the shortest designator of the ECI with the number `n` (ISO/IEC 18004:2015, 7.4.2, Table 4)
 unfoldable pub designator : ℕ → List Bool
 designator n =
     if nat_lt n 128 then field 8 n else
@@ -63,8 +63,8 @@ interpretation_stream written.Default = []
 interpretation_stream (written.Eci n) = field 4 eci_indicator ++ designator n
 interpretation_stream written.Gs1 = field 4 fnc1_first_indicator
 
--- The number of bits that state the interpretation: those of an ECI header, or of the mode indicator of FNC1, or 0
--- (ISO/IEC 18004:2015, 7.4.2, 7.4.8.2)
+-- The number of bits that state the interpretation. These are the bits of an ECI header, those of the mode indicator of
+-- FNC1, or none (ISO/IEC 18004:2015, 7.4.2, 7.4.8.2)
 abbrev pub interpretation_bits : Interpretation → ℕ
 interpretation_bits written.Default = 0
 interpretation_bits (written.Eci n) = 4 + 8 * designator_codewords n
@@ -99,7 +99,7 @@ escaped [] = []
 escaped (x ∷ xs) = if x == percent then percent ∷ percent ∷ escaped xs else (if x == separator then percent ∷ escaped xs else x ∷ escaped xs)
 
 -- The bytes can be written as fields of GS1 data: no separator comes directly before another separator or before `%`.
--- In one segment, alphanumeric mode could not write two such bytes [own]
+-- Alphanumeric mode writes a separator as `%`, and two `%` in a row would be read as the byte `%` [own]
 unfoldable pub are_fields : List ℕ → Bool
 are_fields [] = true
 are_fields (x ∷ []) = true
@@ -117,14 +117,15 @@ abbrev pub character_for : Interpretation → ℕ → Mode → ℕ
 character_for written.Gs1 x Alphanumeric = if x == separator then percent else x
 character_for _ x m = x
 
--- The modes of the characters that are written for the bytes after FNC1 in first position. For a byte that becomes two
--- characters, its mode is listed twice (ISO/IEC 18004:2015, 7.4.8.2)
+-- The modes of the characters that are written for the bytes after FNC1 in first position, if the bytes have the given
+-- modes. For a byte that becomes two characters, its mode is listed twice (ISO/IEC 18004:2015, 7.4.8.2)
 unfoldable pub doubled_gs1 : List ℕ → List Mode → List Mode
 doubled_gs1 [] ms = ms
 doubled_gs1 (x ∷ xs) [] = []
 doubled_gs1 (x ∷ xs) (m ∷ ms) = if is_doubled written.Gs1 x m then m ∷ m ∷ doubled_gs1 xs ms else m ∷ doubled_gs1 xs ms
 
--- The characters that are written for the bytes after FNC1 in first position (ISO/IEC 18004:2015, 7.4.8.2)
+-- The characters that are written for the bytes after FNC1 in first position, if the bytes have the given modes
+-- (ISO/IEC 18004:2015, 7.4.8.2)
 unfoldable pub characters_gs1 : List ℕ → List Mode → List ℕ
 characters_gs1 [] ms = []
 characters_gs1 (x ∷ xs) [] = x ∷ xs
@@ -132,8 +133,8 @@ characters_gs1 (x ∷ xs) (m ∷ ms) =
     let c = character_for written.Gs1 x m in
     if is_doubled written.Gs1 x m then c ∷ c ∷ characters_gs1 xs ms else c ∷ characters_gs1 xs ms
 
--- The modes of the characters that are written for the bytes `xs` under an interpretation. For a byte that becomes two
--- of them, its mode is listed twice (ISO/IEC 18004:2015, 7.4.8.2)
+-- The modes of the characters that are written for the bytes `xs` under an interpretation, if the bytes have the given
+-- modes. For a byte that becomes two characters, its mode is listed twice (ISO/IEC 18004:2015, 7.4.8.2)
 abbrev pub doubled : Interpretation → List ℕ → List Mode → List Mode
 doubled written.Default xs ms = ms
 doubled (written.Eci n) xs ms = ms
@@ -158,8 +159,8 @@ abbrev pub meant : Bool → Mode → List ℕ → List ℕ
 meant true Alphanumeric xs = separated xs
 meant _ _ xs = xs
 
--- The bytes that the items stand for. Each segment takes the next of the characters `xs`, and `fnc1` says whether FNC1
--- came before the items (ISO/IEC 18004:2015, 7.4.8.2, 7.4.8.3)
+-- The bytes that the items stand for. Each segment takes the next of the characters `xs`. `fnc1` says whether FNC1 came
+-- before the items (ISO/IEC 18004:2015, 7.4.8.2, 7.4.8.3)
 unfoldable pub meant_bytes : Bool → List Item → List ℕ → List ℕ
 meant_bytes fnc1 [] xs = []
 meant_bytes fnc1 (Data s ∷ is) xs = meant fnc1 s.mode (take s.len xs) ++ meant_bytes fnc1 is (drop s.len xs)
@@ -167,8 +168,9 @@ meant_bytes fnc1 (Eci d ∷ is) xs = meant_bytes fnc1 is xs
 meant_bytes fnc1 (Fnc1First ∷ is) xs = meant_bytes true is xs
 meant_bytes fnc1 (Fnc1Second a ∷ is) xs = meant_bytes true is xs
 
--- The ECI headers among the items, each with the number of bytes of the symbol before it. Before the first item there
--- are `n` bytes, and `fnc1` says whether FNC1 came before it (ISO/IEC 18004:2015, 7.4.2.2)
+-- The ECI headers among the items, each with the number of bytes of the symbol before it. What comes before all items
+-- is given: `n` bytes, and FNC1 if `fnc1` is true. Each segment takes the next of the characters `xs` (ISO/IEC
+-- 18004:2015, 7.4.2.2)
 unfoldable pub eci_changes : Bool → ℕ → List Item → List ℕ → List EciChange
 eci_changes fnc1 n [] xs = []
 eci_changes fnc1 n (Data s ∷ is) xs = eci_changes fnc1 (n + length (meant fnc1 s.mode (take s.len xs))) is (drop s.len xs)
@@ -176,7 +178,8 @@ eci_changes fnc1 n (Eci d ∷ is) xs = record { number = d.number; begin = n } �
 eci_changes fnc1 n (Fnc1First ∷ is) xs = eci_changes true n is xs
 eci_changes fnc1 n (Fnc1Second a ∷ is) xs = eci_changes true n is xs
 
--- FNC1, if it is among the items and only ECI headers come before it, and otherwise `None` (ISO/IEC 18004:2015, 7.4.8)
+-- FNC1, if it is among the items and only ECI headers come before it. If there is no FNC1, or a segment comes before
+-- it, the value is `None` (ISO/IEC 18004:2015, 7.4.8)
 unfoldable pub fnc1_of : List Item → Option Fnc1
 fnc1_of [] = None
 fnc1_of (Data s ∷ is) = None

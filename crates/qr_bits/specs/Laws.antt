@@ -19,9 +19,9 @@ use Rattle.qr_bits.specs.declared.interpretation.Interpretation.TheVariants.{Def
 use Rattle.qr_bits.specs.Parsing.{content_of, ends, items_of, parse, plain_content}
 use Rattle.qr_bits.specs.declared.interpretation.Item.{Item}
 
--- Bits are read as an optional header and segments, and no other items, exactly if they are the bit stream of these and
--- then an end. An end is at most three bits, or the terminator and any bits after it (ISO/IEC 18004:2015, 7.4.1, 7.4.9,
--- 8.1)
+-- Parsing bits yields an optional header and segments, and no other items, exactly if the bits are the bit stream of
+-- this header and these segments, followed by an end. An end is at most three bits, or the terminator and any bits
+-- after it (ISO/IEC 18004:2015, 7.4.1, 7.4.9, 8.1)
 abbrev pub StreamsAreParsed : Type 0
 StreamsAreParsed =
     (v : ℕ) (bits : List Bool) (h : Option Header) (segs : List Segment) (xs : List ℕ) →
@@ -35,8 +35,8 @@ DataAreParsed =
     (v : ℕ) (l : Level) (xs : List ℕ) (segs : List Segment) (h : Option Header) (i : Interpretation) (cw : List ℕ) → IsData v l xs segs h i cw →
     parse v (bits_of cw) ≡ Ok (content_of h (items_in i segs) xs)
 
--- Data codewords without an ECI header and FNC1 are read as the header, segments and bytes that they were made from
--- [own]
+-- Data codewords that have neither an ECI header nor FNC1 are read as the header, segments and bytes that they were
+-- made from [own]
 abbrev pub PlainDataAreParsed : Type 0
 PlainDataAreParsed =
     (v : ℕ) (l : Level) (xs : List ℕ) (segs : List Segment) (h : Option Header) (cw : List ℕ) → IsData v l xs segs h Default cw →
@@ -49,7 +49,8 @@ StreamsHaveTheirBits =
     (v : ℕ) (xs : List ℕ) (segs : List Segment) (h : Option Header) (i : Interpretation) (stream : List Bool) → IsStream v xs segs h i stream →
     length stream ≡ header_bits h + interpretation_bits i + bits v segs
 
--- For a bit stream that is not longer than the capacity there is a list of data codewords [own]
+-- If a bit stream is not longer than the capacity of a symbol, there is a list of data codewords that contains this bit
+-- stream [own]
 abbrev pub DataAreThere : Type 0
 DataAreThere =
     (v : ℕ) (l : Level) (xs : List ℕ) (segs : List Segment) (h : Option Header) (i : Interpretation) (stream : List Bool) → IsStream v xs segs h i stream →
@@ -87,8 +88,8 @@ LeastSegmentationsFit =
     (i : Interpretation) (v : ℕ) (r : Rule) (xs ys : List ℕ) (segs : List Segment) → IsLeastSegmentation i v r xs ys segs →
     Covers ys segs × ((n : ℕ) → HasFit i v r xs n ↔ (bits v segs ≤ n))
 
--- If an input can be written with an interpretation, the characters of its segments of fewest bits stand for the input,
--- and are read with this interpretation (ISO/IEC 18004:2015, 7.4.2, 7.4.8.2)
+-- If an input can be written with an interpretation, its segments of fewest bits are read as this input with this
+-- interpretation (ISO/IEC 18004:2015, 7.4.2, 7.4.8.2)
 abbrev pub SegmentationsMeanTheirInput : Type 0
 SegmentationsMeanTheirInput =
     (i : Interpretation) (v : ℕ) (r : Rule) (xs ys : List ℕ) (segs : List Segment) (h : Option Header) → MayWrite i xs → IsLeastSegmentation i v r xs ys segs →
@@ -102,8 +103,8 @@ PiecesNeedNoMore =
     (i : Interpretation) (v : ℕ) (r : Rule) (xs ys zs : List ℕ) (n : ℕ) → may_use r Kanji ≡ false →
     HasFit i v r (xs ++ (ys ++ zs)) n → HasFit i v r ys n
 
--- Bit `k` of the codewords, as `codeword_bit` counts from 0, is the bit with the index `k` in the list of all their
--- bits (ISO/IEC 18004:2015, 7.7.3)
+-- Bit `k` of the codewords, which `codeword_bit` computes, is the item with the index `k` in the list of all their
+-- bits. Both are counted from 0 (ISO/IEC 18004:2015, 7.7.3)
 abbrev pub BitsAreCodewordBits : Type 0
 BitsAreCodewordBits =
     (cw : List ℕ) (k : ℕ) → k < 8 * length cw → slice_index_or (bits_of cw) k false ≡ codeword_bit cw k
@@ -113,9 +114,9 @@ BitsAreCodewordBits =
 abbrev pub FieldsAreRead : Type 0
 FieldsAreRead = (xs : List ℕ) → are_fields xs ≡ true → separated (escaped xs) ≡ xs
 
--- Bits are read as items exactly if they are the bits of these items, in an order that the standard allows, and then an
--- end. An end is at most three bits, or the terminator and any bits after it (ISO/IEC 18004:2015, 7.4.1, 7.4.2, 7.4.8,
--- 7.4.9)
+-- Parsing bits yields items exactly if the bits are those of these items, in an order that the standard allows,
+-- followed by an end. An end is at most three bits, or the terminator and any bits after it (ISO/IEC 18004:2015, 7.4.1,
+-- 7.4.2, 7.4.8, 7.4.9)
 abbrev pub ItemsAreParsed : Type 0
 ItemsAreParsed = (v : ℕ) (bits : List Bool) (items : List Item) (xs : List ℕ) →
     (items_of v true bits ≡ Ok (items, xs)) ↔

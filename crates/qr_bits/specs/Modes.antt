@@ -25,14 +25,14 @@ count_width v Alphanumeric = if nat_le v 9 then 9 else (if nat_le v 26 then 11 e
 count_width v Byte = if nat_le v 9 then 8 else 16
 count_width v Kanji = if nat_le v 9 then 8 else (if nat_le v 26 then 10 else 12)
 
--- The number in the character count indicator of a segment of `n` bytes, of which kanji mode counts two as one
--- character, and any other mode counts each (ISO/IEC 18004:2015, 7.4.1)
+-- The number in the character count indicator of a segment of `n` bytes: kanji mode counts two bytes as one character,
+-- and any other mode counts each byte as one (ISO/IEC 18004:2015, 7.4.1)
 abbrev pub character_count : Mode → ℕ → ℕ
 character_count Kanji n = n / 2
 character_count _ n = n
 
--- The number of bytes of a segment in this mode whose character count indicator is `n`. A character of kanji mode is
--- two bytes (ISO/IEC 18004:2015, 7.4.1)
+-- The number of bytes of a segment in this mode whose character count indicator is `n`: twice `n` in kanji mode, and
+-- otherwise `n` (ISO/IEC 18004:2015, 7.4.1)
 abbrev pub byte_count : Mode → ℕ → ℕ
 byte_count Kanji n = 2 * n
 byte_count _ n = n
@@ -66,9 +66,9 @@ in_twos test [] = true
 in_twos test (x ∷ []) = false
 in_twos test (x ∷ y ∷ xs) = test x y && in_twos test xs
 
--- The number of 13 bits that is written for a kanji pair. From a pair up to 9FFC 8140 is subtracted, and from any other
--- C140. Then the high byte of the difference is multiplied by C0, and the low byte added; all these numbers are
--- hexadecimal (ISO/IEC 18004:2015, 7.4.6)
+-- The 13 bits that are written for a kanji pair, as a number. If the pair, taken as 16 bits, is at most 9FFC, 8140 is
+-- subtracted from it, and otherwise C140. Then the high byte of the difference is multiplied by C0, and the low byte is
+-- added. All these numbers are hexadecimal (ISO/IEC 18004:2015, 7.4.6)
 unfoldable pub kanji_value : ℕ → ℕ → ℕ
 kanji_value high low =
     let pair = 256 * high + low in
@@ -82,9 +82,10 @@ suits Alphanumeric xs = list_all is_alphanumeric xs
 suits Byte xs = true
 suits Kanji xs = in_twos is_kanji_pair xs
 
--- How many bits the data of `n` bytes take: 10 for each three digits, then 7 for two digits at the end, or 4 for one;
--- 11 for each two characters, then 6 for one at the end; 8 for a byte; 13 for a kanji pair. If `n` is odd in kanji
--- mode, which no valid assignment has, the last byte counts as a whole pair (ISO/IEC 18004:2015, 7.4.3 to 7.4.6)
+-- How many bits the data of `n` bytes take: in numeric mode 10 for each three digits, then 7 for two digits at the end,
+-- or 4 for one; in alphanumeric mode 11 for each two characters, then 6 for one at the end; in byte mode 8 for a byte;
+-- in kanji mode 13 for a kanji pair. If `n` is odd in kanji mode, which no valid assignment has, the last byte counts
+-- as a whole pair (ISO/IEC 18004:2015, 7.4.3 to 7.4.6)
 abbrev pub payload_bits : Mode → ℕ → ℕ
 payload_bits Numeric n = 10 * (n / 3) + (if n % 3 == 0 then 0 else (if n % 3 == 1 then 4 else 7))
 payload_bits Alphanumeric n = 11 * (n / 2) + 6 * (n % 2)

@@ -10,8 +10,8 @@ use Rattle.qr_layout.specs.Blocks.{data_codewords_of}
 use Rattle.qr_bits.specs.Stream.{IsStream}
 use Rattle.qr_bits.specs.Interpretation.{interpretation_bits}
 
--- How many bits of the capacity are left after a structured append header, which takes 20 bits, and the ECI header or
--- FNC1 of the interpretation (ISO/IEC 18004:2015, 7.4.2, 7.4.8.2, 7.4.10, 8.1)
+-- How many bits of the capacity are left for the segments after a structured append header, which takes 20 bits, and
+-- the ECI header or FNC1 of the interpretation (ISO/IEC 18004:2015, 7.4.2, 7.4.8.2, 7.4.10, 8.1)
 abbrev pub room_of : ℕ → Level → Interpretation → ℕ
 room_of v l i = capacity_of v l - 20 - interpretation_bits i
 

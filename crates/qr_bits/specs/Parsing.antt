@@ -24,7 +24,8 @@ abbrev pub ◌>>=◌ : {A B : Type 0} → Result A ParseFault → (A → Result 
 (Ok x) >>= f = f x
 (Err e) >>= f = Err e
 
--- The result `r` of the code is the result `read`, or the code has returned the fault `Memory` [own]
+-- The result `r` of the code is the result `read` of a definition, or it is the fault `Memory`, since an allocation was
+-- refused [own]
 abbrev pub IsResultOf : {A : Type 0} → Result A ParseFault → Result A ParseFault → Type 0
 IsResultOf r read = (r ≡ Err Memory) ⊎ (read ≡ r)
 
@@ -66,9 +67,9 @@ unfoldable pub bytes_of : ℕ → List Bool → List ℕ
 bytes_of zero bits = []
 bytes_of (suc n) bits = value (take 8 bits) ∷ bytes_of n (drop 8 bits)
 
--- The kanji pair that has the value `n`, as a number of 16 bits. First a number is formed: its high byte is the value
--- divided by C0, and its low byte the remainder. Then 8140 is added if the high byte is at most 1E, and otherwise C140;
--- all these numbers are hexadecimal (ISO/IEC 18004:2015, 7.4.6)
+-- The kanji pair, as a number of 16 bits, whose value in kanji mode is `n`. First the value is divided by C0: the
+-- quotient becomes the high byte of a number, and the remainder the low byte. Then 8140 is added if the high byte is at
+-- most 1E, and otherwise C140. All these numbers are hexadecimal (ISO/IEC 18004:2015, 7.4.6)
 unfoldable pub kanji_pair : ℕ → ℕ
 kanji_pair n =
     let rest = 256 * (n / 0xC0) + n % 0xC0 in
@@ -152,7 +153,7 @@ item_at v may bits =
     (segment_at v bits >>= λ s. Ok (Data s.0, s.1, s.2))))
 
 -- The items up to the end, but not more than `n`, with the characters of their segments. `may` says whether FNC1 may
--- come first [own]
+-- come first. `n` is there to make the recursion end [own]
 unfoldable pub items_at : ℕ → ℕ → Bool → List Bool → Result (List Item × List ℕ) ParseFault
 items_at zero v may bits = Ok ([], [])
 items_at (suc n) v may bits =
@@ -167,8 +168,8 @@ items_of v may bits = items_at (length bits) v may bits
 unfoldable pub begins_header : List Bool → Bool
 begins_header bits = nat_le 4 (length bits) && value (take 4 bits) == header_indicator
 
--- The header whose mode indicator was already read, or the fault `Cut` if fewer than 16 bits remain (ISO/IEC
--- 18004:2015, 8.1 to 8.3)
+-- The header whose mode indicator was already read. If fewer than 16 bits remain for its numbers, the fault is `Cut`
+-- (ISO/IEC 18004:2015, 8.1 to 8.3)
 unfoldable pub header_at : List Bool → Result (Header × List Bool) ParseFault
 header_at bits =
     if nat_lt (length bits) 16 then Err Cut
@@ -186,8 +187,8 @@ pub record Content : Type 0 where
   pub ecis : List EciChange
   pub bytes : List ℕ
 
--- The content that has the header `h` and the items `items`, if the segments among these contain the characters `cs`
--- (ISO/IEC 18004:2015, 7.4.2, 7.4.8)
+-- The content that has the header `h` and the items `items`, where `cs` are the characters of all segments among these
+-- items (ISO/IEC 18004:2015, 7.4.2, 7.4.8)
 abbrev pub content_of : Option Header → List Item → List ℕ → Content
 content_of h items cs =
     record { header = h; items = items; ecis = eci_changes false 0 items cs; bytes = meant_bytes false items cs }

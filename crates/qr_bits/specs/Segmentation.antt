@@ -18,8 +18,8 @@ use Rattle.qr_bits.specs.Interpretation.{characters_in, doubled}
 abbrev pub segment_bits : ℕ → Segment → ℕ
 segment_bits v s = 4 + count_width v s.mode + payload_bits s.mode s.len
 
--- How many bits all segments take in version `v`, without the bits before them (a header, an ECI header or FNC1)
--- (ISO/IEC 18004:2015, 7.4.1)
+-- How many bits all segments take in version `v`. What comes before the segments (a header, an ECI header or FNC1) does
+-- not count (ISO/IEC 18004:2015, 7.4.1)
 abbrev pub bits : ℕ → List Segment → ℕ
 bits v [] = 0
 bits v (s ∷ ss) = segment_bits v s + bits v ss
@@ -35,8 +35,8 @@ rank Alphanumeric = 1
 rank Byte = 2
 rank Kanji = 3
 
--- One byte of mode `m` is put before the segments. It joins the first segment if this has mode `m`, and otherwise
--- begins a new segment [own]
+-- The segments when one byte of mode `m` is put before them: it joins the first segment if this has mode `m`, and
+-- otherwise begins a new one [own]
 abbrev pub prepend_mode : Mode → List Segment → List Segment
 prepend_mode m [] = record { mode = m; len = 1 } ∷ []
 prepend_mode m (s ∷ ss) = if rank m == rank s.mode then record { mode = m; len = 1 + s.len } ∷ ss else record { mode = m; len = 1 } ∷ s ∷ ss
@@ -57,15 +57,15 @@ IsNotAfter [] ks = Unit {0}
 IsNotAfter (m ∷ ms) [] = ⊥
 IsNotAfter (m ∷ ms) (k ∷ ks) = (rank m < rank k) ⊎ ((m ≡ k) × IsNotAfter ms ks)
 
--- `ms` is the best valid assignment to the bytes `xs`. No other takes fewer bits in version `v`, and of those that take
--- equally few, `ms` is the first in lexicographic order by the ranks of the modes [own]
+-- `ms` is the best valid assignment to the bytes `xs`. No other valid assignment takes fewer bits in version `v`. Of
+-- all that take as few bits, `ms` is the first in lexicographic order by the ranks of the modes [own]
 pub record IsBestAssignment (i : Interpretation) (v : ℕ) (r : Rule) (xs : List ℕ) (ms : List Mode) : Type 0 where
   pub assignment : IsAssignment i r xs ms
   pub least : (ks : List Mode) → IsAssignment i r xs ks → bits v (runs_of (doubled i xs ms)) ≤ bits v (runs_of (doubled i xs ks))
   pub first : (ks : List Mode) → IsAssignment i r xs ks → bits v (runs_of (doubled i xs ks)) ≡ bits v (runs_of (doubled i xs ms)) → IsNotAfter ms ks
 
--- `segs` are the segments of fewest bits in version `v` for the bytes `xs`, those of the best valid assignment. `ys`
--- are the characters that they contain [own]
+-- `segs` are the segments of the best valid assignment to the bytes `xs` in version `v`, so no segments for these bytes
+-- take fewer bits. `ys` are the characters that the segments contain [own]
 abbrev pub IsLeastSegmentation : Interpretation → ℕ → Rule → List ℕ → List ℕ → List Segment → Type 0
 IsLeastSegmentation i v r xs ys segs =
     (ms : List Mode) × IsBestAssignment i v r xs ms × (segs ≡ runs_of (doubled i xs ms)) × (ys ≡ characters_in i xs ms)
@@ -80,7 +80,8 @@ HasFit i v r xs n = (ms : List Mode) × IsAssignment i r xs ms × (bits v (runs_
 abbrev pub least_sixths : ℕ → ℕ
 least_sixths b = if is_digit b then 20 else (if nat_le b 90 then 33 else 39)
 
--- A lower bound on the bits of an input, however it is cut into segments (ISO/IEC 18004:2015, 7.4.3 to 7.4.6)
+-- A number of bits that an input takes at least, however it is cut into segments. If a version has room for fewer bits,
+-- it need not be tried (ISO/IEC 18004:2015, 7.4.3 to 7.4.6)
 unfoldable pub least_bits : List ℕ → ℕ
 least_bits xs = sum_by least_sixths xs / 6
 

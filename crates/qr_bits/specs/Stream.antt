@@ -30,7 +30,7 @@ character_bits [] = []
 character_bits (a ∷ []) = field 6 (character_value a)
 character_bits (a ∷ b ∷ xs) = field 11 (45 * character_value a + character_value b) ++ character_bits xs
 
--- The bits of kanji pairs in kanji mode, of which each takes 13 (ISO/IEC 18004:2015, 7.4.6)
+-- The bits of kanji pairs in kanji mode: 13 for each pair (ISO/IEC 18004:2015, 7.4.6)
 unfoldable pub kanji_bits : List ℕ → List Bool
 kanji_bits [] = []
 kanji_bits (a ∷ []) = []
@@ -73,8 +73,8 @@ pub record IsStream (v : ℕ) (xs : List ℕ) (segs : List Segment) (h : Option 
   pub interpretation : InterpretationFits i
   pub whole : stream ≡ (header_stream h ++ interpretation_stream i) ++ segments_stream v xs segs
 
--- The number of the ECI is small enough for the number of codewords that its designator has (ISO/IEC 18004:2015, 7.4.2,
--- Table 4)
+-- The number of the ECI is small enough to be written in as many codewords as its designator has (ISO/IEC 18004:2015,
+-- 7.4.2, Table 4)
 abbrev pub DesignatorFits : Designator → Type 0
 DesignatorFits d =
     ((d.codewords ≡ 1) × (d.number < 128)) ⊎ (((d.codewords ≡ 2) × (d.number < 16384)) ⊎ ((d.codewords ≡ 3) × (d.number < 1000000)))

@@ -11,8 +11,9 @@ pub record IsBlock (n : ℕ) (codewords : List ℕ) : Type 0 where
   pub whole : codewords ≡ message ++ correction
   pub corrects : IsCorrection message n correction
 
--- `mended` is the block, with `n` error correction codewords, to which `damaged` is mended if at most `t` codewords of
--- `damaged` are misread and none is erased (ISO/IEC 18004:2015, 7.5.1)
+-- `mended` is a block with `n` error correction codewords to which `damaged`, a block as it was read, can be corrected.
+-- Both are equally long, and differ in at most `t` codewords. No codeword of `damaged` is erased (ISO/IEC 18004:2015,
+-- 7.5.1)
 pub record IsMended (n t : ℕ) (damaged mended : List ℕ) : Type 0 where
   pub block : IsBlock n mended
   pub long : length mended ≡ length damaged

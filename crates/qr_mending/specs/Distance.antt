@@ -9,19 +9,20 @@ use Rattle.qr_mending.specs.declared.format.FormatCopy.{FormatCopy}
 use Rattle.qr_mending.specs.Format.{bit_differences, copy_bit}
 use Rattle.qr_layout.specs.Blocks.{correctable_of}
 
--- In each copy of the format information the squares `g` and `h` differ in at least seven of its 15 modules (ISO/IEC
+-- The squares `g` and `h` differ in at least seven of the 15 modules of each copy of the format information (ISO/IEC
 -- 18004:2015, 7.9.1, Annex C)
 abbrev pub FormatsLieApart : Grid → Grid → Type 0
 FormatsLieApart g h = (copy : FormatCopy) → 7 ≤ bit_differences 15 (copy_bit copy g) (copy_bit copy h)
 
--- There is a block in which two symbols differ in more than 2t codewords. Here t is the number of misread codewords
--- that can be corrected in a block of level `l` (ISO/IEC 18004:2015, 7.5.1)
+-- There is a block in which two symbols of version `v` differ in more than 2t codewords. Here t is the number of
+-- misread codewords that can be corrected in a block of version `v` and level `l` (ISO/IEC 18004:2015, 7.5.1)
 abbrev pub SomeBlockLiesApart : (v : ℕ) (l k : Level) → HeldMessage v l → HeldMessage v k → Type 0
 SomeBlockLiesApart v l k m n = (i : ℕ) × (i < blocks_in v l) × (2 * correctable_of v l < differences (held_block v l m i) (held_block v k n i))
 
 -- If two symbols of version `v` have different levels or data codewords, one of two statements holds. In each copy of
--- the format information they differ in at least seven modules. Or they have the same level and mask, and in some block
--- they differ in more than twice as many codewords as can be corrected in it [own]
+-- the format information the symbols differ in at least seven modules. Or they have the same level and mask, and there
+-- is a block in which they differ in more than 2t codewords. Here t is the number of misread codewords that can be
+-- corrected in a block of this version and level [own]
 abbrev pub SymbolsLieApart : ℕ → Type 0
 SymbolsLieApart v =
     (l k : Level) (m : HeldMessage v l) (n : HeldMessage v k) (cw ds : List ℕ) → m.mask < 8 → n.mask < 8

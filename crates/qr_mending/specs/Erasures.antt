@@ -4,8 +4,8 @@ use Rattle.std.specs.Prelude.{◌≡◌, ℕ, ◌+◌, ◌*◌, ◌≤◌, Bool,
 use Rattle.qr_field.specs.Distance.{erasures, errors}
 use Rattle.qr_mending.specs.Block.{IsBlock}
 
--- The given codewords as they were read: a codeword is `None` if `erased` is true at its index. Where `erased` has no
--- such index, the codeword was read [own]
+-- The given codewords as they were read: `None` where `erased` is true at the same index, and otherwise the codeword.
+-- If the list `erased` is shorter, the codewords past its end were read [own]
 abbrev pub read_of : List ℕ → List Bool → List (Option ℕ)
 read_of [] erased = []
 read_of (x ∷ xs) [] = Some x ∷ read_of xs []

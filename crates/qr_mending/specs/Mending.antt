@@ -22,7 +22,7 @@ use Rattle.qr_mending.specs.declared.format.FormatCopy.TheVariants.{First, Secon
 use Rattle.qr_mending.specs.Format.{format_cost, misread_bits, unread_bits, IsNearFormat}
 use Rattle.qr_mending.specs.Message.{IsMendedIn}
 
--- If the square `g` is read at level `l` with the mask `mask` undone, its blocks can be mended to the data codewords
+-- The square `g` is read at level `l`, with the mask `mask` undone. Then its blocks can be mended to the data codewords
 -- `message`. Item i of `changed` is the number of misread codewords in block i, counted from 0 (ISO/IEC 18004:2015,
 -- 7.5.1, 7.6, 7.7.3, 12)
 pub record HoldsDamaged (unknown : Grid) (v : ℕ) (l : Level) (mask : ℕ) (g : Grid) (message changed : List ℕ) : Type 0 where
@@ -30,21 +30,22 @@ pub record HoldsDamaged (unknown : Grid) (v : ℕ) (l : Level) (mask : ℕ) (g :
   pub held : IsRead v mask g codewords
   pub mended : IsMendedIn unknown v l codewords message changed
 
--- If the square is read with a level and a mask that are near to the given copy, not all of its blocks can be mended
--- (ISO/IEC 18004:2015, 7.5.1, 7.9.1, 12)
+-- With each level and mask that are near to the given copy, some block of the square cannot be mended (ISO/IEC
+-- 18004:2015, 7.5.1, 7.9.1, 12)
 abbrev pub IsOfNoUse : Grid → FormatCopy → ℕ → Grid → Type 0
 IsOfNoUse unknown copy v g = (l : Level) (mask : ℕ) → IsNearFormat unknown copy g l mask
     → (message changed : List ℕ) → HoldsDamaged unknown v l mask g message changed → ⊥
 
--- The rank of a level and a mask that are near to the given copy, if both copies together cost `cost` with them. It
--- rises with `cost`, and between equals it is lower for the first copy [own]
+-- The rank of a level and a mask that are near to the given copy, if both copies together cost `cost` with them. The
+-- square is read with the level and the mask of the lowest rank. A higher cost gives a higher rank, and between equal
+-- costs the rank for the first copy is lower [own]
 abbrev pub rank_of : FormatCopy → ℕ → ℕ
 rank_of First cost = 2 * cost
 rank_of Second cost = 2 * cost + 1
 
--- The level `l` and the mask `mask` are those by which the square has to be read. They are near to a copy of the format
--- information. No level and mask have a lower rank, among those that are near to a copy and with which all blocks can
--- be mended (ISO/IEC 18004:2015, 7.9.1, 12)
+-- The square has to be read with the level `l` and the mask `mask`. They are near to a copy of the format information.
+-- Among the levels and masks that are near to a copy, and with which all blocks can be mended, none have a lower rank
+-- (ISO/IEC 18004:2015, 7.9.1, 12)
 pub record HasFormat (unknown : Grid) (v : ℕ) (g : Grid) (l : Level) (mask : ℕ) : Type 0 where
   pub copy : FormatCopy
   pub near : IsNearFormat unknown copy g l mask
@@ -53,8 +54,8 @@ pub record HasFormat (unknown : Grid) (v : ℕ) (g : Grid) (l : Level) (mask : �
       → rank_of copy (format_cost unknown g l mask) ≤ rank_of other (format_cost unknown g k n)
 
 -- The square `g` is a damaged form of a symbol of version `v` with the data codewords `message`. It has the side of
--- this version, it has to be read with the level `l` and the mask `mask`, and then its blocks can be mended to
--- `message` (ISO/IEC 18004:2015, 7.5.1, 7.9.1, 12)
+-- this version, and it has to be read with the level `l` and the mask `mask`. If it is read so, its blocks can be
+-- mended to `message` (ISO/IEC 18004:2015, 7.5.1, 7.9.1, 12)
 pub record IsDamagedForm (unknown g : Grid) (v : ℕ) (l : Level) (mask : ℕ) (message changed : List ℕ) : Type 0 where
   pub sized : IsOfVersion g v
   pub format : HasFormat unknown v g l mask
@@ -86,8 +87,8 @@ unfoldable pub wrong_modules : Grid → Grid → Grid → ℕ
 wrong_modules unknown g h = places_passing g.side (λ r c. colour unknown r c || differs g h r c)
 
 -- The undamaged symbol has the data codewords `message`, and `wrong` is the number of modules of `g` that were not read
--- or have another colour than in this symbol. Modules of function patterns, version information and remainder bits
--- count too (ISO/IEC 18004:2015, 7.5.2, 7.6, 7.7, 7.8)
+-- or have another colour than in this symbol. All modules count, also those of function patterns, version information
+-- and remainder bits (ISO/IEC 18004:2015, 7.5.2, 7.6, 7.7, 7.8)
 pub record DiffersFromSymbol (unknown g : Grid) (v : ℕ) (l : Level) (mask : ℕ) (message : List ℕ) (wrong : ℕ) : Type 0 where
   pub codewords : List ℕ
   pub interleaved : IsInterleaved v l message codewords
@@ -100,8 +101,8 @@ pub record HasWrongModules (unknown g : Grid) (v : ℕ) (l : Level) (mask : ℕ)
   pub form : IsDamagedForm unknown g v l mask message changed
   pub differs : DiffersFromSymbol unknown g v l mask message wrong
 
--- Some level and mask are near to a copy of the format information, but with no such level and mask can all blocks of
--- the square be mended (ISO/IEC 18004:2015, 7.5.1, 7.9.1, 12)
+-- The square has the side of a version. Some level and mask are near to a copy of its format information, but with no
+-- such level and mask can all blocks be mended (ISO/IEC 18004:2015, 7.5.1, 7.9.1, 12)
 pub record IsBeyondMending (unknown g : Grid) : Type 0 where
   pub version : ℕ
   pub sized : IsOfVersion g version
@@ -111,10 +112,10 @@ pub record IsBeyondMending (unknown g : Grid) : Type 0 where
   pub format : IsNearFormat unknown copy g level mask
   pub useless : (any : FormatCopy) → IsOfNoUse unknown any version g
 
--- The square `g` may be refused for the given fault. The fault may be `Side` if no version has this side, `Format` if
--- no level and mask are near to a copy, `Check` if with no such level and mask all blocks can be mended, and `Segments`
--- if the mended message cannot be parsed. `Memory` is possible for every square, and `Series` for none (ISO/IEC
--- 18004:2015, 12)
+-- The square `g` may be refused for the given fault. `Memory` is possible for every square, and `Series` for none.
+-- `Side` is possible if no version has the side of `g`. `Format` is possible if no level and mask are near to a copy,
+-- and `Check` if some are, but with none of them can all blocks be mended. `Segments` is possible if the mended message
+-- cannot be parsed (ISO/IEC 18004:2015, 12)
 abbrev pub IsUnmended : Grid → Grid → ReadFault → Type 0
 IsUnmended unknown g unread.Memory = Unit {0}
 IsUnmended unknown g unread.Side = (v : ℕ) → IsOfVersion g v → ⊥

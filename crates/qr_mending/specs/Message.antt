@@ -31,19 +31,21 @@ abbrev pub read_at : Grid → List Place → List ℕ → ℕ → Option ℕ
 read_at unknown places cw k =
     if list_any (λ m. colour unknown m.row m.col) (modules_of places k) then None else Some (slice_index cw k)
 
--- `interleaved` has an item for each codeword of the final sequence. `d` lists the items of the data codewords, block
--- by block, and `e` those of the error correction codewords (ISO/IEC 18004:2015, 7.5.1, 7.6)
+-- `interleaved` has an item for each codeword, in the order of the final sequence. These may be the codewords
+-- themselves, or their marks or indices. `d` lists the items of the data codewords, block by block, and `e` those of
+-- the error correction codewords in the same way (ISO/IEC 18004:2015, 7.5.1, 7.6)
 pub record AreInBlocks (b : Blocks) (interleaved d e : List ℕ) : Type 0 where
   pub gathered : IsGathered (data_sizes b) interleaved d
   pub rest : IsGathered (correction_sizes b) (drop (codeword_count (data_sizes b)) interleaved) e
 
 -- `indices` lists, block by block, the indices that the data codewords have in the final sequence, and `checks` lists
--- the indices of the error correction codewords (ISO/IEC 18004:2015, 7.6)
+-- those of the error correction codewords in the same way (ISO/IEC 18004:2015, 7.6)
 abbrev pub AreIndices : ℕ → Level → List ℕ → List ℕ → Type 0
 AreIndices v l indices checks = AreInBlocks (blocks_of v l) (range_with_len 0 (total_codewords_of v)) indices checks
 
--- `read` is what was read of block `i`, counted from 0. It can be mended to block `i` of `message` by at most `spare`
--- error correction codewords, and `misread` of its codewords are misread (ISO/IEC 18004:2015, 7.5.1)
+-- `read` is what was read of block `i`, counted from 0. It can be mended by at most `spare` error correction codewords,
+-- and then its data codewords are those of block `i` in `message`. `misread` is the number of misread codewords in
+-- `read` (ISO/IEC 18004:2015, 7.5.1)
 pub record IsMendedBlock (b : Blocks) (spare : ℕ) (read : List (Option ℕ)) (message : List ℕ) (misread i : ℕ) : Type 0 where
   pub correction : List ℕ
   pub corrects : IsCorrection (part_of (data_sizes b) message i) b.ec_len correction

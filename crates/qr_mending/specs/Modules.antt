@@ -1,4 +1,5 @@
--- Two squares `g` and `h` of which few modules differ. `places` is the order.
+-- Two squares `g` and `h` of which few modules differ, such as a damaged and an undamaged symbol. `places` is the
+-- order.
 use Rattle.std.specs.Prelude.{ℕ, ◌+◌, ◌<◌, ◌≤◌, List}
 use Rattle.std.specs.List.{count_by, sum_by}
 use Rattle.qr_layout.specs.declared.level.Level.{Level}
@@ -17,8 +18,9 @@ use Rattle.qr_mending.specs.Message.{modules_of, received, AreIndices}
 abbrev pub codeword_differences : Grid → Grid → List Place → ℕ → ℕ
 codeword_differences g h places k = count_by (λ m. differs g h m.row m.col) (modules_of places k)
 
--- The squares `g` and `h` differ in at most six of the 30 modules of format information. In each block they differ in
--- at most as many modules as misread codewords can be corrected in it (ISO/IEC 18004:2015, 7.5.1, 7.9.1)
+-- The squares `g` and `h` differ in at most six of the 30 modules of format information. In each block, the number of
+-- modules in which `g` and `h` differ is at most the number of misread codewords that can be corrected in this block
+-- (ISO/IEC 18004:2015, 7.5.1, 7.9.1)
 pub record DifferInFewModules (v : ℕ) (l : Level) (g h : Grid) : Type 0 where
   pub format : bit_differences 15 (copy_bit First g) (copy_bit First h) + bit_differences 15 (copy_bit Second g) (copy_bit Second h) ≤ 6
   pub places : List Place

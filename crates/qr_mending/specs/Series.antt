@@ -20,9 +20,9 @@ abbrev pub IsMendedSeries : List Grid → List ℕ → Type 0
 IsMendedSeries squares bytes = IsJoinedBy IsMendedContent squares bytes
 
 -- Mending the squares, reading them and joining their contents may fail with the fault `e`. `Memory` is always
--- possible. If some square cannot be mended and read, any other fault is that of the first such square. If all squares
--- can be mended and read, but their contents do not belong together, the fault is `Series` (ISO/IEC 18004:2015, 8.1 to
--- 8.3, 12)
+-- possible. `Series` is possible if all squares can be mended and read, but their contents are neither one plain
+-- content nor those of a whole series. Any other fault is possible if the first square that cannot be mended and read
+-- is refused for it (ISO/IEC 18004:2015, 8.1 to 8.3, 12)
 abbrev pub IsUnmendedSeries : List Grid → ReadFault → Type 0
 IsUnmendedSeries squares e = IsUnjoinedBy IsMendedContent (λ g. IsUnmended (light g.side) g) squares e
 

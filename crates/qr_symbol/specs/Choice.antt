@@ -6,7 +6,8 @@ use Rattle.qr_matrix.specs.Grid.{colour}
 use Rattle.qr_symbol.specs.Symbol.{grid_of}
 use Rattle.qr_matrix.specs.Penalty.{penalty_of}
 
--- `m` is the smallest number below `n` at which `f` has the least of its values for numbers below `n` [own]
+-- Of the numbers below `n`, `m` is the one at which `f` has the least value, and the smallest such number if there are
+-- several [own]
 pub record IsFirstLeast (n : ℕ) (f : ℕ → ℕ) (m : ℕ) : Type 0 where
   pub in_range : m < n
   pub least : (k : ℕ) → k < n → (f m < f k) ⊎ ((f m ≡ f k) × (m ≤ k))
@@ -16,7 +17,7 @@ pub record IsFirstLeast (n : ℕ) (f : ℕ → ℕ) (m : ℕ) : Type 0 where
 abbrev pub mask_penalty : ℕ → Level → List ℕ → ℕ → ℕ
 mask_penalty v l cw mask = penalty_of (side_of v) (colour (grid_of v l mask cw))
 
--- `mask` is the mask under which the symbol has the least penalty, and the smallest of these masks if there are several
--- (ISO/IEC 18004:2015, 7.8.3; among equals [own])
+-- `mask` is the number, from 0 to 7, of the mask under which the symbol has the least penalty, and the smallest such
+-- number if there are several (ISO/IEC 18004:2015, 7.8.3; among equals [own])
 abbrev pub IsMask : ℕ → Level → List ℕ → ℕ → Type 0
 IsMask v l cw mask = IsFirstLeast 8 (mask_penalty v l cw) mask

@@ -12,16 +12,16 @@ use Rattle.qr_symbol.specs.Reading.{IsMessage}
 abbrev pub blocks_in : ℕ → Level → ℕ
 blocks_in v l = block_count (data_sizes (blocks_of v l))
 
--- A square `grid`, and the data codewords `message` that it contains in version `v`, at level `l` and under the mask
--- `mask` [own]
+-- A square `grid` that can be read as a symbol of version `v` and level `l` with the mask `mask`, and the data
+-- codewords `message` of this symbol [own]
 pub record HeldMessage (v : ℕ) (l : Level) : Type 0 where
   pub mask : ℕ
   pub grid : Grid
   pub message : List ℕ
   pub is : IsMessage v l mask grid message
 
--- The codewords of block `i`, counted from 0, of the square in `m`: the block's data codewords, then its error
--- correction codewords (ISO/IEC 18004:2015, 7.5.1)
+-- The codewords of block `i`, counted from 0, of the symbol in the square `m.grid`. The data codewords of the block
+-- come first, then its error correction codewords (ISO/IEC 18004:2015, 7.5.1)
 abbrev pub held_block : (v : ℕ) (l : Level) → HeldMessage v l → ℕ → List ℕ
 held_block v l m i = block_of (blocks_of v l) m.message i ++ slice_index_or m.is.interleaved.corrections i []
 
@@ -32,10 +32,10 @@ MessagesLieApart v l =
     (m n : HeldMessage v l) → (m.message ≡ n.message → ⊥)
     → (i : ℕ) × (i < blocks_in v l) × ((blocks_of v l).ec_len + 1 ≤ differences (held_block v l m i) (held_block v l n i))
 
--- Let `read i` be what was read of block `i` of a damaged symbol, where an erased codeword is `None`. What was read
--- belongs to at most one message if two conditions hold for each block. At most `t i` of its codewords are misread. The
--- number of its erased codewords, plus twice `t i`, is at most the number of its error correction codewords (ISO/IEC
--- 18004:2015, 7.5.1)
+-- Let `read i` be what was read of block `i` of a damaged symbol, where an erased codeword is `None`, and let `t i` be
+-- any number. What was read belongs to at most one message if each block `i` meets two conditions. At most `t i` of its
+-- codewords are misread. The number of its erased codewords, plus twice `t i`, is at most the number of its error
+-- correction codewords (ISO/IEC 18004:2015, 7.5.1)
 abbrev pub DamagedMessagesAreOne : ℕ → Level → Type 0
 DamagedMessagesAreOne v l =
     (m n : HeldMessage v l) (read : ℕ → List (Option ℕ)) (t : ℕ → ℕ)

@@ -1,6 +1,6 @@
--- The final sequence of codewords: the interleaved data codewords of all blocks, then their interleaved error
--- correction codewords. Without interleaving, one block comes after the other. `c` are block sizes, and both blocks and
--- the codewords in a block are counted from 0.
+-- The final sequence of codewords. It consists of the data codewords of all blocks, interleaved, and then the error
+-- correction codewords of all blocks, interleaved. Other lists of codewords have one block after the other. `c` has the
+-- block sizes. Blocks are counted from 0, and so are the codewords in a block.
 use Rattle.std.specs.Prelude.{◌≡◌, ℕ, ◌+◌, ◌-◌, ◌*◌, ◌<◌, ◌⊎◌, nat_lt, if◌then◌else◌, List, [], ◌++◌, map, take, drop, length, slice_index_or}
 use Rattle.std.specs.List.{All, AllPairs, Contains}
 use Rattle.qr_field.specs.Polynomial.{IsCorrection}
@@ -18,7 +18,8 @@ block_count c = c.short + c.long
 abbrev pub block_len : BlockSizes → ℕ → ℕ
 block_len c i = if nat_lt i c.short then c.short_len else c.short_len + 1
 
--- The number of codewords before block `i`, counted from 0, or of all codewords if `i` is the number of blocks [own]
+-- How many codewords come before block `i`, counted from 0, or how many codewords there are in all if `i` is the number
+-- of blocks [own]
 abbrev pub start_of : BlockSizes → ℕ → ℕ
 start_of c i = c.short_len * i + (i - c.short)
 
@@ -30,8 +31,8 @@ codeword_count c = start_of c (block_count c)
 abbrev pub data_sizes : Blocks → BlockSizes
 data_sizes b = record { short = b.short; short_len = b.short_len; long = b.long }
 
--- The sizes of the blocks `b`, counted in error correction codewords. There are equally many in each, so all blocks are
--- short (ISO/IEC 18004:2015, 7.5.1)
+-- The sizes of the blocks `b`, counted in error correction codewords. Each block has equally many of them, so all
+-- blocks count as short (ISO/IEC 18004:2015, 7.5.1)
 abbrev pub correction_sizes : Blocks → BlockSizes
 correction_sizes b = record { short = b.short + b.long; short_len = b.ec_len; long = 0 }
 
@@ -41,8 +42,8 @@ pub record Position : Type 0 where
   pub place : ℕ
   pub block : ℕ
 
--- The codeword at position `t` comes before the one at position `u` in interleaved order: its index in its block is
--- smaller, or the indices are equal and its block comes first (ISO/IEC 18004:2015, 7.6)
+-- The codeword at position `t` comes before the one at position `u` in interleaved order. Either `t` has the smaller
+-- index in a block, or both indices are equal and the block of `t` comes before that of `u` (ISO/IEC 18004:2015, 7.6)
 abbrev pub ComesBefore : Position → Position → Type 0
 ComesBefore t u = (t.place < u.place) ⊎ ((t.place ≡ u.place) × (t.block < u.block))
 
@@ -92,8 +93,8 @@ pub record IsFinalMessage (b : Blocks) (d cw : List ℕ) : Type 0 where
 abbrev pub IsInterleaved : ℕ → Level → List ℕ → List ℕ → Type 0
 IsInterleaved v l d cw = IsFinalMessage (blocks_of v l) d cw
 
--- `interleaved` begins with the codewords of all blocks in interleaved order. `xs` lists the same codewords, one block
--- after the other (ISO/IEC 18004:2015, 7.6)
+-- `interleaved` begins with the codewords of all blocks in interleaved order, and `xs` lists the same codewords block
+-- by block (ISO/IEC 18004:2015, 7.6)
 pub record IsGathered (c : BlockSizes) (interleaved xs : List ℕ) : Type 0 where
   pub long : length xs ≡ codeword_count c
   pub positions : List Position

@@ -1,10 +1,11 @@
--- What laws need: the first rows of the masks, which were also worked out by hand, and the number that bits form.
+-- What the laws of this crate need to check examples. The first rows of each mask are computed here from `inverts`, and
+-- also listed as they were worked out by hand. The bits of format or version information are put together as a number.
 use Rattle.std.specs.Prelude.{ℕ, ◌-◌, Bool, List, [], ◌∷◌, map}
 use Rattle.std.specs.List.{range_with_len}
 use Rattle.qr_bits.specs.Bits.{value}
 use Rattle.qr_symbol.specs.Mask.{inverts}
 
--- All masks of Table 10, which are the numbers from 0 to 7 (ISO/IEC 18004:2015, 7.8.2)
+-- The numbers of the masks of Table 10, from 0 to 7 (ISO/IEC 18004:2015, 7.8.2)
 abbrev pub all_masks : List ℕ
 all_masks = range_with_len 0 8
 
@@ -26,6 +27,6 @@ computed_rows =
     (0b111111 ∷ 0b111000 ∷ 0b110110 ∷ 0b101010 ∷ 0b101101 ∷ 0b100011 ∷ 0b111111 ∷ 0b111000 ∷ 0b110110 ∷ 0b101010 ∷ 0b101101 ∷ 0b100011 ∷ []) ∷
     (0b101010 ∷ 0b000111 ∷ 0b100011 ∷ 0b010101 ∷ 0b111000 ∷ 0b011100 ∷ 0b101010 ∷ 0b000111 ∷ 0b100011 ∷ 0b010101 ∷ 0b111000 ∷ 0b011100 ∷ []) ∷ []
 
--- The number with `n` binary digits, of which the highest is `bit (n - 1)` and the lowest `bit 0` [own]
+-- The number with `n` binary digits, of which the highest is `bit (n - 1)` and the lowest is `bit 0` [own]
 abbrev pub bits_down : ℕ → (ℕ → Bool) → ℕ
 bits_down n bit = value (map (λ i. bit (n - 1 - i)) (range_with_len 0 n))

@@ -1,8 +1,8 @@
 -- The eight masks, numbered from 0.
 use Rattle.std.specs.Prelude.{ℕ, ◌+◌, ◌*◌, ◌/◌, ◌%◌, ◌==◌, Bool, if◌then◌else◌, not}
 
--- The mask with the number `mask` inverts a module of the region in row `r` and column `c`. Whether this place is in
--- the region is not tested here (ISO/IEC 18004:2015, 7.8.2, Table 10)
+-- The mask with the number `mask` inverts the module in row `r` and column `c`, if this place is in the region. Whether
+-- it is in the region is not tested here (ISO/IEC 18004:2015, 7.8.2, Table 10)
 unfoldable pub inverts : ℕ → ℕ → ℕ → Bool
 inverts mask r c =
     if mask == 0 then (r + c) % 2 == 0

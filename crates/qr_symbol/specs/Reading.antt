@@ -1,5 +1,5 @@
 -- How a square `g` is read as a symbol. `v` is its version, `l` its level, and `mask` its mask. Nothing here uses
--- `grid_of`, by which symbols are drawn.
+-- `grid_of`, by which symbols are drawn. So reading and drawing are stated apart, and laws say that they agree.
 use Rattle.std.specs.Prelude.{◌≡◌, ◌≢◌, ℕ, ◌-◌, ◌*◌, ◌<◌, ◌≤◌, Bool, false, List, ◌++◌, map, take, length, replicate, Option, Result, Ok, Err, None}
 use Rattle.std.specs.List.{All}
 use Rattle.qr_layout.specs.declared.level.Level.{Level}
@@ -32,8 +32,8 @@ abbrev pub unmasked : ℕ → Grid → Place → Bool
 unmasked mask g m = inverted (inverts mask m.row m.col) (colour g m.row m.col)
 
 -- The bits of all codewords of version `v`, read from the modules `ms` in turn. Each bit is the colour of a module with
--- the mask undone, where `true` is dark. Modules after the last codeword are left out. If there are too few modules,
--- the bits that are missing are `false` (ISO/IEC 18004:2015, 7.7.3, 12)
+-- the mask undone, where `true` is dark. Modules that come after those of the last codeword are left out. If there are
+-- too few modules, the bits that are missing are `false` (ISO/IEC 18004:2015, 7.7.3, 12)
 abbrev pub read_bits : ℕ → ℕ → Grid → List Place → List Bool
 read_bits v mask g ms = map (unmasked mask g) (take (8 * total_codewords_of v) ms) ++ replicate (8 * total_codewords_of v - length ms) false
 
@@ -45,7 +45,8 @@ pub record IsRead (v mask : ℕ) (g : Grid) (cw : List ℕ) : Type 0 where
   pub order : IsOrder v places
   pub bits : bits_of cw ≡ read_bits v mask g places
 
--- `cw` are the codewords in the region of the square `g`, read in the standard's order. No mask is undone (ISO/IEC
+-- `cw` are the codewords that the region of the square `g` contains, read in the standard's order. No mask is undone.
+-- So `g` is a square in which the mask was undone before, or a square that is dark where a module was not read (ISO/IEC
 -- 18004:2015, 7.7.3)
 pub record IsReadUnmasked (v : ℕ) (g : Grid) (cw : List ℕ) : Type 0 where
   pub bytes : All (λ x. x < 256) cw
@@ -78,8 +79,9 @@ pub record IsOfVersion (g : Grid) (v : ℕ) : Type 0 where
   pub most : v ≤ 40
   pub side : g.side ≡ side_of v
 
--- The square has the side of a version and the format information of a level and mask, its codewords are a final
--- sequence, and parsing their data codewords yields `outcome` (ISO/IEC 18004:2015, 12)
+-- The square `g` has the side of some version, and the format information of some level and mask. Its codewords are the
+-- final sequence of some data codewords. Parsing these data codewords yields `outcome`, which is a content or a fault
+-- (ISO/IEC 18004:2015, 12)
 pub record IsParsedAs (g : Grid) (outcome : Result Content ParseFault) : Type 0 where
   pub version : ℕ
   pub level : Level
@@ -95,9 +97,9 @@ pub record IsParsedAs (g : Grid) (outcome : Result Content ParseFault) : Type 0 
 abbrev pub IsReading : Grid → Content → Type 0
 IsReading g content = IsParsedAs g (Ok content)
 
--- What a symbol of the bytes `x` with the interpretation `i` has to be read as: the optional header `h`, the ECI header
--- or FNC1 of the interpretation, then the segments, and the bytes `x` for which the characters of the segments stand
--- (ISO/IEC 18004:2015, 7.4.2, 7.4.8.2)
+-- The content that has to be read from a symbol. It has the header `h`, if there is one, the ECI header or FNC1 of the
+-- interpretation `i`, then the segments, and the bytes `x`, for which the characters of the segments stand (ISO/IEC
+-- 18004:2015, 7.4.2, 7.4.8.2)
 abbrev pub interpreted_content : Interpretation → Option Header → List Segment → List ℕ → Content
 interpreted_content i h segments x = record { header = h; items = items_in i segments; ecis = ecis_in i; bytes = x }
 
@@ -107,15 +109,16 @@ abbrev pub IsInterpreted : Interpretation → Content → Type 0
 IsInterpreted i c = (c.ecis ≡ ecis_in i) × (fnc1_of c.items ≡ fnc1_in i)
 
 -- The square `g` is read as the bytes `x` with the interpretation `i`, without a structured append header. The segments
--- that are read are those of fewest bits in the modes that `rule` allows (ISO/IEC 18004:2015, 12)
+-- that are read are those of fewest bits for `x` in version `v`, in the modes that `rule` allows (ISO/IEC 18004:2015,
+-- 12)
 abbrev pub IsReadBack : ℕ → Rule → Interpretation → List ℕ → Grid → Type 0
 IsReadBack v rule i x g = (segments : List Segment) × (characters : List ℕ) × IsLeastSegmentation i v rule x characters segments
     × IsReading g (interpreted_content i None segments x)
 
 -- Reading the square `g` may fail with the given fault. `Memory` is always possible, and `Series` never. Of the other
--- faults at most one applies: `Side` if no version has this side; otherwise `Format` if the format information belongs
--- to no level and mask; otherwise `Check` if the codewords are no final sequence; otherwise `Segments` if the data
--- codewords cannot be parsed (ISO/IEC 18004:2015, 12)
+-- faults at most one applies: `Side` if no version has the side of `g`; otherwise `Format` if the format information
+-- belongs to no level and mask; otherwise `Check` if the codewords are not the final sequence of any data codewords;
+-- otherwise `Segments` if the data codewords cannot be parsed (ISO/IEC 18004:2015, 12)
 abbrev pub IsUnread : Grid → ReadFault → Type 0
 IsUnread g unread.Memory = Unit {0}
 IsUnread g unread.Side = (v : ℕ) → IsOfVersion g v → ⊥

@@ -1,4 +1,4 @@
--- The series of symbols of the bytes `x` at version `v` and level `l`, the standard's Structured Append; `rule`
+-- The series of symbols of the bytes `x` at version `v` and level `l`, the standard's Structured Append. `rule`
 -- determines the allowed modes, and `i` how the bytes are to be interpreted.
 use Rattle.std.specs.Prelude.{◌≡◌, ◌⊎◌, ℕ, ◌+◌, ◌-◌, ◌<◌, ◌≤◌, List, [], ◌∷◌, length, take, drop, map, Option, None, Some}
 use Rattle.std.specs.List.{All, concat}
@@ -18,31 +18,31 @@ use Rattle.qr_symbol.specs.VersionChoice.{FitsVersion}
 abbrev pub squares_of : List Symbol → List Grid
 squares_of symbols = map (λ s. s.matrix) symbols
 
--- `x` is cut into these parts, and none of them is empty. Each part begins where the one before it ends, and is the
--- longest that fits a symbol with a header [own]
+-- `x` is cut into these parts, and none of them is empty. Each part begins where the part before it ends, and is the
+-- longest possible part that fits a symbol with a structured append header [own]
 unfoldable pub AreParts : ℕ → Level → Rule → Interpretation → List ℕ → List (List ℕ) → Type 0
 AreParts v l rule i x [] = x ≡ []
 AreParts v l rule i x (p ∷ ps) = (n : ℕ) × (0 < n) × IsLongestFit i v rule x (room_of v l i) n × (p ≡ take n x)
     × AreParts v l rule i (drop n x) ps
 
--- The parts, one after the other, make up `x`, and each fits a symbol with a header. A part may be empty, and need not
--- be the longest that fits [own]
+-- The parts, one after the other, make up `x`, and each fits a symbol with a structured append header. Unlike in
+-- `AreParts`, a part may be empty, and need not be the longest that fits [own]
 abbrev pub FitParts : ℕ → Level → Rule → Interpretation → List ℕ → List (List ℕ) → Type 0
 FitParts v l rule i x parts = (x ≡ concat parts) × All (λ p. HasFit i v rule p (room_of v l i)) parts
 
--- However `x` is cut into parts that fit symbols with headers, there are at least `n` parts [own]
+-- However `x` is cut into parts that fit symbols with structured append headers, there are at least `n` parts [own]
 abbrev pub NeedsParts : ℕ → Level → Rule → Interpretation → List ℕ → ℕ → Type 0
 NeedsParts v l rule i x n = (parts : List (List ℕ)) → FitParts v l rule i x parts → n ≤ length parts
 
--- `s` is the symbol of version `v` and level `l` that contains the optional header `h` and the bytes `x`. Its mask is
--- the one with the least penalty (ISO/IEC 18004:2015, 7.1, 8.1)
+-- `s` is the symbol of version `v` and level `l` that contains the structured append header `h`, if there is one, and
+-- the bytes `x`. The mask of this symbol is the one with the least penalty (ISO/IEC 18004:2015, 7.1, 8.1)
 pub record IsSymbolOf (v : ℕ) (l : Level) (rule : Rule) (i : Interpretation) (x : List ℕ) (h : Option Header) (s : Symbol) : Type 0 where
   pub version : s.version ≡ v
   pub level : s.level ≡ l
   pub made : IsSymbolAt v l rule i x h s.mask s.matrix
 
 -- There are as many symbols as parts. Each symbol contains its part, and a header with the numbers `last` and `parity`.
--- The header of the first symbol has the position `k`, and each further header has a position that is greater by 1
+-- The header of the first symbol has the position `k`, and from each symbol to the next the position rises by 1
 -- (ISO/IEC 18004:2015, 8.1 to 8.3)
 unfoldable pub AreSymbolsFrom : ℕ → Level → Rule → Interpretation → (last parity k : ℕ) → List (List ℕ) → List Symbol → Type 0
 AreSymbolsFrom v l rule i last parity k [] [] = Unit {0}
@@ -53,7 +53,8 @@ AreSymbolsFrom v l rule i last parity k (p ∷ ps) (s ∷ ss) =
     × AreSymbolsFrom v l rule i last parity (k + 1) ps ss
 
 -- `x` does not fit one symbol without a header. It is cut into at most 16 parts, and `symbols` are the symbols of these
--- parts. Their headers have the number of symbols less 1 and the parity data of `x` [own]
+-- parts, in order. The header of each symbol has its position, counted from 0, the number of symbols less 1, and the
+-- parity data of `x` [own]
 pub record IsSplit (v : ℕ) (l : Level) (rule : Rule) (i : Interpretation) (x : List ℕ) (symbols : List Symbol) : Type 0 where
   pub too_long : FitsVersion v l rule i x → ⊥
   pub parts : List (List ℕ)

@@ -9,8 +9,9 @@ use Rattle.qr_bits.specs.Segmentation.{HasFit}
 use Rattle.qr_bits.specs.Padding.{capacity_of}
 use Rattle.qr_bits.specs.Interpretation.{interpretation_bits}
 
--- `x` fits a plain symbol of version `v`. The segments have room for as many bits as the symbol's capacity, less the
--- bits of the ECI header or FNC1 of the interpretation (ISO/IEC 18004:2015, 7.4.2, 7.4.8.2, 7.4.10, Table 7)
+-- `x` fits a plain symbol of version `v` and level `l`: some valid assignment takes no more bits than the symbol's
+-- capacity less the bits of the ECI header or FNC1 of the interpretation (ISO/IEC 18004:2015, 7.4.2, 7.4.8.2, 7.4.10,
+-- Table 7)
 abbrev pub FitsVersion : ℕ → Level → Rule → Interpretation → List ℕ → Type 0
 FitsVersion v l rule i x = HasFit i v rule x (capacity_of v l - interpretation_bits i)
 

@@ -1,5 +1,7 @@
--- The table of best modes. It has a row for each byte, with the best mode of the byte for each state before it. `rest`
--- has the best choices of the next byte.
+-- The table of best modes. It has a row for each byte, with the best mode of the byte for each state that may come
+-- before it. (The file `RunState` says what a state is.) A choice is a mode of a byte, with the number of bits that
+-- this byte and all later ones then take. `rest` has the best choices of the next byte, one for each state after the
+-- byte. `pair` says that the byte may begin a kanji pair.
 use Rattle.std.specs.Prelude.{◌≡◌, ℕ, ◌+◌, ◌<◌, ◌/◌, ◌%◌, ◌^◌, Bool, List, [], ◌∷◌, IsTrue}
 use Rattle.qr_bits.specs.declared.modes.Mode.{Mode}
 use Rattle.qr_bits.specs.declared.modes.Mode.TheVariants.{Alphanumeric}
@@ -12,7 +14,7 @@ use Rattle.qr_bits.specs.declared.interpretation.Interpretation.{Interpretation}
 use Rattle.qr_bits.specs.Interpretation.{character_for}
 use Rattle.qr_bits.specs.Steps.RunState.{state_after, state_in, cost_in, may_begin, allowed_in, choice_number, ranked, IsBestRest, IsChoice}
 
--- The choice that `b` has for the given state. A choice is one number: 4 times its bits, plus the rank of its mode
+-- The choice that `b` has for the given state. It is stored as one number: 4 times its bits, plus the rank of its mode
 unfoldable pub in_state : PerState → RunState → ℕ
 in_state b Start = b.start
 in_state b Digit1 = b.digit1
@@ -34,20 +36,21 @@ abbrev pub character_choice : Interpretation → ℕ → Rule → ℕ → Bool �
 character_choice i v r x pair rest p =
     choice_number (may_begin r (character_for i x Alphanumeric) pair Alphanumeric) (cost_in i v p x Alphanumeric + bits_at rest (state_in i p x Alphanumeric)) Alphanumeric
 
--- `c` has the choices of alphanumeric mode for the byte `x`, as numbers: the choice if `x` begins a segment, the one
--- after the first character of a group, and the one after the second
+-- `c` has three choices of alphanumeric mode for the byte `x`, as numbers. They are for three states: `x` begins a
+-- segment, `x` comes after the first character of a group of two, or `x` comes after the second
 abbrev pub AreCharacterChoices : Interpretation → ℕ → Rule → ℕ → Bool → PerState → CharacterChoices → Type 0
 AreCharacterChoices i v r x pair rest c =
     (c.first ≡ character_choice i v r x pair rest Start) × (c.second ≡ character_choice i v r x pair rest Character1) × (c.next ≡ character_choice i v r x pair rest Character2)
 
--- All choices are below 40,000,000. The choices of inputs of at most `INPUT_MAX` bytes do not reach this bound, and the
--- bits of one more byte can be added to it in 32 bits
+-- All choices, as numbers, are below 40,000,000. The choices of inputs of at most `INPUT_MAX` bytes do not reach this
+-- bound. A choice below it, with the bits of one more byte, still has room in 32 bits
 abbrev pub IsSmall : PerState → Type 0
 IsSmall n =
     (n.start < 40000000) × (n.digit1 < 40000000) × (n.digit2 < 40000000) × (n.digit3 < 40000000) × (n.character1 < 40000000)
     × (n.character2 < 40000000) × (n.in_bytes < 40000000) × (n.half_pair < 40000000) × (n.whole_pair < 40000000)
 
--- Where a row has the mode for a state: it takes two bits, and this is the index of the lower of them
+-- A row is a number in which each state has two bits, for the mode that is best after this state. The value is the
+-- index of the lower of the two bits, where bit 0 is the lowest of the row
 abbrev pub shift_of : RunState → ℕ
 shift_of Start = 0
 shift_of Digit1 = 2
@@ -67,20 +70,20 @@ mode_at row p = ranked (row / 2 ^ shift_of p % 4)
 abbrev pub IsRow : Interpretation → ℕ → Rule → ℕ → Bool → PerState → ℕ → PerState → Type 0
 IsRow i v r x pair rest row numbers = (p : RunState) → IsChoice i v r p x pair (bits_at rest) (mode_at row p) (bits_at numbers p)
 
--- The modes that are read from the rows, one from each row. The first row is read for the state `p`, and each mode
--- leads to the state for which the next row is read
+-- The modes that are read from the rows, one from each row. The first row is read for the state `p`. Each further row
+-- is read for the state after the mode that was read from the row before
 unfoldable pub follow : RunState → List ℕ → List Mode
 follow p [] = []
 follow p (row ∷ rows) = mode_at row p ∷ follow (state_after p (mode_at row p)) rows
 
 -- The modes that are read from the rows for the bytes `xs`, one from each row. The first row is read for the state `p`.
--- The next row is read for the state to which the one or two characters lead that are written for the byte
+-- Each further row is read for the state after the byte before it, which may be written as one or two characters
 unfoldable pub follow_in : Interpretation → RunState → List ℕ → List ℕ → List Mode
 follow_in i p [] rows = []
 follow_in i p (x ∷ xs) [] = []
 follow_in i p (x ∷ xs) (row ∷ rows) = mode_at row p ∷ follow_in i (state_in i p x (mode_at row p)) xs rows
 
--- For each state after which some assignment to the bytes `xs` is allowed, the modes that are read from the rows are
--- the best assignment
+-- For each state `p`, the modes that are read from the rows are the best assignment to the bytes `xs` after this state,
+-- if any assignment is allowed after it
 abbrev pub IsBestTable : Interpretation → ℕ → Rule → (ℕ → ℕ → Bool) → List ℕ → List ℕ → Type 0
 IsBestTable i v r test xs rows = (p : RunState) (ks : List Mode) → IsTrue (allowed_in i r test p xs ks) → (n : ℕ) × IsBestRest i v r test p xs (follow_in i p xs rows) n

@@ -25,8 +25,8 @@ state_after _ Byte = InBytes
 state_after HalfPair Kanji = WholePair
 state_after _ Kanji = HalfPair
 
--- The state after one more byte in the mode of the last byte. For `Start`, which has no last byte, the mode is byte
--- mode
+-- The state after one more byte. This byte has the mode of the byte before it, or byte mode after `Start`, where no
+-- byte comes before it
 unfoldable pub state_on : RunState → RunState
 state_on Start = InBytes
 state_on Digit1 = Digit2
@@ -84,14 +84,14 @@ unfoldable pub may_end : RunState → Bool
 may_end HalfPair = false
 may_end _ = true
 
--- After the state `p` the bytes may have the given modes, one mode for each byte
+-- If the state before the bytes is `p`, the bytes may have the given modes, one mode for each byte
 unfoldable pub allowed : Rule → (ℕ → ℕ → Bool) → RunState → List ℕ → List Mode → Bool
 allowed r test p [] [] = may_end p
 allowed r test p [] (m ∷ ms) = false
 allowed r test p (x ∷ xs) [] = false
 allowed r test p (x ∷ xs) (m ∷ ms) = may_take r p x (begins_with_pair r test (x ∷ xs)) m && allowed r test (state_after p m) xs ms
 
--- How many bits are added by bytes of the given modes, if the state before the first of them is `p`
+-- How many bits are added by bytes of the given modes, if the state before the first of these bytes is `p`
 unfoldable pub cost_of : ℕ → RunState → List Mode → ℕ
 cost_of v p [] = 0
 cost_of v p (m ∷ ms) = byte_cost v p m + cost_of v (state_after p m) ms
@@ -115,23 +115,23 @@ cost_in i v p x m = if is_doubled i x m then byte_cost v p m + byte_cost v (stat
 abbrev pub may_take_in : Interpretation → Rule → RunState → ℕ → Bool → Mode → Bool
 may_take_in i r p x pair m = may_take r p (character_for i x m) pair m
 
--- After the state `p` the bytes may have the given modes, one mode for each byte. A mode has to suit the character that
--- is written for its byte, which in GS1 data may differ from the byte
+-- If the state before the bytes is `p`, the bytes may have the given modes, one mode for each byte. A mode has to suit
+-- the character that is written for its byte, which in GS1 data may differ from the byte
 unfoldable pub allowed_in : Interpretation → Rule → (ℕ → ℕ → Bool) → RunState → List ℕ → List Mode → Bool
 allowed_in i r test p [] [] = may_end p
 allowed_in i r test p [] (m ∷ ms) = false
 allowed_in i r test p (x ∷ xs) [] = false
 allowed_in i r test p (x ∷ xs) (m ∷ ms) = may_take_in i r p x (begins_with_pair r test (x ∷ xs)) m && allowed_in i r test (state_in i p x m) xs ms
 
--- How many bits are added by the characters that are written for the bytes, if the bytes have the modes of the list and
--- `p` is the state before the first of them
+-- How many bits are added by the characters that are written for the bytes, if the bytes have the given modes and the
+-- state before the first byte is `p`
 unfoldable pub cost_of_all : Interpretation → ℕ → RunState → List ℕ → List Mode → ℕ
 cost_of_all i v p [] ms = cost_of v p ms
 cost_of_all i v p (x ∷ xs) [] = 0
 cost_of_all i v p (x ∷ xs) (m ∷ ms) = cost_in i v p x m + cost_of_all i v (state_in i p x m) xs ms
 
 -- Of the assignments to the bytes `xs` that are allowed after the state `p`, none adds fewer bits than `ms`, which adds
--- `n`. Of several that add `n` bits, `ms` is the first in lexicographic order
+-- `n`. Of all that add `n` bits, `ms` is the first in lexicographic order by the ranks of the modes
 pub record IsBestRest (i : Interpretation) (v : ℕ) (r : Rule) (test : ℕ → ℕ → Bool) (p : RunState) (xs : List ℕ) (ms : List Mode) (n : ℕ) : Type 0 where
   pub is_allowed : IsTrue (allowed_in i r test p xs ms)
   pub has_bits : cost_of_all i v p xs ms ≡ n
@@ -139,8 +139,8 @@ pub record IsBestRest (i : Interpretation) (v : ℕ) (r : Rule) (test : ℕ → 
   pub first : (ks : List Mode) → IsTrue (allowed_in i r test p xs ks) → cost_of_all i v p xs ks ≡ n → IsNotAfter ms ks
 
 -- `m` is the best mode that the byte `x` may have after the state `p`. With `m`, this byte and the later ones add `n`
--- bits, and with no other mode fewer. Of several modes with which they add `n` bits, `m` has the lowest rank. The later
--- bytes add `cost q` bits if the state after `x` is `q`
+-- bits together, and with no other mode they add fewer. Of all modes with which they add `n` bits, `m` has the lowest
+-- rank. The later bytes add `cost q` bits if the state after `x` is `q`
 pub record IsChoice (i : Interpretation) (v : ℕ) (r : Rule) (p : RunState) (x : ℕ) (pair : Bool) (cost : RunState → ℕ) (m : Mode) (n : ℕ) : Type 0 where
   pub is_allowed : IsTrue (may_take_in i r p x pair m)
   pub has_bits : n ≡ cost_in i v p x m + cost (state_in i p x m)

@@ -9,17 +9,19 @@ use Rattle.qr_mending.specs.Format.{IsNearFormat}
 use Rattle.qr_mending.specs.Mending.{HasFormat, HoldsDamaged, IsOfNoUse}
 use Rattle.qr_mending.specs.Steps.Message.{HasCorrections}
 
--- If the square is read with the level `l` and the mask `mask`, not all of its blocks can be mended.
+-- With the level `l` and the mask `mask`, some block of the square cannot be mended.
 abbrev pub HoldsNone : Grid → ℕ → Level → ℕ → Grid → Type 0
 HoldsNone unknown v l mask g = (message changed : List ℕ) → HoldsDamaged unknown v l mask g message changed → ⊥
 
--- `m` has a level, a mask, and the blocks of the square as they are mended with this level and mask.
+-- With the level and the mask in `m`, all blocks of the square can be mended. `m` also has the mended data codewords,
+-- the number of misread codewords in each block, and the error correction codewords that belong to the mended data
+-- codewords.
 pub record IsMendedSquare (unknown : Grid) (v : ℕ) (g : Grid) (m : MendedSquare) : Type 0 where
   pub held : HoldsDamaged unknown v m.level m.mask g m.message.items m.changed.items
   pub corrections : HasCorrections v m.level m.message.items m.corrections.items
 
--- If `near` is a level and a mask with which all blocks of the square can be mended, `o` is the square that is mended
--- with them. Otherwise `o` is `None`.
+-- If `near` has a level and a mask, and all blocks of the square can be mended with them, `o` is the square that is
+-- mended with them. Otherwise `o` is `None`.
 abbrev pub IsMendedWith : Grid → ℕ → Grid → Option (Level × ℕ) → Option MendedSquare → Type 0
 IsMendedWith unknown v g near o = MatchOption o (IfSome near (λ f. HoldsNone unknown v f.0 f.1 g))
     (λ m. (near ≡ Some (m.level, m.mask)) × IsMendedSquare unknown v g m)
@@ -30,8 +32,8 @@ abbrev pub IsMendedBy : Grid → ℕ → Grid → FormatCopy → Option MendedSq
 IsMendedBy unknown v g copy o = MatchOption o (IsOfNoUse unknown copy v g)
     (λ m. IsNearFormat unknown copy g m.level m.mask × IsMendedSquare unknown v g m)
 
--- `o` is the square, mended with the level and the mask by which it has to be read. It is `None` if with every level
--- and mask that are near to a copy, some block cannot be mended.
+-- `o` is the square, mended with the level and the mask by which it has to be read. If with each level and mask that
+-- are near to a copy some block cannot be mended, `o` is `None`.
 abbrev pub IsMendedByEither : Grid → ℕ → Grid → Option MendedSquare → Type 0
 IsMendedByEither unknown v g o = MatchOption o ((any : FormatCopy) → IsOfNoUse unknown any v g)
     (λ m. HasFormat unknown v g m.level m.mask × IsMendedSquare unknown v g m)

@@ -24,8 +24,9 @@ abbrev pub list_of : ℕ → Marks → List ℕ
 list_of n interleaved.AllZero = zeros n
 list_of n (interleaved.Each marks) = marks.items
 
--- `parts` has the same marks of a symbol as the given `Marks`, but in the order of the blocks and not in that of the
--- final sequence. If one of the two has no list, since every module was read, the other has none either
+-- The given `MarksInBlocks` are the same marks of a symbol as the given `Marks`. `MarksInBlocks` lists the marks block
+-- by block, and `Marks` lists them in the order of the final sequence. If one of the two has no list, since every
+-- module was read, the other has none either
 abbrev pub AreMarksInBlocks : Blocks → Marks → MarksInBlocks → Type 0
 AreMarksInBlocks b interleaved.AllZero parted.AllZero = Unit {0}
 AreMarksInBlocks b interleaved.AllZero (parted.Each parts) = ⊥
@@ -33,14 +34,14 @@ AreMarksInBlocks b (interleaved.Each marks) parted.AllZero = ⊥
 AreMarksInBlocks b (interleaved.Each marks) (parted.Each parts) =
     AreInBlocks b marks.items parts.data.items parts.checks.items
 
--- No list of marks was made, since every module was read, or there is a mark for each codeword
+-- There is a mark for each codeword of the symbol, or no list of marks was made, since every module was read
 abbrev pub AreWhole : Blocks → MarksInBlocks → Type 0
 AreWhole b parted.AllZero = Unit {0}
 AreWhole b (parted.Each parts) = (length parts.data.items ≡ codeword_count (data_sizes b))
     × (length parts.checks.items ≡ codeword_count (correction_sizes b))
 
--- The marks of the codewords of block `i`, counted from 0. If all marks of the symbol are 0, the list is empty, which
--- means the same, since codewords past the end of their marks count as read
+-- The marks of the codewords of block `i`, counted from 0. If no list of marks was made, since every module was read,
+-- this list is empty. A codeword without a mark counts as read
 abbrev pub marks_at : Blocks → MarksInBlocks → ℕ → List ℕ
 marks_at b parted.AllZero i = []
 marks_at b (parted.Each parts) i = received b parts.data.items parts.checks.items i

@@ -1,6 +1,6 @@
--- Polynomials with the leading coefficient 1, and the search for the error locator polynomial. A polynomial solves the
--- equation of a list `window` if its coefficients, each multiplied by the item of `window` at the same index, add up to
--- 0. The window of equation j is the list of the syndromes from index j on.
+-- Polynomials with the leading coefficient 1, and the search for the error locator polynomial. A list `window` stands
+-- for an equation: each coefficient of a polynomial is multiplied by the item of `window` at the same index, and the
+-- products have to add up to 0. For equation j the window is the list of the syndromes from index j on.
 use Rattle.std.specs.Prelude.{◌≡◌, ℕ, ◌+◌, ◌*◌, ◌<◌, ◌≤◌, List, take, drop, length, slice_index}
 use Rattle.std.specs.List.{All}
 use Rattle.qr_field.specs.Polynomial.{IsByte}
@@ -17,13 +17,13 @@ all_of p = take (p.degree + 1) p.terms
 abbrev pub IsMonic : Polynomial → Type 0
 IsMonic p = slice_index p.terms p.degree ≡ 1
 
--- The sum of the coefficients of `p`, that of the lowest power first, each multiplied by the item of `window` at the
--- same index. If it is 0, the equation is solved.
+-- The sum of products of the coefficients of `p` and the items of `window`: the coefficient of x^k is multiplied by
+-- item k, counted from 0. If the sum is 0, `p` solves the equation of `window`.
 abbrev pub discrepancy_of : Polynomial → List ℕ → ℕ
 discrepancy_of p window = dot_of (all_of p) window
 
--- `p` has the leading coefficient 1, and solves all equations for which the first `i` of the syndromes `s` are enough.
--- Equation j says that the products of the coefficients and the syndromes from index j on add up to 0.
+-- `p` has the leading coefficient 1, and solves each equation for which the first `i` of the syndromes `s` are enough:
+-- for equation j, the products of the coefficients and the syndromes from index j on add up to 0.
 pub record IsBest (i : ℕ) (s : List ℕ) (p : Polynomial) : Type 0 where
   pub bytes : All IsByte (all_of p)
   pub count : length (all_of p) ≡ p.degree + 1
@@ -31,8 +31,9 @@ pub record IsBest (i : ℕ) (s : List ℕ) (p : Polynomial) : Type 0 where
   pub solved : (j : ℕ) → j + p.degree < i → discrepancy_of p (drop j s) ≡ 0
 
 -- The search for the error locator polynomial after the first `i` of the syndromes `s`. The polynomial `best` solves
--- all equations for which these are enough. Of the equations with an index below its degree, `earlier` solves all but
--- the last, in which it has the sum `discrepancy`.
+-- all equations for which these are enough. If `best` does not solve the next equation, a multiple of `earlier` will be
+-- added to it. `earlier` itself fails first for the equation whose index is 1 less than the degree of `best`: there its
+-- sum of products is `discrepancy`, which is not 0.
 pub record IsSearch (i : ℕ) (s : List ℕ) (search : Search) : Type 0 where
   pub best : IsBest i s search.best
   pub bytes : All IsByte (all_of search.earlier)
@@ -41,9 +42,9 @@ pub record IsSearch (i : ℕ) (s : List ℕ) (search : Search) : Type 0 where
   pub before : (j : ℕ) → j + 1 < search.best.degree → discrepancy_of search.earlier (drop j s) ≡ 0
   pub last : (j : ℕ) → j + 1 ≡ search.best.degree → discrepancy_of search.earlier (drop j s) ≡ search.discrepancy
 
--- `progress` has the first syndromes of a block with the remainder `r`, and the search for its error locator
--- polynomial. The search has taken in `taken` of these syndromes, at most 2`t`, and the degree of the polynomial `best`
--- that it has found is at most `t`.
+-- `progress` has the first syndromes of a block, and the search for its error locator polynomial. Division of the block
+-- by the generator polynomial leaves the remainder `r`. The search has taken in the first `taken` of the syndromes, at
+-- most 2`t`. The degree of the polynomial `best` that it has found is at most `t`.
 pub record IsProgress (t : ℕ) (r : List ℕ) (progress : Progress) : Type 0 where
   pub values : HasValues progress.syndromes.items r
   pub count : length progress.syndromes.items ≤ length r

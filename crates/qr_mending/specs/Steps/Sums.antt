@@ -1,4 +1,5 @@
--- Values of polynomials over the field of 256 elements, and sums of products.
+-- Values of polynomials over the field of 256 elements, and sums of products. In the lists `e` and `r`, the coefficient
+-- of the highest power of a polynomial comes first.
 use Rattle.std.specs.Prelude.{◌≡◌, ℕ, ◌+◌, ◌<◌, List, [], ◌∷◌, length, bit_xor, slice_index}
 use Rattle.qr_field.specs.Galois.{product}
 use Rattle.qr_field.specs.Steps.Polynomial.{value_at}
@@ -15,13 +16,13 @@ abbrev pub eval : ℕ → List ℕ → ℕ
 eval x [] = 0
 eval x (a ∷ p) = bit_xor a (product x (eval x p))
 
--- The sum of the items of `p`, where item k, from k = 0 on, is multiplied by the value of the polynomial `e` at 2 to
--- the power `i` + k.
+-- The sum of the items of `p`, each multiplied by a value of the polynomial `e`: item k, counted from 0, by the value
+-- at 2 to the power `i` + k.
 abbrev pub blend : List ℕ → ℕ → List ℕ → ℕ
 blend [] i e = 0
 blend (a ∷ p) i e = bit_xor (product a (value_at i e)) (blend p (i + 1) e)
 
--- Item k of `s` is the value of the polynomial `e` at 2 to the power k, from k = 0 on.
+-- Item k of `s`, counted from 0, is the value of the polynomial `e` at 2 to the power k.
 pub record HasValues (s e : List ℕ) : Type 0 where
   pub each : (k : ℕ) → k < length s → slice_index s k ≡ value_at k e
 

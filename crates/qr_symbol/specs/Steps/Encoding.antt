@@ -10,8 +10,8 @@ use Rattle.qr_symbol.specs.declared.fault.EncodeFault.{EncodeFault}
 use Rattle.qr_symbol.specs.declared.fault.EncodeFault.TheVariants as fault
 use Rattle.qr_symbol.specs.VersionChoice.{HasNoVersion, IsVersion}
 
--- `v` is the least version, from `smallest` on, that `x` fits. `characters` and `segments` are those of fewest bits in
--- this version.
+-- `v` is the least version, from `smallest` on, that `x` fits. `segments` are the segments of fewest bits for `x` in
+-- this version, and `characters` are the characters that they contain.
 pub record IsFit (smallest : ℕ) (l : Level) (rule : Rule) (i : Interpretation) (x : List ℕ) (v : ℕ) (characters : List ℕ) (segments : List Segment) : Type 0 where
   pub version : IsVersion smallest l rule i x v
   pub chosen : IsLeastSegmentation i v rule x characters segments

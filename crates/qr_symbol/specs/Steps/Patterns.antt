@@ -8,8 +8,9 @@ use Rattle.qr_layout.specs.Role.{role_of}
 use Rattle.qr_matrix.specs.BitRow.{has_bit}
 use Rattle.qr_matrix.specs.Grid.{Grid, colour, IsSquare}
 
--- The colour of a module that has the given role. A module of format or version information has the colour of its bit
--- in the number `format` or `version`. A module of the region counts as light.
+-- The colour of a module that has the given role. The role of a function pattern or of the dark module states the
+-- colour. A module of format or version information has the colour of its bit in the number `format` or `version`. A
+-- module of the region counts as light.
 unfoldable pub fixed_colour : ℕ → ℕ → Role → Bool
 fixed_colour format version (Fixed dark) = dark
 fixed_colour format version (FormatBit i) = has_bit format i
@@ -21,14 +22,14 @@ fixed_colour format version Region = false
 abbrev pub paint_of : ℕ → ℕ → ℕ → ℕ → Bool
 paint_of v format r c = fixed_colour format (version_word_of v) (role_of v r c)
 
--- The square `g` has the side `s`. It has the colours `paint` at the places that pass the test, and `other` at all
--- other places.
+-- The square `g` has the side `s`. It has the colours `paint` at the places for which `test` is true, and the colours
+-- `other` at all other places.
 pub record IsOver (s : ℕ) (test paint other : ℕ → ℕ → Bool) (g : Grid) : Type 0 where
   pub square : IsSquare s g
   pub colours : (r c : ℕ) → r < s → c < s → colour g r c ≡ (if test r c then paint r c else other r c)
 
 -- The place in row `r` and column `c` is in the square of eight by eight modules whose top left module is in row `top`
--- and column `left`.
+-- and column `left`. Such a square has a finder pattern and its separator.
 abbrev pub is_in_block : ℕ → ℕ → ℕ → ℕ → Bool
 is_in_block top left r c = nat_le top r && nat_lt r (top + 8) && nat_le left c && nat_lt c (left + 8)
 
@@ -43,7 +44,7 @@ abbrev pub is_dark_in_six : ℕ → ℕ → Bool
 is_dark_in_six s at = nat_lt at 7 || nat_le (s - 7) at || at % 2 == 0
 
 -- The colour of a module with the given role after the format information, the number `format`, was drawn. `other` is
--- its colour before.
+-- its colour before, which a module of any other role keeps.
 unfoldable pub format_or : ℕ → Role → Bool → Bool
 format_or format (Fixed dark) other = other
 format_or format (FormatBit i) other = has_bit format i
@@ -51,7 +52,7 @@ format_or format (VersionBit i) other = other
 format_or format Region other = other
 
 -- The colour of a module with the given role, after bits `first` to `end - 1` of the format information, the number
--- `format`, were drawn. `other` is its colour before.
+-- `format`, were drawn. `other` is its colour before, which a module keeps if it has none of these bits.
 unfoldable pub format_bits_or : ℕ → ℕ → ℕ → Role → Bool → Bool
 format_bits_or first end format (Fixed dark) other = other
 format_bits_or first end format (FormatBit i) other = if nat_le first i && nat_lt i end then has_bit format i else other

@@ -1,10 +1,11 @@
--- The colours after each step of drawing the codewords `cw` in version `v`. Their bits are numbered from 0, and bit 0
--- is the highest bit of the first codeword.
+-- The colours after each step of drawing the codewords `cw` in version `v`. The bits of the codewords are numbered from
+-- 0, and bit 0 is the highest bit of the first codeword.
 --
 -- `x` is a strip, and `first` the number of its first bit. Its rows come in the order of filling, which is upward or
--- downward. `s` is the side of the symbol. `y` and `region` are the two columns of the strip, as rows of a transposed
--- square, and in `region` exactly the bits of the region are set. `before` and `after` are two columns too, but in
--- `IsStripDrawn` they are squares.
+-- downward. `s` is the side of the symbol. `y` has the colours of the two columns of the strip, which are rows of a
+-- transposed square. `region` has two such columns, in which a bit is set exactly if its module is in the region.
+-- `before` and `after` have the colours of the two columns before and after a step, but in `IsStripDrawn` they are
+-- whole squares.
 use Rattle.std.specs.Prelude.{◌≡◌, ◌<◌, ◌≤◌, ℕ, ◌+◌, ◌-◌, ◌&&◌, Bool, false, true, if◌then◌else◌, List}
 use Prim.Native.Nat.{zero, suc}
 use Rattle.qr_layout.specs.declared.level.Level.{Level}
@@ -33,13 +34,13 @@ unfoldable pub walked_colour : ℕ → List ℕ → ℕ → (ℕ → ℕ → Boo
 walked_colour v cw mask other r c =
     if is_in_region v r c then inverted (inverts mask r c) (codeword_bit cw (index_of v (record { row = r; col = c }))) else other r c
 
--- The number of the next bit after a module. It is `number`, or one more if the module is in the region and has taken a
--- bit.
+-- The number of the next bit after a module, if `number` is that of the next bit before it. A module in the region
+-- takes one bit, so the number rises by 1.
 abbrev pub number_after : Bool → ℕ → ℕ
 number_after is_in number = if is_in then number + 1 else number
 
--- The number of the next bit when the first `k` rows of the strip `x` have been filled. Before the first row it is
--- `first`.
+-- The number of the bit that is drawn next when the first `k` rows of the strip `x`, in the order of filling, have been
+-- filled. Before the first row it is `first`.
 abbrev pub number_at : ℕ → Strip → ℕ → ℕ → ℕ
 number_at v x first zero = first
 number_at v x first (suc k) =
@@ -51,37 +52,38 @@ abbrev pub AreLight : ℕ → Strip → ℕ → Columns → Columns → Type 0
 AreLight s x k region y = (rank : ℕ) → k ≤ rank → rank < s
     → ((has region.right (row_of s x rank) && has y.right (row_of s x rank)) ≡ false) × ((has region.left (row_of s x rank) && has y.left (row_of s x rank)) ≡ false)
 
--- After the first `k` rows of the strip, in the order of filling, come `n` rows that are light in the columns `y`.
+-- The `n` rows that follow the first `k` rows of the strip, in the order of filling, are light in both columns `y`.
 abbrev pub AreLightRows : ℕ → Strip → ℕ → ℕ → Columns → Type 0
 AreLightRows s x k n y = (j : ℕ) → k ≤ j → j < k + n → (has y.right (row_of s x j) ≡ false) × (has y.left (row_of s x j) ≡ false)
 
--- After the first `k` rows of the strip, in the order of filling, come `n` rows whose modules are all in the region.
+-- In the `n` rows that follow the first `k` rows of the strip, in the order of filling, all modules are in the region.
 abbrev pub AreWhole : ℕ → Strip → ℕ → ℕ → Type 0
 AreWhole v x k n = (j : ℕ) → k ≤ j → j < k + n
     → (is_in_region v (row_of (side_of v) x j) x.right ≡ true) × (is_in_region v (row_of (side_of v) x j) (x.right - 1) ≡ true)
 
--- `right` is the index of a strip's right column in the symbol. In the two columns `x` exactly those bits are set whose
--- modules are in the region.
+-- `right` is the index of a strip's right column in the symbol. In the two columns `x` a bit is set exactly if its
+-- module is in the region.
 abbrev pub IsRegion : ℕ → ℕ → Columns → Type 0
 IsRegion v right x = (row : ℕ) → row < side_of v → (has x.right row ≡ is_in_region v row right) × (has x.left row ≡ is_in_region v row (right - 1))
 
--- Drawing the row that comes after `k` rows of the strip, in the order of filling, changes the colours of its two
--- modules from `right` and `left` to `right'` and `left'`. A module in the region gets its bit, and another module
--- keeps its colour. The first bit of the strip has the number `first`.
+-- Drawing row `k` of the strip, counted from 0 in the order of filling, changes the colours of the row's two modules
+-- from `right` and `left` to `right'` and `left'`. A module in the region gets its bit, and another module keeps its
+-- colour. The first bit of the strip has the number `first`.
 abbrev pub IsRowDrawn : ℕ → List ℕ → Strip → ℕ → ℕ → (right left right' left' : Bool) → Type 0
 IsRowDrawn v cw x first k right left right' left' =
     (right' ≡ (if is_in_region v (row_of (side_of v) x k) x.right then codeword_bit cw (number_at v x first k) else right))
     × (left' ≡ (if is_in_region v (row_of (side_of v) x k) (x.right - 1) then codeword_bit cw (number_after (is_in_region v (row_of (side_of v) x k) x.right) (number_at v x first k)) else left))
 
--- Drawing the `n` rows that come after the first `k` rows of the strip, in the order of filling, changes its two
--- columns from `before` to `after`.
+-- Drawing the `n` rows that follow the first `k` rows of the strip, in the order of filling, changes the strip's two
+-- columns from `before` to `after`. All other rows keep their colours. The first bit of the strip has the number
+-- `first`.
 pub record AreDrawn (v : ℕ) (cw : List ℕ) (x : Strip) (first k n : ℕ) (before after : Columns) : Type 0 where
   pub drawn : (j : ℕ) → k ≤ j → j < k + n
       → IsRowDrawn v cw x first j (has before.right (row_of (side_of v) x j)) (has before.left (row_of (side_of v) x j)) (has after.right (row_of (side_of v) x j)) (has after.left (row_of (side_of v) x j))
   pub kept : (row : ℕ) → ((j : ℕ) → k ≤ j → j < k + n → row_of (side_of v) x j ≡ row → ⊥) → (has after.right row ≡ has before.right row) × (has after.left row ≡ has before.left row)
 
--- Drawing the strip, whose first bit has the number `first`, changes the transposed square from `before` to `after`.
--- The next bit after it has the number `next`.
+-- Drawing the strip changes the transposed square from `before` to `after`. The first bit of the strip has the number
+-- `first`, and the bit that follows the strip has the number `next`.
 pub record IsStripDrawn (v : ℕ) (cw : List ℕ) (x : Strip) (first : ℕ) (before : Grid) (next : ℕ) (after : Grid) : Type 0 where
   pub number : next ≡ number_at v x first (side_of v)
   pub square : IsSquare (side_of v) after
@@ -107,7 +109,7 @@ region_grid v = square (side_of v) (is_in_region v)
 abbrev pub plain_grid : ℕ → List ℕ → Grid
 plain_grid v cw = square (side_of v) (placed_colour v cw (paint_of v symmetric_format))
 
--- The penalty of the square `plain` when the mask was applied to the modules that are dark in `region`, and then the
--- format information of level `l` and this mask was drawn.
+-- The penalty of the square `plain` when two steps have changed it. First the mask `mask` was applied to the modules
+-- that are dark in `region`. Then the format information of level `l` and this mask was drawn.
 abbrev pub masked_penalty : ℕ → Level → Grid → Grid → ℕ → ℕ
 masked_penalty v l region plain mask = penalty_of (side_of v) (colour (masked_grid v l mask region plain))

@@ -4,21 +4,22 @@ use Rattle.std.specs.Option.{IfSome}
 use Rattle.qr_bits.specs.Bits.{codeword_bit}
 use Rattle.qr_matrix.specs.{BitRow.has_bit, Grid.is_same, Sums.all_below}
 
--- The index of the bit with which bit `i` of a word is exchanged. Each bit that is set in `mask` is exchanged with the
--- bit whose index is greater by `steps`. If bit `i` is not exchanged, the value is `i`.
+-- The index of the bit that bit `i` of a word is exchanged with, or `i` itself if there is none. Wherever `mask` has a
+-- 1, the bit at the same index is exchanged with the one whose index is greater by `steps`.
 abbrev pub partner : ℕ → ℕ → ℕ → ℕ
 partner steps mask i = if has_bit mask i then i + steps else if nat_le steps i && has_bit mask (i - steps) then i - steps else i
 
--- No two bits that are set in the mask have indices that differ by `steps`.
+-- No two bits that are set in the mask have indices that differ by `steps`. So no bit is exchanged with two others.
 unfoldable pub are_pairs : ℕ → ℕ → Bool
 are_pairs steps mask = all_below 64 (λ i. not (has_bit mask i && has_bit mask (i + steps)))
 
 -- Each of the 64 indices either is set in the mask, or is greater by `steps` than an index that is set, but not both.
+-- So each bit is exchanged with exactly one other.
 unfoldable pub are_halves : ℕ → ℕ → Bool
 are_halves steps mask = all_below 64 (λ i. not (is_same (has_bit mask i) (nat_le steps i && has_bit mask (i - steps))))
 
--- The index of row `j` among the `n` rows of a strip, counted in the direction in which the strip is filled. `j` is
--- counted from the top. Both are counted from 0.
+-- The index of a row among the `n` rows of a strip, counted from 0 in the direction in which the strip is filled. `j`
+-- is the index of the same row, counted from 0 at the top.
 abbrev pub rank_in : ℕ → Bool → ℕ → ℕ
 rank_in n upward j = if upward then n - 1 - j else j
 
@@ -26,8 +27,8 @@ rank_in n upward j = if upward then n - 1 - j else j
 abbrev pub AreNext : List ℕ → ℕ → ℕ → Type 0
 AreNext cw number bits = (k : ℕ) → k < 64 → has_bit bits (63 - k) ≡ codeword_bit cw (number + k)
 
--- The bits in a collector, to which the bits that are read from a symbol are appended. It is `None` if an allocation
--- was refused.
+-- The bits in a collector, to which the bits that are read from a symbol are appended. The value is `None` if an
+-- allocation was refused.
 abbrev pub Bits : Type 0
 Bits = Option (List Bool)
 
@@ -35,6 +36,7 @@ Bits = Option (List Bool)
 abbrev pub HasCollected : List Bool → Bits → Type 0
 HasCollected xs b = IfSome b (λ ys. ys ≡ xs)
 
--- Afterwards a collector has the bits that it had before, and then `more`. If an allocation was refused, it has `None`.
+-- The collector `after` has the bits that the collector `before` had, and then `more`. If an allocation was refused,
+-- `after` is `None`.
 abbrev pub Appends : List Bool → Bits → Bits → Type 0
 Appends more before after = (xs : List Bool) → HasCollected xs before → HasCollected (xs ++ more) after
