@@ -8,7 +8,7 @@ use Rattle.qr_devices.specs.declared.device.Trouble.TheVariants.{Interrupted, Fa
 use Rattle.qr_devices.specs.declared.device.ReadCounts.{ReadCounts}
 use Rattle.qr_devices.specs.declared.device.WriteCounts.{WriteCounts}
 
--- The number `n` as a count shows it, which is at most 2^64 - 1 [own]
+-- The number `n` as a count shows it. A count that has reached 2^64 - 1 does not grow further [own]
 abbrev pub counted : ℕ → ℕ
 counted n = min n (2 ^ 64 - 1)
 
@@ -16,8 +16,9 @@ counted n = min n (2 ^ 64 - 1)
 abbrev pub no_reads : ReadCounts
 no_reads = record { calls = 0; failed = 0; interrupted = 0; given = 0; ends = 0; past_end = 0 }
 
--- The counts when the result of a read into a buffer of `room` bytes is added to the counts `c`: the bytes that it
--- returned, an interruption, or a failure. An end was reached if there were no bytes although `room` is not 0 [own]
+-- The counts `c` when the result of a read has been added to them. The read had a buffer of `room` bytes, and its
+-- result is a number of bytes, an interruption or a failure. If it returned no byte although `room` is not 0, it
+-- reached the end, which is counted too [own]
 abbrev pub read_returned : ℕ → Result ℕ Trouble → ReadCounts → ReadCounts
 read_returned room (Ok n) c =
     record c { given = counted (c.given + n); ends = if n == 0 && nat_lt 0 room then counted (c.ends + 1) else c.ends }
@@ -45,22 +46,23 @@ no_writes = record {
   settled = false;
 }
 
--- The counts when the result of a write that offered `len` bytes is added to the counts `c`: the accepted bytes, an
--- interruption, or a failure. A zero is counted if no byte was accepted although `len` is not 0 [own]
+-- The counts `c` when the result of a write has been added to them. The write offered `len` bytes, and its result is
+-- the number of accepted bytes, an interruption or a failure. If it accepted no byte although `len` is not 0, this is
+-- counted as a zero [own]
 abbrev pub write_returned : ℕ → Result ℕ Trouble → WriteCounts → WriteCounts
 write_returned len (Ok n) c =
     record c { taken = counted (c.taken + n); zeros = if n == 0 && nat_lt 0 len then counted (c.zeros + 1) else c.zeros }
 write_returned len (Err Interrupted) c = record c { interrupted = counted (c.interrupted + 1) }
 write_returned len (Err Failed) c = record c { failed = counted (c.failed + 1) }
 
--- The counts after a write. The call and its result are added to the counts `c`. `offered` is the greatest number of
--- bytes that a write has offered so far. The device is not settled [own]
+-- The counts after a write. The call and its result are added to the counts `c`. `offered` becomes the greatest number
+-- of bytes that a write has offered so far. The device is not settled, since it was not flushed after this write [own]
 abbrev pub write_counted : ℕ → Result ℕ Trouble → WriteCounts → WriteCounts
 write_counted len returned c =
     write_returned len returned (record c { calls = counted (c.calls + 1); offered = max c.offered len; settled = false })
 
--- The counts after a flush, which is counted as failed if it was interrupted. If it succeeded, the device is settled
--- [own]
+-- The counts after a flush. If the flush succeeded, the device is settled. Otherwise the flush is counted as failed,
+-- even if it was only interrupted [own]
 abbrev pub flush_counted : {T : Type 0} → Result T Trouble → WriteCounts → WriteCounts
 flush_counted returned c = record c {
   calls = counted (c.calls + 1);
@@ -73,21 +75,22 @@ flush_counted returned c = record c {
 abbrev pub IsBeginning : List ℕ → List ℕ → Type 0
 IsBeginning prefix whole = (rest : List ℕ) × (prefix ++ rest ≡ whole)
 
--- `old` and `new` are the bytes that a device has accepted at first and later. If they are known, they grew by a prefix
--- of `whole` [own]
+-- `old` are the bytes that a device had accepted before some calls, and `new` those that it has accepted after them. If
+-- contracts know these bytes, the calls appended a prefix of `whole` [own]
 abbrev pub AppendsBeginning : Option (List ℕ) → Option (List ℕ) → List ℕ → Type 0
 AppendsBeginning old new whole = (prefix : List ℕ) × IsBeginning prefix whole × Appends old new prefix
 
--- A read failed, or 1,000 were interrupted [own]
+-- The counts show a fault of the reader: a read failed, or at least 1,000 reads were interrupted [own]
 abbrev pub is_read_fault : ReadCounts → Bool
 is_read_fault c = nat_lt 0 c.failed || nat_le 1000 c.interrupted
 
--- A write or a flush failed, a write that offered at least one byte moved none, or 1,000 writes were interrupted [own]
+-- The counts show a fault of the writer: a write or a flush failed, a write that offered at least one byte accepted
+-- none, or at least 1,000 writes were interrupted [own]
 abbrev pub is_write_fault : WriteCounts → Bool
 is_write_fault c = nat_lt 0 c.failed || (nat_lt 0 c.zeros || nat_le 1000 c.interrupted)
 
--- At most one call failed or was a write that accepted nothing, and at most 1,000 writes were interrupted. This is so
--- if writing stops at the first fault [own]
+-- At most one call went wrong: it failed, or it was a write that accepted no byte. At most 1,000 writes were
+-- interrupted. The counts are so if writing stops at the first fault [own]
 pub record IsWrittenWithin (c : WriteCounts) : Type 0 where
   pub faults : c.failed + c.zeros ≤ 1
   pub interrupted : c.interrupted ≤ INTERRUPTIONS_MAX + 1

@@ -1,28 +1,30 @@
--- What a trial device `t` contains, and how it misbehaves.
+-- A trial device `t` is a reader or writer in memory, for tests. The definitions say what it contains, and how it
+-- misbehaves.
 use Rattle.std.specs.Prelude.{ℕ, ◌-◌, min, max, nat_lt, nat_le, List, length, drop, Result, Ok, Err, if◌then◌else◌}
 use Rattle.qr_devices.specs.declared.device.Trouble.{Trouble}
 use Rattle.qr_devices.specs.declared.device.Trouble.TheVariants.{Interrupted, Failed}
 use Rattle.qr_devices.specs.declared.trial.Faults.{Faults}
 use Rattle.qr_devices.specs.declared.trial.Trial.{Trial}
 
--- The bytes that are still to be read [own]
+-- The bytes that are still to be read from the device [own]
 abbrev pub bytes_left : Trial → List ℕ
 bytes_left t = drop t.position t.bytes.items
 
--- All bytes of a reader, read or not, or those that a writer accepted [own]
+-- If the device is a reader, these are all its bytes, whether they were read or not. If it is a writer, these are the
+-- bytes that it accepted [own]
 abbrev pub bytes_held : Trial → List ℕ
 bytes_held t = t.bytes.items
 
--- What the read or write with the number `call`, counted from 0, returns with the faults `m` if at most `there` bytes
--- can be moved. It is an interruption if `call` is below `interruptions`, and otherwise a failure if `call` is at least
--- `fails_from`. In all other cases as many bytes are moved as `there` and `at_most` allow. An `at_most` of 0 counts as
--- 1 [own]
+-- What a read or write returns on a device with the faults `m`. `call` is the number of the read or write, counted from
+-- 0, and at most `there` bytes can be moved. The result is an interruption if `call` is below `interruptions`, and
+-- otherwise a failure if `call` is at least `fails_from`. In all other cases as many bytes are moved as `there` and
+-- `at_most` allow. An `at_most` of 0 counts as 1 [own]
 abbrev pub moved : Faults → ℕ → ℕ → Result ℕ Trouble
 moved m call there =
     if nat_lt call m.interruptions then Err Interrupted else
     (if nat_le m.fails_from call then Err Failed else Ok (min there (max m.at_most 1)))
 
--- How many bytes the device still has room for. From the write or flush with the number `stops_from` on, counted from
--- 0, it has room for none [own]
+-- How many more bytes can be written to the device. The writes and flushes are numbered from 0, and from the number
+-- `stops_from` on the device has room for no byte [own]
 abbrev pub free_of : Trial → ℕ
 free_of t = if nat_lt t.writes.calls t.faults.stops_from then t.room - length t.bytes.items else 0

@@ -8,13 +8,14 @@ use Rattle.qr_drawing.specs.Svg.{square_at, svg_document}
 use Rattle.qr_drawing.specs.Text.{text_drawing}
 use Rattle.qr_drawing.specs.declared.text.TextStyle.TheVariants.{Plain, Inverse, HalfBlocks}
 
--- All squares have the same side, as the symbols of a series do, so that one document can show them below one another
+-- All squares have the same side. The symbols of a series do, and so one SVG document can show them below one another
 -- [own]
 abbrev pub HaveOneSide : List Grid → Type 0
 HaveOneSide squares = All (λ g. g.side ≡ (square_at squares 0).side) squares
 
--- The drawing of the squares, with a light margin of `margin` modules around each. It is one text after the other, or
--- one SVG document for all squares [own]
+-- The bytes of a drawing of the squares. Around each square is a light margin of `margin` modules. In the first three
+-- types each square is drawn as a text, and these texts come one after the other. An SVG drawing is one document for
+-- all squares [own]
 abbrev pub drawn : Drawing → ℕ → List Grid → List ℕ
 drawn Ascii margin squares = flat_map (text_drawing Plain margin) squares
 drawn AsciiInverse margin squares = flat_map (text_drawing Inverse margin) squares

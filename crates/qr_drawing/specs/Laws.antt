@@ -1,11 +1,11 @@
--- The characters of drawings, as they were worked out by hand.
+-- The characters of drawings, worked out by hand. A law compares the definitions with them.
 use Rattle.std.specs.Prelude.{◌≡◌, [], ◌∷◌, codes, true, false}
 use Rattle.qr_drawing.specs.Text.{ascii_module, half_blocks, line_count}
 use Rattle.qr_drawing.specs.declared.text.TextStyle.TheVariants.{HalfBlocks}
 
 -- The characters that show modules. In UTF-8 the lower half block U+2584, the upper half block U+2580 and the full
--- block U+2588 have three bytes each. A symbol of version 1 with a margin of four modules has 29 rows, which take 15
--- lines of half blocks [own]
+-- block U+2588 have three bytes each. A symbol of version 1 with a margin of four modules has 29 rows of modules, which
+-- take 15 lines of half blocks [own]
 pub record CharactersOfModules : Type 0 where
   pub dark : ascii_module true ≡ codes "##"
   pub light : ascii_module false ≡ codes "  "

@@ -1,6 +1,6 @@
 -- The SVG document of symbols, drawn one below the other. `y` and `x` are a row and a column of the raster of the
--- square `g` with the margin `margin`; `top` is the number of rows of the document above this raster. In `box_path`,
--- `y` and `x` are a row and a column of the document.
+-- square `g` with the margin `margin`, and `top` is the number of rows of the document above this raster. In
+-- `box_path`, `y` and `x` are a row and a column of the document.
 use Rattle.std.specs.Prelude.{ℕ, ◌+◌, ◌-◌, ◌*◌, ◌==◌, Bool, not, ◌&&◌, ◌||◌, if◌then◌else◌, List, [], ◌++◌, length, slice_index_or, codes, decimal}
 use Rattle.std.specs.List.{prefix_len, range_with_len}
 use Rattle.qr_matrix.specs.Grid.{Grid, light}
@@ -15,18 +15,20 @@ numbered text number = text ++ decimal number
 unfoldable pub begins_run : ℕ → Grid → ℕ → ℕ → Bool
 begins_run margin g y x = is_dark_at margin g y x && (x == 0 || not (is_dark_at margin g y (x - 1)))
 
--- How many neighbouring modules of row `y` are dark from column `x` on [own]
+-- How many modules of row `y` are dark from column `x` on, until the first light one or the right edge of the raster
+-- [own]
 unfoldable pub run_length : ℕ → Grid → ℕ → ℕ → ℕ
 run_length margin g y x = prefix_len (is_dark_at margin g y) (range_with_len x (raster_width margin g - x))
 
--- A box as commands of an SVG path: from row `y` and column `x` of the document it goes right by `modules` modules,
--- down by one, left by `modules` modules, and is closed [own]
+-- A box as commands of an SVG path. The path begins at the upper left corner of the module in row `y` and column `x` of
+-- the document. It goes right by `modules` modules, down by one and left by `modules` modules, and is closed [own]
 unfoldable pub box_path : ℕ → ℕ → ℕ → List ℕ
 box_path x y modules =
     numbered (codes "M") x ++ numbered (codes " ") y ++ numbered (codes "h") modules ++ numbered (codes "v1h-") modules
     ++ codes "z"
 
--- The box around the run that begins in row `y` and column `x`, or nothing if no run begins there [own]
+-- The box around the run that begins in row `y` and column `x` of the raster. If no run begins there, the result is
+-- empty [own]
 unfoldable pub run_path : ℕ → ℕ → Grid → ℕ → ℕ → List ℕ
 run_path top margin g y x =
     if begins_run margin g y x then box_path x (top + y) (run_length margin g y x) else []
@@ -44,7 +46,7 @@ abbrev pub square_at : List Grid → ℕ → Grid
 square_at squares k = slice_index_or squares k (light 0)
 
 -- The boxes of all symbols, whose rasters are below one another. All rasters are equally high. So above the raster with
--- the index `k`, counted from 0, the document has `k` times as many rows as a raster has [own]
+-- the index `k`, counted from 0, there are `k` times as many rows as one raster has [own]
 unfoldable pub stack_path : ℕ → List Grid → List ℕ
 stack_path margin squares =
     texts_below (length squares) (λ k. symbol_path (k * raster_width margin (square_at squares k)) margin (square_at squares k))
@@ -53,13 +55,13 @@ stack_path margin squares =
 unfoldable pub declaration : List ℕ
 declaration = codes "<?xml version=\"1.0\" encoding=\"UTF-8\"?>\n"
 
--- The line that opens a document of `width` by `height` modules [own]
+-- The line that opens a document that is `width` modules wide and `height` modules high [own]
 unfoldable pub opening : ℕ → ℕ → List ℕ
 opening width height =
     numbered (codes "<svg xmlns=\"http://www.w3.org/2000/svg\" version=\"1.1\" viewBox=\"0 0 ") width
     ++ numbered (codes " ") height ++ codes "\" shape-rendering=\"crispEdges\">\n"
 
--- The line that makes the whole document white [own]
+-- The line that makes the whole document white. The document is `width` modules wide and `height` modules high [own]
 unfoldable pub background : ℕ → ℕ → List ℕ
 background width height =
     numbered (codes "<rect x=\"0\" y=\"0\" width=\"") width ++ numbered (codes "\" height=\"") height

@@ -9,21 +9,22 @@ use Rattle.qr_drawing.specs.declared.text.TextStyle.TheVariants.{Plain, Inverse,
 abbrev pub ascii_module : Bool → List ℕ
 ascii_module dark = if dark then 35 ∷ 35 ∷ [] else 32 ∷ 32 ∷ []
 
--- The character in UTF-8 for the two modules `upper` and `lower`, of which `upper` is above. It is the space, U+2584,
--- U+2580 or U+2588. The filled parts of these characters are light modules [own]
+-- The character, in UTF-8, that shows two modules, of which `upper` is above `lower`. Its filled parts are light
+-- modules: it is a space if both are dark, U+2584 if only `lower` is light, U+2580 if only `upper` is light, and U+2588
+-- if both are [own]
 abbrev pub half_blocks : Bool → Bool → List ℕ
 half_blocks upper lower =
     if upper then (if lower then 32 ∷ [] else 0xE2 ∷ 0x96 ∷ 0x84 ∷ [])
     else (if lower then 0xE2 ∷ 0x96 ∷ 0x80 ∷ [] else 0xE2 ∷ 0x96 ∷ 0x88 ∷ [])
 
--- The cell with the index `x` in line `y`, both counted from 0. In the style `HalfBlocks` it may show a module below
--- the raster, which is light [own]
+-- The cell with the index `x` in line `y`, both counted from 0. In the style `HalfBlocks` a cell of the last line may
+-- show a module that is below the raster, and so counts as light [own]
 abbrev pub cell_of : TextStyle → ℕ → Grid → ℕ → ℕ → List ℕ
 cell_of Plain margin g y x = ascii_module (is_dark_at margin g y x)
 cell_of Inverse margin g y x = ascii_module (not (is_dark_at margin g y x))
 cell_of HalfBlocks margin g y x = half_blocks (is_dark_at margin g (2 * y) x) (is_dark_at margin g (2 * y + 1) x)
 
--- The number of lines that show `rows` rows of modules; in the style `HalfBlocks` each line shows two rows, except that
+-- The number of lines of text that show `rows` rows of modules. In the style `HalfBlocks` each line shows two rows, but
 -- the last line shows only one if `rows` is odd [own]
 abbrev pub line_count : TextStyle → ℕ → ℕ
 line_count Plain rows = rows

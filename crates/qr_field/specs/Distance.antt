@@ -1,5 +1,5 @@
--- The least number of codewords in which two blocks differ, and how much damage still leaves no doubt which block was
--- read. A block is its data codewords `d` and then its `n` error correction codewords `e`. In a list of what was read,
+-- In at least how many codewords two blocks differ, and with how much damage it is still certain which block was read.
+-- A block is its data codewords `d` followed by its `n` error correction codewords `e`. In a list of what was read,
 -- `None` stands for a codeword that could not be read.
 use Rattle.std.specs.Prelude.{◌≡◌, ℕ, ◌+◌, ◌*◌, ◌≤◌, ◌==◌, if◌then◌else◌, Option, None, Some, List, [], ◌∷◌, ◌++◌, length}
 use Rattle.qr_field.specs.Polynomial.{IsCorrection}
@@ -21,14 +21,14 @@ BlocksLieApart =
     (n : ℕ) (d e d' e' : List ℕ) → IsCorrection d n e → IsCorrection d' n e' → length d ≡ length d' →
     length d + n ≤ 255 → (d ≡ d' → ⊥) → n + 1 ≤ differences (d ++ e) (d' ++ e')
 
--- How many codewords could not be read [own]
+-- How many codewords could not be read. The list is what was read [own]
 abbrev pub erasures : List (Option ℕ) → ℕ
 erasures [] = 0
 erasures (None ∷ rs) = 1 + erasures rs
 erasures (Some x ∷ rs) = erasures rs
 
--- The number of codewords of the block `ys` that were read with a wrong value. Each index that only the longer list has
--- is counted too [own]
+-- How many codewords of the block `ys` were read with a wrong value. The first list is what was read. Each index that
+-- only the longer of the two lists has is counted too [own]
 abbrev pub errors : List (Option ℕ) → List ℕ → ℕ
 errors [] ys = length ys
 errors (r ∷ rs) [] = length (r ∷ rs)

@@ -1,4 +1,5 @@
--- Worked examples of generator polynomials and error correction codewords.
+-- Generator polynomials as the standard prints them, and the error correction codewords of an example. Laws compare the
+-- definitions with them.
 use Rattle.std.specs.Prelude.{ℕ, List, [], ◌∷◌}
 
 -- The numbers of error correction codewords that a block can have (ISO/IEC 18004:2015, 7.5.1)

@@ -9,8 +9,8 @@ use Rattle.qr_field.specs.Galois.{product}
 abbrev pub IsByte : ℕ → Type 0
 IsByte a = a < 256
 
--- The sums of the coefficients of the two lists at equal indices. If one list is shorter, it is taken as if zeros
--- followed it [own]
+-- The sums of the coefficients that two lists have at equal indices, which is the sum of two polynomials if the lists
+-- are equally long. A shorter list counts as if zeros followed it [own]
 abbrev pub plus : List ℕ → List ℕ → List ℕ
 plus [] ys = ys
 plus (x ∷ xs) [] = x ∷ xs
@@ -24,8 +24,8 @@ zeros k = replicate k 0
 abbrev pub scaled : ℕ → List ℕ → List ℕ
 scaled a p = map (product a) p
 
--- The product of the polynomials of the two lists. If they have m and n + 1 coefficients, the product has m + n
--- (ISO/IEC 18004:2015, 7.5.2)
+-- The product of two polynomials. If their lists have m and n + 1 coefficients, the product has m + n (ISO/IEC
+-- 18004:2015, 7.5.2)
 abbrev pub times : List ℕ → List ℕ → List ℕ
 times [] g = zeros (length g - 1)
 times (a ∷ q) g = plus (scaled a g) (0 ∷ times q g)
@@ -47,13 +47,13 @@ pub record IsMultiple (g p : List ℕ) : Type 0 where
   pub bytes : All IsByte quotient
   pub whole : times quotient g ≡ p
 
--- The list e is the n error correction codewords of the data codewords d: appended to d, they make a multiple of the
--- generator polynomial (ISO/IEC 18004:2015, 7.5.2)
+-- The list e is the n error correction codewords of the data codewords d: the list of d followed by e is a multiple of
+-- the generator polynomial (ISO/IEC 18004:2015, 7.5.2)
 pub record IsCorrection (d : List ℕ) (n : ℕ) (e : List ℕ) : Type 0 where
   pub count : length e ≡ n
   pub bytes : All IsByte e
   pub multiple : IsMultiple (generator_of n) (d ++ e)
 
--- There are n error correction codewords of d [own]
+-- The data codewords d have n error correction codewords, that is, there is a list that `IsCorrection` describes [own]
 abbrev pub HasCorrection : List ℕ → ℕ → Type 0
 HasCorrection d n = (e : List ℕ) × IsCorrection d n e

@@ -4,8 +4,8 @@ use Rattle.std.specs.Prelude.{ℕ, ◌-◌, Bool, ◌&&◌, ◌||◌, ◌==◌, 
 use Rattle.std.specs.List.{flat_map, slice_index_or}
 use Rattle.qr_layout.specs.declared.region.Place.{Place}
 
--- For each of the versions 1 to 40, the rows of the centres of alignment patterns. Their columns have the same numbers
--- (ISO/IEC 18004:2015, Annex E)
+-- For each of the versions 1 to 40, the numbers of the rows that contain centres of alignment patterns. The columns
+-- that contain centres have the same numbers (ISO/IEC 18004:2015, Annex E)
 abbrev pub centre_table : List (List ℕ)
 centre_table =
     [] ∷ (6 ∷ 18 ∷ []) ∷ (6 ∷ 22 ∷ []) ∷ (6 ∷ 26 ∷ []) ∷ (6 ∷ 30 ∷ []) ∷ (6 ∷ 34 ∷ []) ∷ (6 ∷ 22 ∷ 38 ∷ []) ∷ (6 ∷ 24 ∷ 42 ∷ []) ∷ (6 ∷ 26 ∷ 46 ∷ []) ∷ (6 ∷ 28 ∷ 50 ∷ [])
@@ -14,17 +14,18 @@ centre_table =
     ∷ (6 ∷ 26 ∷ 50 ∷ 74 ∷ 98 ∷ 122 ∷ []) ∷ (6 ∷ 30 ∷ 54 ∷ 78 ∷ 102 ∷ 126 ∷ []) ∷ (6 ∷ 26 ∷ 52 ∷ 78 ∷ 104 ∷ 130 ∷ []) ∷ (6 ∷ 30 ∷ 56 ∷ 82 ∷ 108 ∷ 134 ∷ []) ∷ (6 ∷ 34 ∷ 60 ∷ 86 ∷ 112 ∷ 138 ∷ []) ∷ (6 ∷ 30 ∷ 58 ∷ 86 ∷ 114 ∷ 142 ∷ []) ∷ (6 ∷ 34 ∷ 62 ∷ 90 ∷ 118 ∷ 146 ∷ [])
     ∷ (6 ∷ 30 ∷ 54 ∷ 78 ∷ 102 ∷ 126 ∷ 150 ∷ []) ∷ (6 ∷ 24 ∷ 50 ∷ 76 ∷ 102 ∷ 128 ∷ 154 ∷ []) ∷ (6 ∷ 28 ∷ 54 ∷ 80 ∷ 106 ∷ 132 ∷ 158 ∷ []) ∷ (6 ∷ 32 ∷ 58 ∷ 84 ∷ 110 ∷ 136 ∷ 162 ∷ []) ∷ (6 ∷ 26 ∷ 54 ∷ 82 ∷ 110 ∷ 138 ∷ 166 ∷ []) ∷ (6 ∷ 30 ∷ 58 ∷ 86 ∷ 114 ∷ 142 ∷ 170 ∷ []) ∷ []
 
--- The rows of the centres of alignment patterns in version `v`, in rising order. Version 1 has none (ISO/IEC
--- 18004:2015, Annex E)
+-- The numbers of the rows that contain centres of alignment patterns in version `v`, in rising order. Version 1 has
+-- none (ISO/IEC 18004:2015, Annex E)
 unfoldable pub centres_of : ℕ → List ℕ
 centres_of v = slice_index_or centre_table (v - 1) []
 
--- Row `a` and column `b`, in which there are centres, meet in a corner with a finder pattern, where no alignment
--- pattern is (ISO/IEC 18004:2015, 6.3.6)
+-- Row `a` and column `b` both contain centres of alignment patterns, but the place where they meet is in a corner with
+-- a finder pattern, and has no alignment pattern (ISO/IEC 18004:2015, 6.3.6)
 abbrev pub is_corner_pair : ℕ → ℕ → ℕ → Bool
 is_corner_pair s a b = (a == 6 && b == 6) || (a == 6 && b == s - 7) || (a == s - 7 && b == 6)
 
--- The centres of the alignment patterns, if `cs` lists the rows of centres, which are also their columns. These are all
--- places whose row and column are in `cs`, except in the corners with a finder pattern (ISO/IEC 18004:2015, 6.3.6)
+-- The centres of the alignment patterns. `cs` lists the numbers of the rows that contain centres, and also of the
+-- columns that do. A place whose row and column are both in this list is a centre, unless it is in a corner with a
+-- finder pattern (ISO/IEC 18004:2015, 6.3.6)
 abbrev pub alignment_places : ℕ → List ℕ → List Place
 alignment_places s cs = flat_map (λ a. flat_map (λ b. if is_corner_pair s a b then [] else record { row = a; col = b } ∷ []) cs) cs

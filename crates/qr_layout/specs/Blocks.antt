@@ -6,15 +6,15 @@ use Rattle.qr_layout.specs.declared.level.Level.{Level}
 use Rattle.qr_layout.specs.declared.level.Level.TheVariants.{L, M, Q, H}
 use Rattle.qr_layout.specs.Version.{total_codewords_of}
 
--- The number of error correction codewords in each block, for each of the versions 1 to 40 (ISO/IEC 18004:2015, 7.5.1,
--- Table 9)
+-- For each level, the number of error correction codewords in a block of each of the versions 1 to 40 (ISO/IEC
+-- 18004:2015, 7.5.1, Table 9)
 abbrev pub correction_table : Level → List ℕ
 correction_table L = 7 ∷ 10 ∷ 15 ∷ 20 ∷ 26 ∷ 18 ∷ 20 ∷ 24 ∷ 30 ∷ 18 ∷ 20 ∷ 24 ∷ 26 ∷ 30 ∷ 22 ∷ 24 ∷ 28 ∷ 30 ∷ 28 ∷ 28 ∷ 28 ∷ 28 ∷ 30 ∷ 30 ∷ 26 ∷ 28 ∷ 30 ∷ 30 ∷ 30 ∷ 30 ∷ 30 ∷ 30 ∷ 30 ∷ 30 ∷ 30 ∷ 30 ∷ 30 ∷ 30 ∷ 30 ∷ 30 ∷ []
 correction_table M = 10 ∷ 16 ∷ 26 ∷ 18 ∷ 24 ∷ 16 ∷ 18 ∷ 22 ∷ 22 ∷ 26 ∷ 30 ∷ 22 ∷ 22 ∷ 24 ∷ 24 ∷ 28 ∷ 28 ∷ 26 ∷ 26 ∷ 26 ∷ 26 ∷ 28 ∷ 28 ∷ 28 ∷ 28 ∷ 28 ∷ 28 ∷ 28 ∷ 28 ∷ 28 ∷ 28 ∷ 28 ∷ 28 ∷ 28 ∷ 28 ∷ 28 ∷ 28 ∷ 28 ∷ 28 ∷ 28 ∷ []
 correction_table Q = 13 ∷ 22 ∷ 18 ∷ 26 ∷ 18 ∷ 24 ∷ 18 ∷ 22 ∷ 20 ∷ 24 ∷ 28 ∷ 26 ∷ 24 ∷ 20 ∷ 30 ∷ 24 ∷ 28 ∷ 28 ∷ 26 ∷ 30 ∷ 28 ∷ 30 ∷ 30 ∷ 30 ∷ 30 ∷ 28 ∷ 30 ∷ 30 ∷ 30 ∷ 30 ∷ 30 ∷ 30 ∷ 30 ∷ 30 ∷ 30 ∷ 30 ∷ 30 ∷ 30 ∷ 30 ∷ 30 ∷ []
 correction_table H = 17 ∷ 28 ∷ 22 ∷ 16 ∷ 22 ∷ 28 ∷ 26 ∷ 26 ∷ 24 ∷ 28 ∷ 24 ∷ 28 ∷ 22 ∷ 24 ∷ 24 ∷ 30 ∷ 28 ∷ 28 ∷ 26 ∷ 28 ∷ 30 ∷ 24 ∷ 30 ∷ 30 ∷ 30 ∷ 30 ∷ 30 ∷ 30 ∷ 30 ∷ 30 ∷ 30 ∷ 30 ∷ 30 ∷ 30 ∷ 30 ∷ 30 ∷ 30 ∷ 30 ∷ 30 ∷ 30 ∷ []
 
--- The number of blocks, for each of the versions 1 to 40 (ISO/IEC 18004:2015, 7.5.1, Table 9)
+-- For each level, the number of blocks in each of the versions 1 to 40 (ISO/IEC 18004:2015, 7.5.1, Table 9)
 abbrev pub block_table : Level → List ℕ
 block_table L = 1 ∷ 1 ∷ 1 ∷ 1 ∷ 1 ∷ 2 ∷ 2 ∷ 2 ∷ 2 ∷ 4 ∷ 4 ∷ 4 ∷ 4 ∷ 4 ∷ 6 ∷ 6 ∷ 6 ∷ 6 ∷ 7 ∷ 8 ∷ 8 ∷ 9 ∷ 9 ∷ 10 ∷ 12 ∷ 12 ∷ 12 ∷ 13 ∷ 14 ∷ 15 ∷ 16 ∷ 17 ∷ 18 ∷ 19 ∷ 19 ∷ 20 ∷ 21 ∷ 22 ∷ 24 ∷ 25 ∷ []
 block_table M = 1 ∷ 1 ∷ 1 ∷ 2 ∷ 2 ∷ 4 ∷ 4 ∷ 4 ∷ 5 ∷ 5 ∷ 5 ∷ 8 ∷ 9 ∷ 9 ∷ 10 ∷ 10 ∷ 11 ∷ 13 ∷ 14 ∷ 16 ∷ 17 ∷ 17 ∷ 18 ∷ 20 ∷ 21 ∷ 23 ∷ 25 ∷ 26 ∷ 28 ∷ 29 ∷ 31 ∷ 33 ∷ 35 ∷ 37 ∷ 38 ∷ 40 ∷ 43 ∷ 45 ∷ 47 ∷ 49 ∷ []
@@ -35,12 +35,14 @@ block_count_of v l = slice_index_or (block_table l) (v - 1) 0
 unfoldable pub data_codewords_of : ℕ → Level → ℕ
 data_codewords_of v l = total_codewords_of v - block_count_of v l * correction_len_of v l
 
--- How many bits the data codewords have together (ISO/IEC 18004:2015, 7.4.10, Table 7)
+-- The capacity of version `v` at level `l`: how many bits all data codewords of a symbol have together (ISO/IEC
+-- 18004:2015, 7.4.10, Table 7)
 abbrev pub capacity_of : ℕ → Level → ℕ
 capacity_of v l = 8 * data_codewords_of v l
 
 -- The block sizes of version `v` at level `l`. The data codewords are divided evenly among the blocks. If some are left
--- over, each of the last blocks has one of them: these are the long blocks (ISO/IEC 18004:2015, 7.5.1, Table 9)
+-- over, they go to the last blocks, one to each. These are the long blocks, and the others are the short ones (ISO/IEC
+-- 18004:2015, 7.5.1, Table 9)
 abbrev pub blocks_of : ℕ → Level → Blocks
 blocks_of v l = record {
   short = block_count_of v l - data_codewords_of v l % block_count_of v l;
@@ -49,15 +51,17 @@ blocks_of v l = record {
   ec_len = correction_len_of v l;
 }
 
--- How many error correction codewords of a block only detect errors, so that fewer damaged blocks are corrected to a
--- wrong one. The standard calls this misdecode protection (ISO/IEC 18004:2015, 7.5.1, Table 9)
+-- How many error correction codewords of a block are not used to correct errors, but only to detect them. If they
+-- corrected errors too, more damaged blocks would be corrected to a wrong block. The standard calls this misdecode
+-- protection (ISO/IEC 18004:2015, 7.5.1, Table 9)
 abbrev pub protection_of : ℕ → Level → ℕ
 protection_of v L = if v == 1 then 3 else (if v == 2 then 2 else (if v == 3 then 1 else 0))
 protection_of v M = if v == 1 then 2 else 0
 protection_of v Q = if v == 1 then 1 else 0
 protection_of v H = if v == 1 then 1 else 0
 
--- How many error correction codewords of a block correct errors (ISO/IEC 18004:2015, 7.5.1, Table 9)
+-- How many error correction codewords of a block are used to correct errors: all but those that only detect errors
+-- (ISO/IEC 18004:2015, 7.5.1, Table 9)
 abbrev pub spare_of : ℕ → Level → ℕ
 spare_of v l = (blocks_of v l).ec_len - protection_of v l
 
@@ -66,23 +70,23 @@ spare_of v l = (blocks_of v l).ec_len - protection_of v l
 abbrev pub correctable_of : ℕ → Level → ℕ
 correctable_of v l = spare_of v l / 2
 
--- The number of all codewords of a long block, or of a short one if there is no long block (ISO/IEC 18004:2015, 7.5.1,
--- Table 9)
+-- How many codewords, of both kinds, the longest block has: a long block, or a short one if there is no long block
+-- (ISO/IEC 18004:2015, 7.5.1, Table 9)
 abbrev pub longest_of : Blocks → ℕ
 longest_of b = b.short_len + min b.long 1 + b.ec_len
 
--- A percentage p for each level. In every version, p percent of the codewords of a block are at most half of its error
--- correction codewords, rounded down. If at most p percent are misread and none is erased, what was read determines the
--- block [own]
+-- A percentage p for each level. If at most p percent of the codewords of a block are misread, and none is erased, then
+-- what was read determines the block. For this, half the number of error correction codewords in a block, rounded down,
+-- is in every version at least p percent of the number of all its codewords [own]
 abbrev pub damage_of : Level → ℕ
 damage_of L = 9
 damage_of M = 17
 damage_of Q = 23
 damage_of H = 30
 
--- Blocks of the sizes `b` have together as many data codewords, and as many error correction codewords, as the symbol.
--- At least one block is short. Each block has at least one data codeword and from 1 to 30 error correction codewords
--- (ISO/IEC 18004:2015, 7.5.1)
+-- All blocks of the sizes `b` together have as many data codewords, and as many error correction codewords, as a symbol
+-- of version `v` at level `l`. At least one block is short. Each block has at least one data codeword and from 1 to 30
+-- error correction codewords (ISO/IEC 18004:2015, 7.5.1)
 pub record AreWhole (v : ℕ) (l : Level) (b : Blocks) : Type 0 where
   pub some : 1 ≤ b.short
   pub some_len : 1 ≤ b.short_len

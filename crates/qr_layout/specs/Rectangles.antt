@@ -1,18 +1,18 @@
--- Rectangles that cover all modules of a symbol of version `v` that are outside the encoding region, but for the
--- alignment patterns.
+-- The rectangles that `fixed_rectangles` returns for a symbol of version `v`. Together with the alignment patterns they
+-- cover all modules outside the encoding region.
 use Rattle.std.specs.Prelude.{◌≡◌, ℕ, ◌<◌, ◌≤◌, Bool, ◌&&◌, ◌||◌, nat_lt, nat_le, List}
 use Rattle.std.specs.List.{All, list_any}
 use Rattle.qr_layout.specs.declared.rectangles.Rectangle.{Rectangle}
 use Rattle.qr_layout.specs.Region.{is_corner, is_timing, is_version_information}
 use Rattle.qr_layout.specs.Version.{side_of}
 
--- The place in row `r` and column `c` is in the rectangle `b`. The row `bottom` and the column `right` are the first
--- ones outside it [own]
+-- The place in row `r` and column `c` is in the rectangle `b`, which has the rows from `top` to `bottom - 1` and the
+-- columns from `left` to `right - 1` [own]
 abbrev pub is_in_rectangle : ℕ → ℕ → Rectangle → Bool
 is_in_rectangle r c b = nat_le b.top r && nat_lt r b.bottom && nat_le b.left c && nat_lt c b.right
 
--- The rectangles `bs` are inside the symbol. A place of the symbol is in one of them exactly if it is in a corner with
--- a finder pattern (its separator, format information and dark module included), in a timing pattern or in the version
+-- The rectangles `bs` are inside the symbol. They cover exactly three things: the corners with a finder pattern (each
+-- with its separator and format information, one also with the dark module), the timing patterns and the version
 -- information (ISO/IEC 18004:2015, 6.3.3 to 6.3.5, 7.9, 7.10)
 pub record AreFixed (v : ℕ) (bs : List Rectangle) : Type 0 where
   pub inside : All (λ b. (b.top ≤ b.bottom) × (b.bottom ≤ side_of v) × (b.left ≤ b.right) × (b.right ≤ side_of v)) bs

@@ -9,8 +9,9 @@ use Rattle.qr_layout.specs.Format.{format_bit_at, version_bit_at}
 use Rattle.qr_layout.specs.Alignment.{centres_of, alignment_places}
 use Rattle.qr_layout.specs.Region.{is_alignment, ring_of}
 
--- The number of the square ring around the nearest centre of a finder pattern that contains the place, where the centre
--- is ring 0. The rings 0, 1 and 3 are dark, ring 2 is light, and ring 4 is the separator (ISO/IEC 18004:2015, 6.3.3)
+-- The number of the ring that contains the place. The rings are square and are drawn around the nearest centre of a
+-- finder pattern. The centre is ring 0. The rings 0, 1 and 3 are dark, ring 2 is light, and ring 4 is the separator,
+-- which is light too (ISO/IEC 18004:2015, 6.3.3)
 abbrev pub finder_ring : ℕ → ℕ → ℕ → ℕ
 finder_ring s r c = min (ring_of 3 3 r c) (min (ring_of 3 (s - 4) r c) (ring_of (s - 4) 3 r c))
 
@@ -19,8 +20,9 @@ finder_ring s r c = min (ring_of 3 3 r c) (min (ring_of 3 (s - 4) r c) (ring_of 
 unfoldable pub is_alignment_light : ℕ → ℕ → ℕ → Bool
 is_alignment_light v r c = list_any (λ m. ring_of m.row m.col r c == 1) (alignment_places (side_of v) (centres_of v))
 
--- The colour of a module of a finder pattern, separator, timing pattern (dark at even indices) or alignment pattern,
--- and otherwise `None` (ISO/IEC 18004:2015, 6.3.3 to 6.3.6)
+-- The colour of the module in row `r` and column `c` if it belongs to a finder pattern, a separator, a timing pattern
+-- or an alignment pattern, and otherwise `None`. The timing pattern in row 6 is dark in even columns, and the one in
+-- column 6 in even rows (ISO/IEC 18004:2015, 6.3.3 to 6.3.6)
 unfoldable pub pattern_colour : ℕ → ℕ → ℕ → Option Bool
 pattern_colour v r c =
     if nat_lt (finder_ring (side_of v) r c) 4 then Some (not (finder_ring (side_of v) r c == 2)) else
@@ -29,7 +31,8 @@ pattern_colour v r c =
     (if c == 6 then Some (r % 2 == 0) else
     (if is_alignment v r c then Some (not (is_alignment_light v r c)) else None))))
 
--- The place is that of the dark module, beside the bottom left finder pattern (ISO/IEC 18004:2015, 7.9.1)
+-- The place is that of the dark module, which is dark in each symbol but belongs to no pattern. It is beside the bottom
+-- left finder pattern (ISO/IEC 18004:2015, 7.9.1)
 abbrev pub is_dark_module : ℕ → ℕ → ℕ → Bool
 is_dark_module s r c = r == s - 8 && c == 8
 

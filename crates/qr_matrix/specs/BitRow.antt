@@ -1,9 +1,9 @@
--- Bit rows, in which bit 0 is the lowest bit of the first word. A square is stored as a list of bit rows, from the top
--- down.
+-- Bit rows. A bit row stores a row of modules in three words of 64 bits. Bit `c` of it is the module in column `c`, and
+-- 1 is dark. Bit 0 is the lowest bit of the first word. A square is stored as a list of bit rows, from the top down.
 use Rattle.std.specs.Prelude.{ℕ, ◌+◌, ◌*◌, ◌^◌, Bool, ◌==◌, List, slice_index, slice_index_or, []}
 use Rattle.std.specs.Int.{bit_at}
 
--- The bits of the three words as one number, the first word lowest [own]
+-- The three words of a bit row as one number, whose lowest 64 bits are the first word [own]
 unfoldable pub bit_row_number : List ℕ → ℕ
 bit_row_number words = (slice_index words 2 * 2 ^ 64 + slice_index words 1) * 2 ^ 64 + slice_index words 0
 
@@ -15,7 +15,7 @@ has_bit n c = bit_at n c == 1
 unfoldable pub has : List ℕ → ℕ → Bool
 has words c = has_bit (bit_row_number words) c
 
--- The module in row `r` and column `c` is dark, if `rows` are the bit rows of a square. Below the last row every module
--- is light [own]
+-- The module in row `r` and column `c` of a square is dark. `rows` are the bit rows of the square, and below the last
+-- of them every module counts as light [own]
 unfoldable pub dark_in : List (List ℕ) → ℕ → ℕ → Bool
 dark_in rows r c = has (slice_index_or rows r []) c

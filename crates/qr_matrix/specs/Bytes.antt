@@ -2,16 +2,16 @@
 use Rattle.std.specs.Prelude.{ℕ, ◌+◌, ◌*◌, ◌==◌, Bool, not, if◌then◌else◌, List, slice_index_or}
 use Rattle.qr_matrix.specs.Grid.{Grid, square}
 
--- The byte that is written for a module [own]
+-- The byte that is written for a module: 1 if it is dark, and 0 if it is light [own]
 abbrev pub byte_of : Bool → ℕ
 byte_of dark = if dark then 1 else 0
 
--- The square of `side` rows whose modules `bytes` begin with, row by row. A byte is 0 for a light module, and any other
--- byte is a dark one [own]
+-- The square of `side` rows whose modules are the first bytes of `bytes`, row by row. The byte 0 is a light module, and
+-- any other byte is a dark one [own]
 abbrev pub square_of_bytes : ℕ → List ℕ → Grid
 square_of_bytes side bytes = square side (λ row col. not (slice_index_or bytes (row * side + col) 0 == 0))
 
--- A square of `side` rows that shows which modules are not known. A module is dark exactly if its byte is 2, where
--- `bytes` lists the modules row by row [own]
+-- A square of `side` rows in which the modules that are not known are dark, and all others light. The first bytes of
+-- `bytes` are the modules, row by row, and the byte 2 is a module that is not known [own]
 abbrev pub square_of_unknown : ℕ → List ℕ → Grid
 square_of_unknown side bytes = square side (λ row col. slice_index_or bytes (row * side + col) 0 == 2)

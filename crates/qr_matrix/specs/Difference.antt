@@ -1,4 +1,4 @@
--- Comparing two squares.
+-- At which places, and at how many, two squares have different colours.
 use Rattle.std.specs.Prelude.{ℕ, not, Bool}
 use Rattle.qr_matrix.specs.Grid.{Grid, colour, is_same}
 use Rattle.qr_matrix.specs.Sums.{places_passing}
@@ -7,6 +7,6 @@ use Rattle.qr_matrix.specs.Sums.{places_passing}
 abbrev pub differs : Grid → Grid → ℕ → ℕ → Bool
 differs g h r c = not (is_same (colour g r c) (colour h r c))
 
--- The number of places of `g` in which the squares `g` and `h` have different colours [own]
+-- The number of places of `g` at which the squares `g` and `h` have different colours [own]
 unfoldable pub difference_count : Grid → Grid → ℕ
 difference_count g h = places_passing g.side (differs g h)

@@ -1,5 +1,6 @@
--- Squares whose penalties were counted by hand, and a law of squares whose modules are written as bytes. A square of
--- the first kind is given by the colour of the module in row `r` and column `c`.
+-- Squares and a statement that two laws cite. For each of these squares the penalty was counted by hand, and a law
+-- compares it with the definition of the penalty. `r` is the row of a module and `c` its column, and `true` is dark.
+-- The statement is about squares whose modules are written as bytes.
 use Rattle.std.specs.Prelude.{◌≡◌, ℕ, ◌+◌, ◌*◌, ◌<◌, ◌%◌, ◌&&◌, ◌||◌, ◌==◌, nat_le, Bool, true, false, List, slice_index_or}
 use Rattle.qr_matrix.specs.Grid.{Grid, colour}
 use Rattle.qr_matrix.specs.Bytes.{byte_of, square_of_bytes}
@@ -16,18 +17,18 @@ all_light r c = false
 abbrev pub chequered : ℕ → ℕ → Bool
 chequered r c = (r + c) % 2 == 0
 
--- A row or column that is light but for the seven modules from module `k` on. These have the ratio 1:1:3:1:1 of a
--- finder pattern [own]
+-- A row or column in which all modules are light, except that the seven modules from module `k` on have the ratio
+-- 1:1:3:1:1 of a finder pattern [own]
 abbrev pub ratio_from : ℕ → ℕ → Bool
 ratio_from k c = c == k || (nat_le (k + 2) c && nat_le c (k + 4)) || c == k + 6
 
--- A square that is light but for seven modules of row 0, from column `k` on. These have the ratio 1:1:3:1:1 of a finder
--- pattern [own]
+-- A square in which all modules are light, except that seven modules of row 0, from column `k` on, have the ratio
+-- 1:1:3:1:1 of a finder pattern [own]
 abbrev pub ratio_in_a_row : ℕ → ℕ → ℕ → Bool
 ratio_in_a_row k r c = r == 0 && ratio_from k c
 
--- A square that is light but for seven modules of column 10, from row `k` on. These have the ratio 1:1:3:1:1 of a
--- finder pattern [own]
+-- A square in which all modules are light, except that seven modules of column 10, from row `k` on, have the ratio
+-- 1:1:3:1:1 of a finder pattern [own]
 abbrev pub ratio_in_a_column : ℕ → ℕ → ℕ → Bool
 ratio_in_a_column k r c = c == 10 && ratio_from k r
 

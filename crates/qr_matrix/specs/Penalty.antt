@@ -14,43 +14,44 @@ is_run s line a k =
     && (a == 0 || not (is_same (line (a - 1)) (line a)))
     && (a + k == s || not (is_same (line (a + k)) (line a)))
 
--- The points for the runs of `line`: `k - 2` for each run of `k` modules, if `k` is at least 5 (ISO/IEC 18004:2015,
--- 7.8.3.1, Table 11)
+-- The points for the runs of `line`: a run of `k` modules costs `k - 2` points if `k` is at least 5, and nothing
+-- otherwise (ISO/IEC 18004:2015, 7.8.3.1, Table 11)
 unfoldable pub run_cost : ℕ → (ℕ → Bool) → ℕ
 run_cost s line = sum_below s (λ a. sum_below (s + 1) (λ k. if nat_le 5 k && is_run s line a k then k - 2 else 0))
 
--- From module `c` on, `line` has the colours of the list [own]
+-- The modules of `line` from module `c` on have the colours of the list, in the same order [own]
 abbrev pub reads : (ℕ → Bool) → ℕ → List Bool → Bool
 reads line c [] = true
 reads line c (b ∷ bs) = is_same (line c) b && reads line (c + 1) bs
 
--- The seven modules dark, light, three times dark, light and dark, in the ratio 1:1:3:1:1 (ISO/IEC 18004:2015, 7.8.3.1,
--- Table 11)
+-- The colours of seven modules in the ratio 1:1:3:1:1 of a finder pattern: one dark module, one light one, three dark
+-- ones, one light one and one dark one (ISO/IEC 18004:2015, 7.8.3.1, Table 11)
 abbrev pub finder_ratio : List Bool
 finder_ratio = true ∷ false ∷ true ∷ true ∷ true ∷ false ∷ true ∷ []
 
--- The light area before or after the ratio, four modules wide (ISO/IEC 18004:2015, 7.8.3.1, Table 11)
+-- The colours of the light area in a window. It is four modules wide, and is before or after the ratio 1:1:3:1:1
+-- (ISO/IEC 18004:2015, 7.8.3.1, Table 11)
 abbrev pub four_light : List Bool
 four_light = false ∷ false ∷ false ∷ false ∷ []
 
--- A window begins at module `c` of `line`: the ratio 1:1:3:1:1, and four light modules before or after it. All of it is
--- inside the symbol (ISO/IEC 18004:2015, 7.8.3.1, Table 11)
+-- The eleven modules `c` to `c + 10` of `line` are inside the symbol, and they are a window: the ratio 1:1:3:1:1
+-- followed by four light modules, or four light modules followed by this ratio (ISO/IEC 18004:2015, 7.8.3.1, Table 11)
 unfoldable pub is_window : ℕ → (ℕ → Bool) → ℕ → Bool
 is_window s line c =
     nat_le (c + 11) s && (reads line c (finder_ratio ++ four_light) || reads line c (four_light ++ finder_ratio))
 
--- The number of windows in `line`, overlapping ones too [own]
+-- The number of windows in `line`. Windows that overlap are all counted [own]
 unfoldable pub window_count : ℕ → (ℕ → Bool) → ℕ
 window_count s line = count_below s (is_window s line)
 
--- The two by two modules whose top left one is in row `r` and column `c` have one colour (ISO/IEC 18004:2015, 7.8.3.1,
--- Table 11, block of modules in same colour)
+-- The two by two modules whose top left one is in row `r` and column `c` are inside the symbol and have one colour
+-- (ISO/IEC 18004:2015, 7.8.3.1, Table 11, block of modules in same colour)
 unfoldable pub is_square_of_two : ℕ → (ℕ → ℕ → Bool) → ℕ → ℕ → Bool
 is_square_of_two s dark r c =
     nat_lt (r + 1) s && nat_lt (c + 1) s
     && is_same (dark r c) (dark r (c + 1)) && is_same (dark r c) (dark (r + 1) c) && is_same (dark r c) (dark (r + 1) (c + 1))
 
--- The number of two by two squares of one colour, overlapping ones too [own]
+-- The number of two by two squares of one colour. Squares that overlap are all counted [own]
 unfoldable pub square_count : ℕ → (ℕ → ℕ → Bool) → ℕ
 square_count s dark = places_passing s (is_square_of_two s dark)
 
@@ -59,11 +60,12 @@ square_count s dark = places_passing s (is_square_of_two s dark)
 unfoldable pub dark_cost : ℕ → ℕ → ℕ
 dark_cost s many = 10 * (abs_diff (20 * many) (10 * (s * s)) / (s * s))
 
--- The sum of the values that `f` has for all rows and all columns [own]
+-- A sum over all lines of the square, its rows and its columns. Each line adds the number that `f` gives for its
+-- colours [own]
 unfoldable pub over_lines : ℕ → (ℕ → ℕ → Bool) → ((ℕ → Bool) → ℕ) → ℕ
 over_lines s dark f = sum_below s (λ r. f (dark r)) + sum_below s (λ c. f (λ r. dark r c))
 
--- The penalty: the points for runs and for the share of dark modules, 3 points for each two by two square of one
--- colour, and 40 for each window (ISO/IEC 18004:2015, 7.8.3.1, Table 11)
+-- The penalty, a sum of four numbers: the points for runs, 3 points for each two by two square of one colour, 40 points
+-- for each window, and the points for the share of dark modules (ISO/IEC 18004:2015, 7.8.3.1, Table 11)
 unfoldable pub penalty_of : ℕ → (ℕ → ℕ → Bool) → ℕ
 penalty_of s dark = over_lines s dark (run_cost s) + 3 * square_count s dark + 40 * over_lines s dark (window_count s) + dark_cost s (places_passing s dark)

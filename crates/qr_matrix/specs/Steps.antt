@@ -1,5 +1,7 @@
--- Steps of the code: bit rows, the bit rows of two squares side by side, dark runs, the modules that cost a point, what
--- the penalty counts, and tiles. A square is transposed tile by tile, and a tile is 64 by 64 modules.
+-- What the code computes on the way to its results. The subjects are bit rows, pairs of squares, dark runs, what the
+-- penalty counts, and the transposition of a square in tiles of 64 by 64 modules. In a pair, the words of two squares
+-- are stored side by side. `line c` is the colour of module `c` of a row or column of `s` modules, and `dark r c` the
+-- colour in row `r` and column `c` of a square of side `s`.
 use Rattle.std.specs.Prelude.{◌≡◌, ℕ, ◌+◌, ◌-◌, ◌*◌, ◌%◌, ◌^◌, ◌<◌, ◌≤◌, ◌&&◌, ◌||◌, not, Bool, List, [], ◌∷◌, length, slice_index, slice_index_or, map, nat_le, nat_lt, if◌then◌else◌}
 use Rattle.std.specs.List.{filter, range_with_len}
 use Rattle.qr_matrix.specs.Grid.{is_same}
@@ -13,7 +15,8 @@ use Rattle.qr_matrix.specs.declared.dark_runs.Run.{Run}
 abbrev pub AreWords : List ℕ → Type 0
 AreWords words = (length words ≡ 3) × (slice_index words 0 < 2 ^ 64) × (slice_index words 1 < 2 ^ 64) × (slice_index words 2 < 2 ^ 64)
 
--- A row of `side` modules takes `words` words of 64 bits, of the three that a bit row has
+-- `words` is the least number of words of 64 bits that can store a row of `side` modules. It is at most 3, as many as a
+-- bit row has
 pub record NeedsWords (side words : ℕ) : Type 0 where
   pub least : 64 * (words - 1) < side
   pub most : side ≤ 64 * words
@@ -27,25 +30,27 @@ set_count bit = count_below 192 bit
 abbrev pub size_of : List ℕ → ℕ
 size_of words = set_count (has words)
 
--- `words` are two words of at most 64 bits, one for each of two squares
+-- `words` are two words of at most 64 bits, the first from one square and the second from another
 abbrev pub IsPair : List ℕ → Type 0
 IsPair words = (length words ≡ 2) × (slice_index words 0 < 2 ^ 64) × (slice_index words 1 < 2 ^ 64)
 
--- Of the two words, the one of the second square if `second` is true, and otherwise that of the first
+-- The word of the second square if `second` is true, and otherwise the word of the first square. The list `words` has
+-- the word of the first square, and then that of the second
 abbrev pub word_of : List ℕ → Bool → ℕ
 word_of words second = slice_index words (if second then 1 else 0)
 
--- Of the two bit rows whose words are side by side in `pairs`, the one of the second square if `second` is true, and
--- otherwise that of the first
+-- The bit row of the second square if `second` is true, and otherwise that of the first. `pairs` has three pairs of
+-- words. Pair `k` is the word with the index `k` of the first square's bit row and the word with this index of the
+-- second's
 unfoldable pub lane : List (List ℕ) → Bool → List ℕ
 lane pairs second = word_of (slice_index_or pairs 0 []) second ∷ word_of (slice_index_or pairs 1 []) second ∷ word_of (slice_index_or pairs 2 []) second ∷ []
 
--- The bit rows of the second square if `second` is true, and otherwise those of the first. In `rows` the words of both
--- squares are side by side, from the top row down
+-- All bit rows of the second square if `second` is true, and otherwise those of the first, from the top down. An
+-- element of `rows` has the bit rows of both squares for one row of modules, word beside word
 abbrev pub lanes : List (List (List ℕ)) → Bool → List (List ℕ)
 lanes rows second = map (λ pairs. lane pairs second) rows
 
--- The `n` columns from column `k` on, without those that fail the test `p`, from left to right
+-- Those of the `n` columns from column `k` on that pass the test `p`, from left to right
 unfoldable pub columns_passing : (ℕ → Bool) → ℕ → ℕ → List ℕ
 columns_passing p k n = filter p (range_with_len k n)
 
@@ -53,40 +58,44 @@ columns_passing p k n = filter p (range_with_len k n)
 abbrev pub set_bits : List ℕ → List ℕ
 set_bits words = columns_passing (has words) 0 192
 
--- Module `c` of `line` has another colour than the module before it. Module 0 is compared with a light module
+-- Module `c` of `line` has another colour than the module before it, where module 0 is compared with a light module. So
+-- a dark run starts or ends at each such module
 unfoldable pub is_change : (ℕ → Bool) → ℕ → Bool
 is_change line c = not (is_same (line c) (nat_lt 0 c && line (c - 1)))
 
--- The runs whose starts and ends are the columns of the list: a start, its end, the next start and so on
+-- The runs that a list of columns gives. The list has the start of the first run, its end, the start of the second run,
+-- its end and so on. The end of a run is the column after its last module
 abbrev pub runs_between : List ℕ → List Run
 runs_between (start ∷ end ∷ columns) = record { start = start; end = end } ∷ runs_between columns
 runs_between columns = []
 
--- Module `c` of `line` is charged a point for runs: it, or one of the two modules before it, is the first of five of
--- one colour. In a run of five or more, only the last two are not charged
+-- Module `c` of `line` is charged a point for runs: five modules of one colour begin with it, or with one of the two
+-- modules before it. So in a run of five or more modules all but the last two are charged
 unfoldable pub is_charged : ℕ → (ℕ → Bool) → ℕ → Bool
 is_charged s line c = (begins_five s line c || (nat_lt 0 c && begins_five s line (c - 1))) || (nat_lt 1 c && begins_five s line (c - 2))
 
--- The number of modules of row `r` that are charged a point for the runs of their columns
+-- The number of modules of row `r` that are charged a point (`is_charged`) for a run of their column
 unfoldable pub row_share : ℕ → (ℕ → ℕ → Bool) → ℕ → ℕ
 row_share s dark r = count_below s (λ c. is_charged s (λ i. dark i c) r)
 
--- In column `c` of a square, the module in row `r` has the colour of the one below it
+-- In column `c` of a square, the modules in the rows `r` and `r + 1` exist and have the same colour
 abbrev pub joins_down : ℕ → (ℕ → ℕ → Bool) → ℕ → ℕ → Bool
 joins_down s dark c r = nat_lt c s && joins s (λ i. dark i c) r
 
--- Five equal modules of a column begin in row `r`, if `join k` says that the modules in rows `k` and `k + 1` are equal
+-- The five modules of a column in the rows `r` to `r + 4` have one colour. `join k` says that the modules in the rows
+-- `k` and `k + 1` have the same colour
 abbrev pub begin_five : (ℕ → Bool) → ℕ → Bool
 begin_five join r = (join r && join (r + 1)) && (join (r + 2) && join (r + 3))
 
--- Five equal modules of a column begin in row `r`, or in one of the two rows before it, if `join k` says that the
--- modules in rows `k` and `k + 1` are equal
+-- Five modules of one colour begin in row `r` of a column, or in one of the two rows above it, so that the module in
+-- row `r` is charged a point. `join k` says that the modules in the rows `k` and `k + 1` have the same colour
 abbrev pub is_near_five : (ℕ → Bool) → ℕ → Bool
 is_near_five join r = (begin_five join r || (nat_lt 0 r && begin_five join (r - 1))) || (nat_lt 1 r && begin_five join (r - 2))
 
--- What is kept of the first `n` comparisons of a column, each of a module with the one below it: `joined` if the last
--- one found equal modules, `threes` if the last two did, and `fives` if the last four did. `earlier_threes` and
--- `earlier_fives` are what `threes` and `fives` were one row before
+-- What the code knows of a column when the first `n` comparisons are done. The comparison `k`, counted from 0, says
+-- whether the modules in the rows `k` and `k + 1` have the same colour, and `join k` is its result. `joined` is true if
+-- the last comparison was true, `threes` if the last two were, and `fives` if the last four were. `earlier_threes` and
+-- `earlier_fives` are what `threes` and `fives` were one comparison earlier
 pub record IsAbove (join : ℕ → Bool) (n : ℕ) (joined threes earlier_threes fives earlier_fives : Bool) : Type 0 where
   pub joined_is : joined ≡ (nat_lt 0 n && join (n - 1))
   pub threes_are : threes ≡ (nat_lt 1 n && (join (n - 2) && join (n - 1)))
@@ -94,45 +103,52 @@ pub record IsAbove (join : ℕ → Bool) (n : ℕ) (joined threes earlier_threes
   pub fives_are : fives ≡ (nat_lt 3 n && begin_five join (n - 4))
   pub earlier_fives_are : earlier_fives ≡ (nat_lt 4 n && begin_five join (n - 5))
 
--- What is counted when `n` rows are done. `runs` is a sum of points. It has those for the runs in these rows. For the
--- runs in columns it has one point for each module of the first `n - 3` rows that is charged one (`is_charged`).
--- `squares` is the number of two by two modules of one colour whose upper row is one of the `n` rows
+-- What is counted when the first `n` rows of a square are done. `runs` is a sum of points: all points for the runs in
+-- these rows, and one point for each module of the first `n - 3` rows that is charged one for a run in its column
+-- (`is_charged`). `squares` is the number of two by two squares of one colour whose upper row is one of the `n` rows.
+-- The bounds show that the two numbers do not overflow
 pub record IsCountedTo (s : ℕ) (dark : ℕ → ℕ → Bool) (n runs squares : ℕ) : Type 0 where
   pub runs_are : runs ≡ sum_below n (λ r. place_cost s (dark r)) + sum_below (n - 3) (row_share s dark)
   pub runs_most : runs ≤ 192 * n + 192 * (n - 3)
   pub squares_are : squares ≡ sum_below n (λ r. count_below s (is_square_of_two s dark r))
   pub squares_most : squares ≤ 192 * n
 
--- A window begins at module `r` with the ratio, before four light modules
+-- A window begins at module `r` of `line`. Its first seven modules have the ratio 1:1:3:1:1, and its last four are
+-- light
 abbrev pub is_before_light : ℕ → (ℕ → Bool) → ℕ → Bool
 is_before_light s line r = nat_le (r + 11) s && (reads line r finder_ratio && reads line (r + 7) four_light)
 
--- A window begins at module `r` with four light modules, and the ratio is after them
+-- A window begins at module `r` of `line`. Its first four modules are light, and its last seven have the ratio
+-- 1:1:3:1:1
 abbrev pub is_after_light : ℕ → (ℕ → Bool) → ℕ → Bool
 is_after_light s line r = nat_le (r + 11) s && (reads line r four_light && reads line (r + 4) finder_ratio)
 
--- A window of a column is found in row `r`: it begins there with the ratio, or three rows above with four light modules
+-- A window of a column is counted when the code comes to row `r`. Either the window begins in row `r` with the ratio
+-- 1:1:3:1:1, or it begins three rows above with its four light modules, of which row `r` has the last
 unfoldable pub is_found : ℕ → (ℕ → Bool) → ℕ → Bool
 is_found s line r = is_before_light s line r || (nat_lt 2 r && is_after_light s line (r - 3))
 
--- The number of windows in the first `n` rows, and of those of columns that are found in these rows
+-- `windows` is the number of windows that are counted when the first `n` rows are done. These are all windows in the
+-- rows themselves, and the windows in columns that are counted (`is_found`) at one of these rows
 pub record AreWindowsTo (s : ℕ) (dark : ℕ → ℕ → Bool) (n windows : ℕ) : Type 0 where
   pub windows_are : windows ≡ sum_below n (λ r. window_count s (dark r)) + sum_below n (λ r. count_below s (λ c. is_found s (λ i. dark i c) r))
   pub windows_most : windows ≤ 384 * n
 
--- The bit in row `r` and column `c` of a tile of 64 by 64 modules, where column 0 is the lowest bit of a word
+-- The bit in row `r` and column `c` of a tile of 64 by 64 modules. Row `r` of the tile is the word with the index `r`,
+-- and column 0 is the lowest bit of a word
 unfoldable pub bit_in : List ℕ → ℕ → ℕ → Bool
 bit_in words r c = has_bit (slice_index words r) c
 
--- The tile `f` after one step of its transposition. The tile is divided into squares of `s` by `s` bits. Of each two by
--- two such squares the upper right and the lower left one are exchanged
+-- The tile `f` after one step of its transposition. The tile consists of squares of `s` by `s` bits, and these are
+-- grouped two by two. In each group the upper right square and the lower left one are exchanged
 unfoldable pub exchanged : ℕ → (ℕ → ℕ → Bool) → ℕ → ℕ → Bool
 exchanged s f r c =
     if nat_lt (r % (2 * s)) s
     then (if nat_lt (c % (2 * s)) s then f r c else f (r + s) (c - s))
     else (if nat_lt (c % (2 * s)) s then f (r - s) (c + s) else f r c)
 
--- What is counted in a square: the points for runs, the squares of two by two modules, the windows, and the dark modules
+-- What the penalty needs of a square. `runs` are the points for runs. `squares`, `windows` and `darks` are the numbers
+-- of two by two squares of one colour, of windows and of dark modules. The bounds show that the numbers do not overflow
 pub record IsCounted (s : ℕ) (dark : ℕ → ℕ → Bool) (runs squares windows darks : ℕ) : Type 0 where
   pub runs_are : runs ≡ over_lines s dark (run_cost s)
   pub squares_are : squares ≡ square_count s dark

@@ -1,4 +1,4 @@
--- Sums and counts over the numbers below `n`, and over the places of a square of side `s`.
+-- Sums and counts over the numbers from 0 to `n - 1`, and over the places of a square of side `s`.
 use Rattle.std.specs.Prelude.{ℕ, ◌+◌, ◌&&◌, Bool, true, if◌then◌else◌}
 use Prim.Native.Nat.{zero, suc}
 
@@ -16,6 +16,7 @@ abbrev pub all_below : ℕ → (ℕ → Bool) → Bool
 all_below zero p = true
 all_below (suc n) p = p n && all_below n p
 
--- The number of places of a square of side `s` for which `p` is true [own]
+-- The number of places of a square of side `s` for which `p r c` is true, where `r` is the row of the place and `c` its
+-- column [own]
 unfoldable pub places_passing : ℕ → (ℕ → ℕ → Bool) → ℕ
 places_passing s p = sum_below s (λ r. count_below s (p r))

@@ -11,21 +11,21 @@ use Rattle.qr_drawing.specs.Drawing.{drawn}
 use Rattle.qr_drawing.specs.declared.drawing.Drawing.{Drawing}
 use Rattle.qr_parsing.specs.Parsing.{IsDrawingOf}
 
--- A text is the drawing of at most one type, one margin and one list of squares [own]
+-- A text that is a drawing of squares has only one type, one margin and one list of squares whose drawing it is [own]
 abbrev pub DrawingsAreOne : Type 0
 DrawingsAreOne = (kind other : Drawing) (margin last : ℕ) (squares others : List Grid) (text : List ℕ)
     → IsDrawingOf kind margin squares text → IsDrawingOf other last others text
     → (kind ≡ other) × (margin ≡ last) × (squares ≡ others)
 
--- For each type of drawing, and each margin of at most 255 modules, the text that draws the symbol of an input is a
--- drawing of this symbol, and so it is parsed [own]
+-- If the symbol of an input is drawn, the text is a drawing of this symbol in the sense of `IsDrawingOf`, and so it can
+-- be parsed. This holds for each type of drawing, and for each margin of at most 255 modules [own]
 abbrev pub SymbolsAreDrawings : Type 0
 SymbolsAreDrawings = (kind : Drawing) (margin smallest : ℕ) (l : Level) (rule : Rule) (i : Interpretation) (x : List ℕ) (v mask : ℕ) (g : Grid)
     → margin ≤ 255 → 1 ≤ smallest → IsSymbol smallest l rule i x v mask g
     → IsDrawingOf kind margin (g ∷ []) (drawn kind margin (g ∷ []))
 
--- For each type of drawing, and each margin of at most 255 modules, the text that draws the series of an input is a
--- drawing of this series, and so it is parsed [own]
+-- If the series of an input is drawn, the text is a drawing of this series in the sense of `IsDrawingOf`, and so it can
+-- be parsed. This holds for each type of drawing, and for each margin of at most 255 modules [own]
 abbrev pub SeriesAreDrawings : Type 0
 SeriesAreDrawings = (kind : Drawing) (margin v : ℕ) (l : Level) (rule : Rule) (i : Interpretation) (x : List ℕ) (symbols : List Symbol)
     → margin ≤ 255 → 1 ≤ v → v ≤ 40 → IsSeries v l rule i x symbols

@@ -5,9 +5,9 @@ use Rattle.qr_matrix.specs.Grid.{Grid, IsSquare, colour}
 use Rattle.qr_drawing.specs.Drawing.{HaveOneSide, drawn}
 use Rattle.qr_drawing.specs.declared.drawing.Drawing.{Drawing}
 
--- A square of 8 to 177 modules on a side with two modules that every symbol has: the dark one at the top left, which is
--- in a finder pattern, and the light one in column 7 of row 0, which is in the separator of this pattern (ISO/IEC
--- 18004:2015, 6.3.3, 6.3.4)
+-- A square of 8 to 177 modules on a side in which two modules are as in every symbol. The module at the top left is
+-- dark, since it is in a finder pattern. The module in column 7 of row 0 is light, since it is in the separator of this
+-- pattern (ISO/IEC 18004:2015, 6.3.3, 6.3.4)
 pub record BeginsAsSymbol (g : Grid) : Type 0 where
   pub least : 8 ≤ g.side
   pub most : g.side ≤ 177
@@ -15,8 +15,8 @@ pub record BeginsAsSymbol (g : Grid) : Type 0 where
   pub corner : colour g 0 0 ≡ true
   pub separator : colour g 0 7 ≡ false
 
--- `text` is the drawing of 1 to 16 squares, of this type and with this margin of at most 255 modules. The squares have
--- the same side, and begin as symbols do [own]
+-- `text` is the drawing of the squares, of this type and with this margin of at most 255 modules. There are 1 to 16
+-- squares, which have the same side and begin as symbols do (`BeginsAsSymbol`) [own]
 pub record IsDrawingOf (kind : Drawing) (margin : ℕ) (squares : List Grid) (text : List ℕ) : Type 0 where
   pub some : 0 < length squares
   pub few : length squares ≤ 16

@@ -1,6 +1,6 @@
--- The command's arguments as rules of the crate `clap`, and what `clap` finds in a command line. `id` is the name of an
--- option, or of the string, in the code. `letter` is the code point of an option's letter. `words` is the command line,
--- which begins with the program's name.
+-- The command's arguments, and what `clap` finds in a command line. In this file a rule is what the crate `clap` is
+-- told of one argument. `id` is the name that an option, or the string, has in the code. `letter` is the code point of
+-- an option's letter. `words` is the command line, which begins with the program's name.
 use Rattle.std.specs.Prelude.{ℕ, true, List, codes, Some, pos, slice_index, ℤ}
 use Rattle.clap.specs.Words.{Kinds, fault_of}
 use Rattle.clap.specs.Walk.{Row, Rule, Text}
@@ -12,15 +12,15 @@ use Rattle.clap.specs.declared.builder.value_parser.ValueParser.TheVariants as p
 abbrev pub text_rule : Text → ℕ → Rule
 text_rule id letter = record (new_rule id) { short = Some letter; value_names = 1 }
 
--- The rule of an option that takes a number from 0 to `most`, such as -v or -m [own]
+-- The rule of an option that takes a number, such as -v or -m. The number is from 0 to `most` [own]
 abbrev pub number_rule : Text → ℕ → ℤ → Rule
 number_rule id letter most = record (text_rule id letter) { parser = Some (parser.Signed (pos 0) most) }
 
--- The rule of an option that takes a text, and without which `clap` refuses the arguments [own]
+-- The rule of an option that takes a text and has to be given. If it is missing, `clap` refuses the arguments [own]
 abbrev pub required_rule : Text → ℕ → Rule
 required_rule id letter = record (text_rule id letter) { required = true }
 
--- The rule of an argument that belongs to no option [own]
+-- The rule of an argument that is not the value of an option, such as the string [own]
 abbrev pub positional_rule : Text → Rule
 positional_rule id = record (new_rule id) { value_names = 1 }
 
@@ -28,12 +28,12 @@ positional_rule id = record (new_rule id) { value_names = 1 }
 abbrev pub flag_rule : Text → ℕ → Rule
 flag_rule id letter = record (new_rule id) { short = Some letter; action = Some SetTrue }
 
--- The code point of an option's letter, from a text of this one letter [own]
+-- The code point of an option's letter. The text consists of this letter alone [own]
 abbrev pub letter_of : Text → ℕ
 letter_of text = slice_index text 0
 
--- The command with its options -l, -v (0 to 40), -t, -m (0 to 100), -8, -k, -i and -S, and one string; only -t must be
--- given [own]
+-- The rules of the command. Its options are -l, -v (0 to 40), -t, -m (0 to 100), -8, -k, -i and -S, and it takes one
+-- string. Only -t has to be given [own]
 unfoldable pub command : App
 command = with_rule (with_rule (with_rule (with_rule (with_rule (with_rule (with_rule (with_rule (with_rule (new_app (codes "qrencode"))
     (text_rule (codes "level") (letter_of (codes "l"))))
@@ -50,6 +50,7 @@ command = with_rule (with_rule (with_rule (with_rule (with_rule (with_rule (with
 unfoldable pub rows_for : List Text → List Row
 rows_for words = matches_of command words
 
--- The kinds of fault that `clap` finds in the command line `words`. There is none if it accepts the arguments [own]
+-- The kinds of fault that `clap` finds in the command line `words`. If there is none, `clap` accepts the arguments
+-- [own]
 unfoldable pub faults_for : List Text → Kinds
 faults_for words = fault_of command words

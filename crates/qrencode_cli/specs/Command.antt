@@ -1,8 +1,8 @@
 -- What a run of the command draws, and what it does to its reader, standard output and standard error. `words` are the
--- arguments, of which the first is the program's name, `s` the settings, and `given` the bytes that the reader
--- returned. A device is `old` before the run and `new` after it; in definitions of all three devices it is `in0`,
--- `out0` or `err0` before, and `in1`, `out1` or `err1` after. What is said of a device's counts holds if they were 0
--- before the run.
+-- arguments, of which the first is the program's name. `s` are the settings, and `given` the bytes that the reader
+-- returned. A device is `old` before the run and `new` after it. Where all three devices occur, they are `in0`, `out0`
+-- and `err0` before the run, and `in1`, `out1` and `err1` after it. What is said of a device's counts holds if they
+-- were 0 before the run.
 use Rattle.std.specs.Prelude.{◌≡◌, ◌↔◌, ◌≤◌, ◌<◌, ◌+◌, ◌⊎◌, ℕ, List, [], length, take, max, None, IfErr, IsErrOf, IsTrue, MatchResult, Result, Ok, Err, is_ok, Bool, true, false, if◌then◌else◌}
 use Rattle.std.specs.Option.{option_map_or}
 use Rattle.std.specs.Io.KnownBytes.{Appends, Consumes}
@@ -23,17 +23,18 @@ use Rattle.qrencode_cli.specs.declared.fault.Fault.TheVariants as fault
 use Rattle.qrencode_cli.specs.declared.settings.UsageFault.TheVariants as usage
 use Rattle.qr_symbol.specs.declared.fault.EncodeFault.TheVariants as encode
 
--- The input: the string among the arguments, cut after `INPUT_MAX` bytes, or else what the reader returned [own]
+-- The input of a run. If there is a string among the arguments, it is this string, or the first `INPUT_MAX` bytes of a
+-- longer one. Otherwise it is what the reader returned [own]
 abbrev pub input_for : SettingsView → List ℕ → List ℕ
 input_for s given = option_map_or (λ text. take INPUT_MAX text) s.string given
 
--- What the symbols contain: the input, folded if -i is given; with -k, folding leaves kanji pairs unchanged, and with
--- -8 all bytes [own]
+-- The bytes that the symbols contain. Without -i they are the input itself. With -i they are the input with capitals in
+-- place of small letters. If -k is also given, kanji pairs stay unchanged, and if -8 is also given, all bytes do [own]
 abbrev pub held : SettingsView → List ℕ → List ℕ
 held s input = if s.fold then folded (rule_for s) input else input
 
--- The settings ask for this drawing of `input`, and its symbols are read and joined as `input`. `input` is not empty,
--- and it is shorter than `INPUT_MAX`, so nothing was cut off [own]
+-- `drawing` is the drawing of symbols that the settings ask for. If these symbols are read and joined, they yield
+-- `input`. `input` is not empty, and it is shorter than `INPUT_MAX`, so nothing was cut off [own]
 pub record IsDrawing (s : SettingsView) (input drawing : List ℕ) : Type 0 where
   pub squares : List Grid
   pub symbols : AreSymbols s input squares
@@ -48,17 +49,17 @@ pub record HasSettingsWith (words : List Text) (P : SettingsView → Type 0) : T
   pub taken : settings_for words ≡ Ok settings
   pub holds : P settings
 
--- `drawing` is what the arguments ask for if the reader returned `given` [own]
+-- `drawing` is what the arguments ask for, if `given` are the bytes that the reader returned [own]
 abbrev pub HasDrawing : List Text → List ℕ → List ℕ → Type 0
 HasDrawing words given drawing = HasSettingsWith words (λ s. IsDrawing s (held s (input_for s given)) drawing)
 
--- The arguments are accepted, but their input cannot be drawn, because the reason `why` holds of the settings and the
--- input [own]
+-- The arguments are accepted, but there is no drawing, because the reason `why` holds of the settings and of the bytes
+-- that the symbols would contain [own]
 abbrev pub HasRefusal : List Text → List ℕ → (SettingsView → List ℕ → Type 0) → Type 0
 HasRefusal words given why = HasSettingsWith words (λ s. why s (held s (input_for s given)))
 
--- `f` is a correct reason to refuse the arguments or the input; a fault of a device or lack of memory is no refusal
--- [own]
+-- The fault is a correct reason to refuse the arguments or the input. A fault of a device and lack of memory are no
+-- refusals [own]
 abbrev pub IsRefusal : List Text → List ℕ → Fault → Type 0
 IsRefusal words given (fault.Usage usage.Memory) = ⊥
 IsRefusal words given (fault.Usage f) = IsUsageFault (settings_for words) f
@@ -67,35 +68,36 @@ IsRefusal words given (fault.Encode encode.TooLong) = HasRefusal words given IsT
 IsRefusal words given (fault.Encode encode.TooMany) = HasRefusal words given IsTooMany
 IsRefusal words given _ = ⊥
 
--- The run has to read its input: the arguments are accepted, and none of them is the input [own]
+-- The run has to read its input, since the arguments are accepted and there is no string among them [own]
 abbrev pub ReadsInput : List Text → Type 0
 ReadsInput words = HasSettingsWith words (λ s. s.string ≡ None)
 
--- `f` can occur: a read fault if the input is to be read, a write fault if there is a drawing, lack of memory always,
--- and a refusal if it is correct [own]
+-- The fault can occur in a run with these arguments and bytes. A read fault can occur if the input has to be read, a
+-- write fault if there is a drawing, and lack of memory always. A refusal occurs only if it is correct [own]
 abbrev pub IsFault : List Text → List ℕ → Fault → Type 0
 IsFault words given fault.Read = ReadsInput words
 IsFault words given fault.Memory = Unit {0}
 IsFault words given fault.Write = (drawing : List ℕ) × HasDrawing words given drawing
 IsFault words given refusal = IsRefusal words given refusal
 
--- The writer received the whole drawing and was flushed once, and `settled` says whether the flush succeeded [own]
+-- The writer received the whole drawing, and was flushed once. The flush succeeded if `settled` is true, and failed
+-- otherwise [own]
 pub record DrawnWhole (settled : Bool) (old new : Writer) (drawing : List ℕ) : Type 0 where
   pub grows : Appends old.taken new.taken drawing
   pub many : old.counts ≡ no_writes → new.counts.taken ≡ counted (length drawing)
   pub flushed : new.counts.flushes ≡ counted (old.counts.flushes + 1)
   pub ended : new.counts.settled ≡ settled
 
--- The writer received a prefix of the drawing and was not flushed, or it received all of it and its one flush failed
--- [own]
+-- There are two cases. The writer received a prefix of the drawing, and was not flushed; or it received the whole
+-- drawing, and its one flush failed [own]
 abbrev pub DrawnInPart : Writer → Writer → List ℕ → Type 0
 DrawnInPart old new drawing =
     (AppendsBeginning old.taken new.taken drawing × (new.counts.flushes ≡ old.counts.flushes)
     × (old.counts ≡ no_writes → new.counts.taken ≤ counted (length drawing)))
     ⊎ DrawnWhole false old new drawing
 
--- What happened to standard output. After success it received the whole drawing, and after a write fault a prefix of it
--- or all of it. After any other fault it is unchanged [own]
+-- What happened to standard output. If the run succeeded, standard output received the whole drawing. If there was a
+-- write fault, it received a prefix of the drawing, or all of it. After any other fault it is unchanged [own]
 abbrev pub OutputHolds : List Text → List ℕ → Writer → Writer → {T : Type 0} → Result T Fault → Type 0
 OutputHolds words given old new (Ok t) = (drawing : List ℕ) × HasDrawing words given drawing × DrawnWhole true old new drawing
 OutputHolds words given old new (Err fault.Write) = (drawing : List ℕ) × HasDrawing words given drawing × DrawnInPart old new drawing
@@ -107,14 +109,14 @@ AllRead old new given = Consumes old.remaining new.remaining given
     × (old.counts ≡ no_reads → new.counts.given ≡ length given)
     × (old.counts ≡ no_reads → (new.counts.ends ≡ 1) ⊎ (length given ≡ INPUT_MAX))
 
--- The reader is unchanged if the run need not read it. Otherwise it was read to its end or to `INPUT_MAX` bytes, or a
--- read fault or lack of memory ended the run [own]
+-- The reader is unchanged if the run did not have to read it. Otherwise the reader was read to its end or to
+-- `INPUT_MAX` bytes, unless the run ended with a read fault or lack of memory [own]
 pub record InputConsumed {T : Type 0} (words : List Text) (old new : Reader) (given : List ℕ) (outcome : Result T Fault) : Type 0 where
   pub unread : (ReadsInput words → ⊥) → new ≡ old
   pub read : ReadsInput words → AllRead old new given ⊎ IsErrOf outcome fault.Read ⊎ IsErrOf outcome fault.Memory
 
--- Standard error received the line, or a prefix of the line if a write failed. So it received at most as many bytes as
--- the line has. It was not flushed [own]
+-- Standard error received the line that tells the fault, or a prefix of this line if a write failed. So it received at
+-- most as many bytes as the line has. It was not flushed [own]
 abbrev pub ErrorHolds : Writer → Writer → List ℕ → Type 0
 ErrorHolds old new line = AppendsBeginning old.taken new.taken line
     × (old.counts ≡ no_writes → new.counts.taken ≤ counted (length line))
@@ -122,8 +124,9 @@ ErrorHolds old new line = AppendsBeginning old.taken new.taken line
     × (old.counts ≡ no_writes → is_write_fault new.counts ≡ false → new.counts.taken ≡ counted (length line))
     × (new.counts.flushes ≡ old.counts.flushes)
 
--- A run with these arguments can end with this outcome, success or a fault, and this exit status. The arguments and the
--- input decide all but lack of memory and faults of devices; a device's counts show its faults [own]
+-- A run with these arguments can end with this outcome (success or a fault) and this exit status (0 or 1), and can
+-- change the three devices in this way. The arguments and the input decide everything but lack of memory and faults of
+-- devices. Whether a device had a fault can be seen from its counts [own]
 pub record Runs (words : List Text) (in0 in1 : Reader) (out0 out1 err0 err1 : Writer) (outcome : Result (Unit {0}) Fault) (status : ℕ) : Type 0 where
   pub given : List ℕ
   pub is_input : IsInputOf in0.remaining given
@@ -139,7 +142,7 @@ pub record Runs (words : List Text) (in0 in1 : Reader) (out0 out1 err0 err1 : Wr
   pub err_within : err0.counts ≡ no_writes → IsWrittenWithin err1.counts
   pub offered : out1.counts.offered ≤ max out0.counts.offered WRITE_MAX
 
--- A run can have this exit status, with some outcome [own]
+-- A run with these arguments can end with this exit status, whatever its outcome is [own]
 abbrev pub RunsTo : List Text → Reader → Reader → Writer → Writer → Writer → Writer → ℕ → Type 0
 RunsTo words in0 in1 out0 out1 err0 err1 status =
     (outcome : Result (Unit {0}) Fault) × Runs words in0 in1 out0 out1 err0 err1 outcome status

@@ -6,8 +6,8 @@ use Rattle.qrencode_cli.specs.declared.fault.Fault.{Fault}
 use Rattle.qrencode_cli.specs.declared.fault.Fault.TheVariants as fault
 use Rattle.qrencode_cli.specs.declared.settings.UsageFault.TheVariants as usage
 
--- What is written for this fault: one line, or for arguments that `clap` refuses the text of `clap`, which may have
--- several lines [own]
+-- What is written to standard error for this fault. It is one line, except if `clap` refuses the arguments: then it is
+-- the text of `clap`, which may have several lines [own]
 abbrev pub fault_line : Fault → List ℕ
 fault_line (fault.Usage (usage.Words text)) = string_bytes text
 fault_line (fault.Usage usage.Level) = codes "qrencode: unknown level\n"

@@ -4,13 +4,13 @@ use Rattle.qr_bits.specs.declared.modes.TheConstants.{INPUT_MAX}
 use Rattle.qr_devices.specs.declared.device.ReadCounts.{ReadCounts}
 use Rattle.qr_devices.specs.declared.device.TheConstants.{INTERRUPTIONS_MAX}
 
--- `input` is all bytes of the device, or the first `INPUT_MAX` if it has more; if the bytes of the device are not
--- known, `input` can be any [own]
+-- `input` is what a run takes from a device: all bytes of the device, or the first `INPUT_MAX` if it has more. If
+-- contracts do not know the bytes of the device, `input` may be any [own]
 abbrev pub IsInputOf : Option (List ℕ) → List ℕ → Type 0
 IsInputOf bytes input = IfSome bytes (λ all. input ≡ take INPUT_MAX all)
 
--- There were at most 114,424 reads, and none after one that reached the end. They returned at most 113,425 bytes; at
--- most one of them failed, and at most 1,000 were interrupted [own]
+-- There were at most 114,424 reads, and none after one that reached the end. They returned at most 113,425 bytes. At
+-- most one of the reads failed, and at most 1,000 were interrupted [own]
 pub record IsReadWithin (c : ReadCounts) : Type 0 where
   pub calls : c.calls ≤ INPUT_MAX + INTERRUPTIONS_MAX
   pub given : c.given ≤ INPUT_MAX

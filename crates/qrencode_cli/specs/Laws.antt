@@ -21,7 +21,8 @@ use Rattle.qrencode_cli.specs.declared.fault.Fault.TheVariants as fault
 use Rattle.qr_symbol.specs.declared.fault.EncodeFault.TheVariants as encode
 use Rattle.qrencode_cli.specs.declared.settings.UsageFault.TheVariants as usage
 
--- The settings of `-t ASCII`: the type of drawing is ASCII, and all other settings have their defaults [own]
+-- The settings for the arguments `-t ASCII`. The type of drawing is ASCII, and all other settings have their defaults
+-- [own]
 abbrev pub by_default : SettingsView
 by_default = record {
   level = L;
@@ -35,15 +36,15 @@ by_default = record {
   string = None;
 }
 
--- The arguments `words`, put after the program's name, have these settings [own]
+-- If the arguments `words` follow the program's name, the settings are `settings` [own]
 abbrev pub IsTaken : List Text → SettingsView → Type 0
 IsTaken words settings = settings_for (codes "qrencode" ∷ words) ≡ Ok settings
 
--- The arguments `words`, put after the program's name, are refused for this reason [own]
+-- If the arguments `words` follow the program's name, they are refused for the reason `why` [own]
 abbrev pub IsRefused : List Text → Reason → Type 0
 IsRefused words why = settings_for (codes "qrencode" ∷ words) ≡ Err why
 
--- Lists of arguments, each with its settings or with the reason to refuse it [own]
+-- Lists of arguments. For each list the settings are stated, or the reason to refuse it [own]
 pub record CommandLines : Type 0 where
   pub plain : IsTaken (codes "-t" ∷ codes "ASCII" ∷ []) by_default
   pub in_bytes : IsTaken (codes "-8" ∷ codes "-v" ∷ codes "1" ∷ codes "-t" ∷ codes "ascii" ∷ [])
@@ -101,25 +102,25 @@ pub record CommandLines : Type 0 where
   pub type_without_a_value : IsRefused (codes "-t" ∷ []) refused_by_clap
   pub two_strings_after_dashes : IsRefused (codes "-t" ∷ codes "ASCII" ∷ codes "--" ∷ codes "A" ∷ codes "B" ∷ []) refused_by_clap
 
--- Arguments and an input have at most one drawing [own]
+-- The same arguments and the same input have at most one drawing [own]
 abbrev pub AnswersAreOne : Type 0
 AnswersAreOne = (words : List Text) (given d e : List ℕ) → HasDrawing words given d → HasDrawing words given e → d ≡ e
 
--- If arguments and an input have a drawing, no refusal is correct [own]
+-- If arguments and an input have a drawing, there is no correct reason to refuse them [own]
 abbrev pub RefusalsExcludeDrawings : Type 0
 RefusalsExcludeDrawings = (words : List Text) (given d : List ℕ) (f : Fault) → HasDrawing words given d → IsRefusal words given f → ⊥
 
--- The two faults are equal, or both are refusals by `clap`, whose texts may differ [own]
+-- The two faults are equal, or both say that `clap` refuses the arguments, with texts that may differ [own]
 abbrev pub AreAlike : Fault → Fault → Type 0
 AreAlike (fault.Usage (usage.Words text)) (fault.Usage (usage.Words other)) = Unit {0}
 AreAlike r q = r ≡ q
 
--- All refusals that are correct for the same arguments and input are alike [own]
+-- Two refusals that are both correct for the same arguments and input are alike (`AreAlike`) [own]
 abbrev pub RefusalsAreOne : Type 0
 RefusalsAreOne = (words : List Text) (given : List ℕ) (r q : Fault) → IsRefusal words given r → IsRefusal words given q → AreAlike r q
 
--- `drawing` is a drawing of the squares that the settings ask for, and no other type, margin or list of squares has
--- this drawing. The squares are read and joined as the input [own]
+-- `drawing` is a drawing of the squares that the settings ask for. It is the drawing of no other type, margin or list
+-- of squares. If these squares are read and joined, they yield the input [own]
 pub record ShowsInput (s : SettingsView) (input drawing : List ℕ) : Type 0 where
   pub squares : List Grid
   pub symbols : AreSymbols s input squares
@@ -128,21 +129,21 @@ pub record ShowsInput (s : SettingsView) (input drawing : List ℕ) : Type 0 whe
   pub only : (kind : Drawing) (margin : ℕ) (others : List Grid) → IsDrawingOf kind margin others drawing
       → (kind ≡ s.kind) × (margin ≡ s.margin) × (others ≡ squares)
 
--- A run whose status is 0 wrote a drawing, and this drawing alone suffices to read the input [own]
+-- A run whose status is 0 wrote a drawing that shows its input: the input can be read from this drawing alone [own]
 abbrev pub OutputsReadBack : Type 0
 OutputsReadBack = (words : List Text) (in0 in1 : Reader) (out0 out1 err0 err1 : Writer)
     → RunsTo words in0 in1 out0 out1 err0 err1 0
     → (given : List ℕ) × (drawing : List ℕ) × IsInputOf in0.remaining given × DrawnWhole true out0 out1 drawing
     × HasSettingsWith words (λ s. ShowsInput s (held s (input_for s given)) drawing)
 
--- The rule of each choice of -8 and -k [own]
+-- The rule for each way to give or leave out the options -8 and -k [own]
 pub record RulesOfModes : Type 0 where
   pub bytes : (s : SettingsView) → s.bytes_only ≡ true → rule_for s ≡ BytesOnly
   pub kanji : (s : SettingsView) → s.bytes_only ≡ false → s.kanji ≡ true → rule_for s ≡ WithKanji
   pub neither : (s : SettingsView) → s.bytes_only ≡ false → s.kanji ≡ false → rule_for s ≡ Auto
 
--- With -i the input is folded as the rule of modes says, and without -i it stays as it is; with -i and -k a kanji pair
--- stays unchanged even if its second byte is the code of a small letter [own]
+-- With -i the input is folded under the rule that -8 and -k determine, and without -i it stays as it is. Two examples
+-- show that with -i and -k a kanji pair stays unchanged, even if its second byte is the code of a small letter [own]
 pub record FoldingFollowsTheRule : Type 0 where
   pub folds : (s : SettingsView) (input : List ℕ) → s.fold ≡ true → held s input ≡ folded (rule_for s) input
   pub keeps : (s : SettingsView) (input : List ℕ) → s.fold ≡ false → held s input ≡ input
@@ -154,7 +155,8 @@ abbrev pub StatusesAreTwo : Type 0
 StatusesAreTwo = (words : List Text) (in0 in1 : Reader) (out0 out1 err0 err1 : Writer) (outcome : Result (Unit {0}) Fault) (status : ℕ)
     → Runs words in0 in1 out0 out1 err0 err1 outcome status → MatchResult outcome (λ _. status ≡ 0) (λ _. status ≡ 1)
 
--- The line that is written for each fault, except for arguments that `clap` refuses [own]
+-- The line that is written for each fault. Arguments that `clap` refuses are left out, since their text is written by
+-- `clap` [own]
 pub record LinesOfFaults : Type 0 where
   pub level : fault_line (fault.Usage usage.Level) ≡ codes "qrencode: unknown level\n"
   pub type : fault_line (fault.Usage usage.Kind) ≡ codes "qrencode: unknown type\n"
@@ -166,7 +168,7 @@ pub record LinesOfFaults : Type 0 where
   pub memory : fault_line fault.Memory ≡ codes "qrencode: out of memory\n"
   pub write : fault_line fault.Write ≡ codes "qrencode: write error\n"
 
--- The number of each fault of the arguments [own]
+-- The number of each fault that the arguments can have [own]
 pub record NumbersOfUsageFaults : Type 0 where
   pub words : (text : String Global) → usage_fault_number (usage.Words text) ≡ 1
   pub level : usage_fault_number usage.Level ≡ 2

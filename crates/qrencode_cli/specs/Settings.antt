@@ -16,14 +16,16 @@ use Rattle.qr_drawing.specs.declared.drawing.Drawing.TheVariants as drawing
 use Rattle.qrencode_cli.specs.declared.settings.UsageFault.{UsageFault}
 use Rattle.qrencode_cli.specs.declared.settings.UsageFault.TheVariants as usage
 
--- The reasons to refuse arguments, without the texts of `clap`; lack of memory is no reason [own]
+-- The reasons to refuse arguments. The reason `refused_by_clap` does not say which text `clap` writes. Lack of memory
+-- is a fault, but no reason [own]
 pub data Reason : Type 0 where
   refused_by_clap : Reason
   unknown_level : Reason
   unknown_type : Reason
   needs_version : Reason
 
--- What contracts see of `Settings`: numbers for the version and the margin, and bytes for the string [own]
+-- What contracts see of `Settings`: numbers for the version and the margin, and bytes for the string. Four fields say
+-- whether an option is given: `bytes_only` is for -8, `kanji` for -k, `fold` for -i and `structured` for -S [own]
 pub record SettingsView : Type 0 where
   pub level : Level
   pub smallest : Option ℕ
@@ -35,12 +37,12 @@ pub record SettingsView : Type 0 where
   pub structured : Bool
   pub string : Option Text
 
--- The rule that the settings determine. It allows byte mode alone with -8, all modes with -k and without -8, and all
--- modes but kanji mode without both [own]
+-- The rule that the settings determine. With -8 it allows byte mode alone. Without -8 it allows all modes if -k is
+-- given, and otherwise all modes but kanji mode [own]
 abbrev pub rule_for : SettingsView → Rule
 rule_for s = if s.bytes_only then BytesOnly else (if s.kanji then WithKanji else Auto)
 
--- The error correction level with the letter `t`, or none if no level has it [own]
+-- The error correction level whose letter is the text `t`, or none if there is no such level [own]
 abbrev pub level_named : Text → Option Level
 level_named t =
     if str_eq_ignore_ascii_case t (codes "l") then Some level.L else
@@ -48,7 +50,7 @@ level_named t =
     (if str_eq_ignore_ascii_case t (codes "q") then Some level.Q else
     (if str_eq_ignore_ascii_case t (codes "h") then Some level.H else None)))
 
--- The type of drawing with the name `t`, or none if no type has it [own]
+-- The type of drawing whose name is the text `t`, or none if there is no such type [own]
 abbrev pub drawing_named : Text → Option Drawing
 drawing_named t =
     if str_eq_ignore_ascii_case t (codes "ascii") then Some drawing.Ascii else
@@ -56,21 +58,22 @@ drawing_named t =
     (if str_eq_ignore_ascii_case t (codes "utf8") then Some drawing.Utf8 else
     (if str_eq_ignore_ascii_case t (codes "svg") then Some drawing.Svg else None)))
 
--- The number of an option, or `otherwise` if it is not given; a text that cannot be parsed as a number from 0 to 255,
--- such as `-0`, counts as 0 [own]
+-- The number that is the value of an option, or `otherwise` if the option is not given. A value that cannot be parsed
+-- as a number from 0 to 255, such as `-0`, counts as 0 [own]
 abbrev pub number_or : ℕ → Option Text → ℕ
 number_or otherwise o = option_map_or byte_or_zero o otherwise
 
--- The version that -v gives. If -v is 0 or not given, there is none [own]
+-- The version, from 1 to 40, that the option -v gives. If -v is 0 or not given, there is none [own]
 abbrev pub version_at : Option Text → Option ℕ
 version_at o = let n = number_or 0 o in if nat_le 1 n && nat_le n 40 then Some n else None
 
--- The flag is given: `clap` then finds the text `true` as its value [own]
+-- The option, which takes no value on the command line, is given. Then `clap` finds the text `true` as its value [own]
 abbrev pub flag_at : Option Text → Bool
 flag_at o = option_map_or (λ t. bytes_eq t (codes "true")) o false
 
--- The settings that `rows` ask for; the level and the type of drawing are those that were already found in `rows`.
--- Without -m the margin is 4 modules, which is the quiet zone (ISO/IEC 18004:2015, 6.3.8)
+-- The settings that `rows` ask for. Their level and their type of drawing have been found in `rows` before, and are
+-- `level` and `kind`. Without -m the margin is 4 modules, which is the width of the quiet zone (ISO/IEC 18004:2015,
+-- 6.3.8)
 abbrev pub settings_with : List Row → Level → Drawing → SettingsView
 settings_with rows level kind = record {
   level = level;
@@ -84,24 +87,25 @@ settings_with rows level kind = record {
   string = first_of (codes "string") rows;
 }
 
--- The settings, or the reason `needs_version` if they ask for a series without a version [own]
+-- The settings `s`, or the reason `needs_version` if -S asks for a series and no version is given [own]
 abbrev pub checked_series : SettingsView → Result SettingsView Reason
 checked_series s = if s.structured && is_none s.smallest then Err needs_version else Ok s
 
--- The settings, or the first reason to refuse them; the level (L without -l) is checked first, then the type, and then
--- the version of a series [own]
+-- The settings that `rows` ask for, or the first reason to refuse them. The level is checked first, and is L if -l is
+-- not given. Then the type of drawing is checked, and then whether a series has a version [own]
 abbrev pub settings_of : List Row → Result SettingsView Reason
 settings_of rows =
     option_map_or (λ l. option_map_or (λ kind. checked_series (settings_with rows l kind))
     (option_and_then drawing_named (first_of (codes "type") rows)) (Err unknown_type))
     (option_map_or level_named (first_of (codes "level") rows) (Some level.L)) (Err unknown_level)
 
--- The settings of the arguments `words`, or the reason to refuse them; a fault that `clap` finds comes before all
--- others [own]
+-- The settings of the arguments `words`, or the reason to refuse them. If `clap` finds a fault, this is the reason,
+-- whatever else is wrong [own]
 abbrev pub settings_for : List Text → Result SettingsView Reason
 settings_for words = if length (faults_for words) == 0 then settings_of (rows_for words) else Err refused_by_clap
 
--- The fault is the one for the reason in `o`, or it is lack of memory, which can always occur [own]
+-- `o` is the settings, or the reason to refuse the arguments. The fault is the one for this reason, or it is lack of
+-- memory, which can always occur [own]
 abbrev pub IsUsageFault : Result SettingsView Reason → UsageFault → Type 0
 IsUsageFault o (usage.Words text) = o ≡ Err refused_by_clap
 IsUsageFault o usage.Level = o ≡ Err unknown_level
@@ -109,8 +113,8 @@ IsUsageFault o usage.Kind = o ≡ Err unknown_type
 IsUsageFault o usage.NeedsVersion = o ≡ Err needs_version
 IsUsageFault o usage.Memory = Unit {0}
 
--- The number of the fault: the reasons are numbered from 1 in the order in which they are checked, and lack of memory
--- has the number 5 [own]
+-- The number of the fault. The reasons are numbered from 1 in the order in which they are checked, and lack of memory
+-- is 5 [own]
 abbrev pub usage_fault_number : UsageFault → ℕ
 usage_fault_number (usage.Words text) = 1
 usage_fault_number usage.Level = 2

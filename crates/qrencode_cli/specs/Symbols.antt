@@ -8,13 +8,13 @@ use Rattle.qr_symbol.specs.VersionChoice.{HasNoVersion}
 use Rattle.qr_symbol.specs.Series.{HasNoSeries, IsSeries, squares_of}
 use Rattle.qrencode_cli.specs.Settings.{SettingsView, rule_for}
 
--- The smallest version that one symbol may have, which is also the version of a series. It is the version of -v, or 1
--- if -v is 0 or not given [own]
+-- The smallest version that the symbol of an input may have. In a series all symbols have this version. It is the one
+-- that -v gives, or 1 if -v is 0 or not given [own]
 abbrev pub smallest_of : SettingsView → ℕ
 smallest_of s = unwrap_or s.smallest 1
 
--- `squares` are the squares of the symbols of `input`: of its series if the settings ask for a series, and otherwise of
--- its one symbol [own]
+-- `squares` are the squares of the symbols that the settings ask for: the symbols of a series of `input`, or the one
+-- symbol of `input` [own]
 abbrev pub AreSymbols : SettingsView → List ℕ → List Grid → Type 0
 AreSymbols s input squares =
     ((s.structured ≡ true) × (symbols : List Symbol)
@@ -22,11 +22,11 @@ AreSymbols s input squares =
     ⊎ ((s.structured ≡ false) × (version mask : ℕ) × (square : Grid)
     × IsSymbol (smallest_of s) s.level (rule_for s) Default input version mask square × (squares ≡ square ∷ []))
 
--- One symbol is asked for, and `input` fits no version from the smallest on [own]
+-- The settings ask for one symbol, and `input` fits no version from the smallest version (`smallest_of`) on [own]
 abbrev pub IsTooLong : SettingsView → List ℕ → Type 0
 IsTooLong s input = (s.structured ≡ false) × HasNoVersion (smallest_of s) s.level (rule_for s) Default input
 
--- A series is asked for, but `input` does not fit one symbol of the version and level in the settings, and would be cut
--- into more than 16 parts [own]
+-- The settings ask for a series, and `input` would take more than 16 symbols. It does not fit one symbol of the version
+-- and level in the settings, and it would be cut into more than 16 parts [own]
 abbrev pub IsTooMany : SettingsView → List ℕ → Type 0
 IsTooMany s input = (s.structured ≡ true) × HasNoSeries (smallest_of s) s.level (rule_for s) Default input

@@ -1,5 +1,5 @@
--- What `qrproved_draw` writes, and when it refuses a buffer as too short. It draws `count` squares of `side` rows. Each
--- module is a byte, and the squares come one after the other.
+-- What `qrproved_draw` writes, and when it refuses a buffer as too short. It draws `count` squares of `side` rows. The
+-- buffer `modules` begins with a byte for each module, square by square and row by row.
 use Rattle.std.specs.Prelude.{◌≡◌, ℕ, zero, suc, ◌*◌, ◌<◌, ◌≤◌, ◌==◌, ◌++◌, if◌then◌else◌, List, [], ◌∷◌, drop, length}
 use Rattle.qr_matrix.specs.Grid.{Grid}
 use Rattle.qr_drawing.specs.declared.drawing.Drawing.{Drawing}
@@ -7,26 +7,29 @@ use Rattle.qr_drawing.specs.declared.drawing.Drawing.TheVariants.{Ascii, AsciiIn
 use Rattle.qr_drawing.specs.Drawing.{drawn}
 use Rattle.qrproved.specs.Modules.{square_of_bytes}
 
--- The type of drawing that a caller means; numbers above 3 are out of range [own]
+-- The type of drawing that the number `n` of a caller means: 0 is ASCII, 1 is inverse ASCII, 2 is UTF8 and 3 is SVG.
+-- Numbers above 3 are out of range [own]
 abbrev pub drawing_of : ℕ → Drawing
 drawing_of n = if n == 0 then Ascii else (if n == 1 then AsciiInverse else (if n == 2 then Utf8 else Svg))
 
--- The numbers are in range; 177 is the side of version 40, 16 the number of symbols of the longest series, and 100 the
--- greatest margin of the command [own]
+-- The numbers are in range. Of their bounds, 177 is the side of version 40, 16 is the number of symbols of the longest
+-- series, and 100 is the greatest margin of the command [own]
 abbrev pub AreDrawingSettings : (side count drawing margin : ℕ) → Type 0
 AreDrawingSettings side count drawing margin =
     (1 ≤ side) × (side ≤ 177) × (1 ≤ count) × (count ≤ 16) × (drawing < 4) × (margin ≤ 100)
 
--- The squares that `bytes` begin with, one after the other [own]
+-- The squares that the first bytes of `bytes` give. There are `count` squares of `side` rows, one after the other, and
+-- a byte for each module [own]
 unfoldable pub squares_of_bytes : (side count : ℕ) → List ℕ → List Grid
 squares_of_bytes side zero bytes = []
 squares_of_bytes side (suc count) bytes = square_of_bytes side bytes ∷ squares_of_bytes side count (drop (side * side) bytes)
 
--- The drawing of the squares that `bytes` begin with [own]
+-- The drawing of the `count` squares that the first bytes of `bytes` give [own]
 abbrev pub drawing_of_bytes : (side count drawing margin : ℕ) → List ℕ → List ℕ
 drawing_of_bytes side count drawing margin bytes = drawn (drawing_of drawing) margin (squares_of_bytes side count bytes)
 
--- `text` was written to the beginning of the buffer, `len` is its length, and the bytes after it are unchanged [own]
+-- The text is in the buffer, which is `before` before the call and `after` after it. `after` begins with `text`, whose
+-- length is `len`, and the rest of the buffer is unchanged [own]
 pub record HoldsText (text before after : List ℕ) (len : ℕ) : Type 0 where
   pub room : length text ≤ length before
   pub holds : after ≡ text ++ drop (length text) before
@@ -37,7 +40,8 @@ pub record HasFewModules (modules : List ℕ) (side count drawing margin : ℕ) 
   pub settings : AreDrawingSettings side count drawing margin
   pub few : length modules < count * (side * side)
 
--- The numbers are in range and `modules` has enough bytes, but `text` is shorter than the drawing [own]
+-- The numbers are in range and `modules` has enough bytes, but `text`, the buffer for the drawing, is shorter than the
+-- drawing [own]
 pub record HasNoTextRoom (modules : List ℕ) (side count drawing margin : ℕ) (text : List ℕ) : Type 0 where
   pub settings : AreDrawingSettings side count drawing margin
   pub whole : count * (side * side) ≤ length modules

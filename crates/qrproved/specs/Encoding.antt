@@ -9,10 +9,10 @@ use Rattle.qrproved.specs.declared.encoding.QrprovedSymbol.{QrprovedSymbol}
 use Rattle.qrproved.specs.Settings.{AreSymbolSettings, interpretation_of, level_of, rule_of}
 use Rattle.qrproved.specs.Modules.{HoldsSquares}
 
--- The numbers are allowed, the modules of the input's symbol were written to the buffer, and `s` has the symbol's
--- version, side, level and mask. The symbol is read as the input with its interpretation. If `boost` is 0, it has the
--- level that was asked for, and if `boost` is 1, the highest level, from that one on, at which the input fits its
--- version [own]
+-- The numbers are allowed, and the modules of the symbol of the input were written to the buffer. `s` has the version,
+-- side, level and mask of this symbol. Reading the symbol yields the input and its interpretation. If `boost` is 0, the
+-- symbol has the level that was asked for. If `boost` is 1, it has the highest level at which the input fits this
+-- version, which is at least the level that was asked for [own]
 pub record IsWritten (x : List ℕ) (version level rule interpretation boost : ℕ) (before after : List ℕ) (s : QrprovedSymbol) : Type 0 where
   pub settings : AreSymbolSettings version level rule interpretation boost
   pub square : Grid
@@ -23,8 +23,8 @@ pub record IsWritten (x : List ℕ) (version level rule interpretation boost : �
   pub side : s.side ≡ square.side
   pub holds : HoldsSquares s.side (square ∷ []) before after
 
--- `buffer` has fewer bytes than the input's symbol has modules; this symbol has the least version that the input fits,
--- from `version` on [own]
+-- `buffer` has fewer bytes than the symbol of the input has modules. The version of this symbol is `least`, the least
+-- one from `version` on that the input fits [own]
 pub record HasNoRoom (x : List ℕ) (version level rule interpretation : ℕ) (buffer : List ℕ) : Type 0 where
   pub least : ℕ
   pub fits : IsVersion version (level_of level) (rule_of rule) (interpretation_of interpretation) x least

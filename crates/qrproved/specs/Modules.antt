@@ -1,10 +1,11 @@
--- The modules of squares as bytes: one square after the other, and each square row by row. A square has `side` rows.
--- `before` and `after` are a buffer before and after the call.
+-- The modules of squares as bytes, one for each module: square by square, and each square row by row. A square has
+-- `side` rows. `before` is a buffer before the call, and `after` this buffer after it.
 use Rattle.std.specs.Prelude.{◌≡◌, ℕ, ◌+◌, ◌*◌, ◌<◌, ◌≤◌, List, length, slice_index_or}
 use Rattle.qr_matrix.specs.Grid.{Grid, colour, light}
 pub use Rattle.qr_matrix.specs.Bytes.{byte_of, square_of_bytes}
 
--- The modules of `squares` were written to the beginning of the buffer, and the bytes after them are unchanged [own]
+-- The modules of `squares` are at the beginning of the buffer after the call, and the rest of the buffer is unchanged
+-- [own]
 pub record HoldsSquares (side : ℕ) (squares : List Grid) (before after : List ℕ) : Type 0 where
   pub room : length squares * (side * side) ≤ length before
   pub long : length after ≡ length before

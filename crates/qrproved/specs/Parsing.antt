@@ -8,8 +8,8 @@ use Rattle.qrproved.specs.declared.parsing.QrprovedDrawn.{QrprovedDrawn}
 use Rattle.qrproved.specs.Drawing.{drawing_of}
 use Rattle.qrproved.specs.Modules.{HoldsSquares}
 
--- The text is the drawing of squares whose modules were written to the buffer; their number and side, the type and the
--- margin are in `d` [own]
+-- The text is a drawing of squares, and the modules of these squares were written to the buffer. `d` has the number of
+-- squares, their side, the type of the drawing and its margin [own]
 pub record IsGivenDrawing (text : List ℕ) (before after : List ℕ) (d : QrprovedDrawn) : Type 0 where
   pub squares : List Grid
   pub number : d.drawing < 4
@@ -18,7 +18,7 @@ pub record IsGivenDrawing (text : List ℕ) (before after : List ℕ) (d : Qrpro
   pub side : d.side ≡ (square_at squares 0).side
   pub holds : HoldsSquares d.side squares before after
 
--- The text is the drawing of squares that together have more modules than `buffer` has bytes [own]
+-- The text is a drawing of squares, and these together have more modules than `buffer` has bytes [own]
 pub record HasMoreModules (text buffer : List ℕ) : Type 0 where
   pub kind : Drawing
   pub margin : ℕ

@@ -1,5 +1,5 @@
--- What `qrproved_read` writes, and when it writes nothing. The square has `side` rows, and `modules` begins with its
--- modules, row by row.
+-- What `qrproved_read` writes, and when it writes nothing. The square has `side` rows. `modules` begins with a byte for
+-- each of its modules, row by row. The byte 0 is a light module, and any other byte a dark one.
 use Rattle.std.specs.Prelude.{◌≡◌, ℕ, ◌*◌, ◌<◌, ◌≤◌, List, ◌++◌, drop, length, Option, None, Some}
 use Rattle.qr_layout.specs.Version.{side_of}
 use Rattle.qr_bits.specs.declared.header.Header.{Header}
@@ -11,18 +11,19 @@ use Rattle.qrproved.specs.declared.interpretation.QrprovedEci.{QrprovedEci}
 use Rattle.qrproved.specs.Interpretation.{TellsInterpretation}
 use Rattle.qrproved.specs.Modules.{square_of_bytes}
 
--- The symbols of some version have `side` rows (ISO/IEC 18004:2015, 6.3.2)
+-- There is a version whose symbols have `side` rows (ISO/IEC 18004:2015, 6.3.2)
 abbrev pub IsSide : ℕ → Type 0
 IsSide side = (v : ℕ) × (1 ≤ v) × (v ≤ 40) × (side ≡ side_of v)
 
--- The four numbers report the structured append header. They are 1 and then the three numbers of the header, or four
--- times 0 if there is no header (ISO/IEC 18004:2015, 8.1 to 8.3)
+-- Four numbers report the structured append header. If there is a header, `has_header` is 1, and the other three are
+-- the numbers that the header contains. If there is none, all four are 0 (ISO/IEC 18004:2015, 8.1 to 8.3)
 abbrev pub TellsHeader : Option Header → (has_header position last parity : ℕ) → Type 0
 TellsHeader None has_header position last parity = (has_header ≡ 0) × (position ≡ 0) × (last ≡ 0) × (parity ≡ 0)
 TellsHeader (Some h) has_header position last parity = (has_header ≡ 1) × (position ≡ h.position) × (last ≡ h.last) × (parity ≡ h.parity)
 
--- The square is read: the bytes and the ECI headers of its content were written to the beginning of their buffers, and
--- `c` has the numbers of these bytes and headers, and the version, structured append header and FNC1 [own]
+-- The square is read, which yields `content`. After the call one buffer begins with the bytes of the content, and the
+-- other with its ECI headers, or with as many of these as the buffer has room for. `c` has the number of the bytes and
+-- of the headers. It also has the version, the structured append header and FNC1 [own]
 pub record IsGiven (modules : List ℕ) (side : ℕ) (before after : List ℕ) (ecis_before ecis_after : List QrprovedEci) (c : QrprovedContent) : Type 0 where
   pub whole : side * side ≤ length modules
   pub content : Content
@@ -34,15 +35,15 @@ pub record IsGiven (modules : List ℕ) (side : ℕ) (before after : List ℕ) (
   pub header : TellsHeader content.header c.has_header c.position c.last c.parity
   pub interpretation : TellsInterpretation content ecis_before ecis_after c.eci_count c.fnc1 c.application
 
--- A content for which `reads` holds has more bytes than `buffer` has [own]
+-- There is a content for which `reads` holds, and which has more bytes than `buffer` has [own]
 abbrev pub HasMoreBytesBy : (Content → Type 0) → List ℕ → Type 0
 HasMoreBytesBy reads buffer = (content : Content) × reads content × (length buffer < length content.bytes)
 
--- Reading the square yields more bytes than `buffer` has [own]
+-- Reading the square yields a content that has more bytes than `buffer` has [own]
 abbrev pub HasMoreBytes : List ℕ → ℕ → List ℕ → Type 0
 HasMoreBytes modules side buffer =
     (side * side ≤ length modules) × HasMoreBytesBy (IsReading (square_of_bytes side modules)) buffer
 
--- Reading the square may fail with `fault` [own]
+-- `modules` has a byte for each module of the square, and reading the square may fail with `fault` [own]
 abbrev pub IsUnreadAt : List ℕ → ℕ → ReadFault → Type 0
 IsUnreadAt modules side fault = (side * side ≤ length modules) × IsUnread (square_of_bytes side modules) fault

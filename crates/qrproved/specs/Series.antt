@@ -10,10 +10,11 @@ use Rattle.qrproved.specs.declared.series.QrprovedSeries.{QrprovedSeries}
 use Rattle.qrproved.specs.Settings.{AreSettings, interpretation_of, level_of, rule_of}
 use Rattle.qrproved.specs.Modules.{HoldsSquares}
 
--- The numbers are allowed, the modules of the input's series were written to the buffer, and `t` has its number of
--- symbols and their side. The symbols are read and joined as the input, each with its interpretation. Without kanji
--- mode the symbols are as few as possible: if the input is cut into parts, each of which fits with a header, there are
--- at least as many parts as symbols [own]
+-- The numbers are allowed, and the modules of the series of the input were written to the buffer. `t` has the number of
+-- symbols in the series and the side of each. If the symbols are read and joined, they yield the input, and each symbol
+-- has the interpretation that was asked for. Without kanji mode there are as few symbols as possible: if the input is
+-- cut into parts that each fit a symbol with a structured append header, there are at least as many parts as symbols
+-- [own]
 pub record IsWrittenSeries (x : List ℕ) (version level rule interpretation : ℕ) (before after : List ℕ) (t : QrprovedSeries) : Type 0 where
   pub settings : AreSettings version level rule interpretation
   pub symbols : List Symbol
@@ -25,7 +26,7 @@ pub record IsWrittenSeries (x : List ℕ) (version level rule interpretation : �
   pub side : t.side ≡ side_of version
   pub holds : HoldsSquares t.side (squares_of symbols) before after
 
--- The symbols of the input's series have more modules together than `buffer` has bytes [own]
+-- The symbols in the series of the input together have more modules than `buffer` has bytes [own]
 pub record HasNoSeriesRoom (x : List ℕ) (version level rule interpretation : ℕ) (buffer : List ℕ) : Type 0 where
   pub symbols : List Symbol
   pub made : IsSeries version (level_of level) (rule_of rule) (interpretation_of interpretation) x symbols

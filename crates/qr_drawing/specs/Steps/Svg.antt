@@ -1,5 +1,5 @@
--- The text of an SVG document before the boxes of its path and after them, and the end of the text of a box. A box is a
--- rectangle that shows a run of dark modules.
+-- Three pieces of the text of an SVG document: what comes before the boxes of its path, what comes after them, and the
+-- end of a box. A box is a part of the path, a rectangle that shows a run of dark modules.
 use Rattle.std.specs.Prelude.{ℕ, List, ◌++◌, codes}
 use Rattle.qr_drawing.specs.Svg.{background, closing, declaration, numbered, opening}
 
@@ -11,6 +11,7 @@ head width height = declaration ++ opening width height ++ background width heig
 unfoldable pub tail : List ℕ
 tail = codes "\"/>\n" ++ closing
 
--- The end of a box in the path, after the row of the box
+-- The end of the text of a box that is `modules` modules wide. The beginning, which gives the box's column and row, is
+-- left out
 unfoldable pub width_path : ℕ → List ℕ
 width_path modules = numbered (codes "h") modules ++ numbered (codes "v1h-") modules ++ codes "z"

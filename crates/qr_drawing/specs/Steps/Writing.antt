@@ -1,34 +1,36 @@
--- What happens to the writer, which changes from `old` to `new`, while a part of a text is written.
+-- What happens to the writer while a part of a text is written. It is `old` before this and `new` after it.
 use Rattle.std.specs.Prelude.{◌≡◌, ◌≤◌, ◌<◌, ◌+◌, ◌^◌, ◌++◌, ℕ, max, length, List, true}
 use Rattle.std.specs.Io.KnownBytes.{Appends}
 use Rattle.qr_devices.specs.Device.{AppendsBeginning, IsWrittenWithin, Writer, counted, is_write_fault}
 use Rattle.qr_devices.specs.declared.device.WriteCounts.{WriteCounts}
 
--- The counts of a writer show no fault, and exactly `interrupted` interrupted writes
+-- The counts of a writer show no fault. They show exactly `interrupted` interrupted writes, fewer than the 1,000 that
+-- are a fault
 pub record IsWell (c : WriteCounts) (interrupted : ℕ) : Type 0 where
   pub failed : c.failed ≡ 0
   pub zeros : c.zeros ≡ 0
   pub tried : c.interrupted ≡ interrupted
   pub few : interrupted < 1000
 
--- The writer accepted a prefix of `text`, and `held` is the rest
+-- The writer accepted a prefix of `text`, and `held` is the rest of `text`
 pub record Sends (old new : Writer) (text held : List ℕ) : Type 0 where
   pub sent : List ℕ
   pub grows : Appends old.taken new.taken sent
   pub whole : sent ++ held ≡ text
   pub many : old.counts.taken < 2 ^ 64 → new.counts.taken ≡ counted (old.counts.taken + length sent)
 
--- The writer accepted a prefix of `text`, and `held`, which is the rest, is in the pen. No write offered more than
--- 1,200 bytes, and there was no flush. If the counts showed no fault and `tried` interrupted writes before, they show
--- no fault and `tries` interrupted writes afterwards
+-- The writer accepted a prefix of `text`, and `held`, which is the rest of `text`, is in the pen. No write offered more
+-- than 1,200 bytes, and there was no flush. If the counts showed no fault and `tried` interrupted writes before, they
+-- show no fault and `tries` interrupted writes afterwards
 pub record Writes (old new : Writer) (tried tries : ℕ) (text held : List ℕ) : Type 0 where
   pub sends : Sends old new text held
   pub well : IsWell old.counts tried → IsWell new.counts tries
   pub offered : new.counts.offered ≤ max old.counts.offered 1200
   pub flushes : new.counts.flushes ≡ old.counts.flushes
 
--- A fault of the writer ended the writing after a prefix of `text`. No write offered more than 1,200 bytes, and there
--- was no flush. If there was no fault before, the counts now show one call with a fault, or 1,000 interrupted writes
+-- A fault of the writer ended the writing. Until then the writer had accepted a prefix of `text`, perhaps all of it. No
+-- write offered more than 1,200 bytes, and there was no flush. If the counts showed no fault before, they now show one
+-- call with a fault, or 1,000 interrupted writes
 pub record Stops (old new : Writer) (tried : ℕ) (text : List ℕ) : Type 0 where
   pub prefix : AppendsBeginning old.taken new.taken text
   pub most : old.counts.taken < 2 ^ 64 → new.counts.taken ≤ counted (old.counts.taken + length text)

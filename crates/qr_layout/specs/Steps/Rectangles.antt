@@ -6,30 +6,33 @@ use Rattle.qr_layout.specs.declared.rectangles.Rectangle.{Rectangle}
 use Rattle.qr_layout.specs.Version.{side_of}
 use Rattle.qr_layout.specs.Alignment.{centres_of, alignment_places}
 
--- The rectangle is inside a symbol with `s` modules on a side. The row `bottom` and the column `right`, which are the
--- first ones outside the rectangle, are not before `top` and `left`
+-- The rectangle `b` is inside a symbol with `s` modules on a side. It has the rows from `top` to `bottom - 1` and the
+-- columns from `left` to `right - 1`, and may be empty
 pub record IsInside (s : ℕ) (b : Rectangle) : Type 0 where
   pub rows : b.top ≤ b.bottom
   pub bottom : b.bottom ≤ s
   pub columns : b.left ≤ b.right
   pub right : b.right ≤ s
 
--- The five by five modules around the place `m` are inside a symbol with `s` modules on a side
+-- The five by five modules with the place `m` in their middle are inside a symbol with `s` modules on a side
 pub record IsCentreInside (s : ℕ) (m : Place) : Type 0 where
   pub row_least : 2 ≤ m.row
   pub row_most : m.row + 3 ≤ s
   pub col_least : 2 ≤ m.col
   pub col_most : m.col + 3 ≤ s
 
--- The rectangle of five by five modules that is the alignment pattern with the centre `m` (ISO/IEC 18004:2015, 6.3.6)
+-- The alignment pattern with the centre `m` as a rectangle: the five by five modules with this centre in their middle
+-- (ISO/IEC 18004:2015, 6.3.6)
 abbrev pub rectangle_around : Place → Rectangle
 rectangle_around m = record { top = m.row - 2; bottom = m.row + 3; left = m.col - 2; right = m.col + 3 }
 
--- The rectangles of the alignment patterns, if `cs` lists the rows of their centres (ISO/IEC 18004:2015, 6.3.6)
+-- The alignment patterns of a symbol with `s` modules on a side as rectangles. `cs` lists the numbers of the rows that
+-- contain centres, and also of the columns that do (ISO/IEC 18004:2015, 6.3.6)
 abbrev pub alignment_rectangles : ℕ → List ℕ → List Rectangle
 alignment_rectangles s cs = map rectangle_around (alignment_places s cs)
 
--- The list that `fixed_rectangles` returns for version `v`: the corners, the timing patterns, and from version 7 on the
+-- The list that `fixed_rectangles` returns for version `v`. Its rectangles are the three corners (each with a finder
+-- pattern, its separator and format information), the two timing patterns, and from version 7 on the two copies of the
 -- version information
 abbrev pub fixed_list : ℕ → List Rectangle
 fixed_list v =
@@ -40,6 +43,7 @@ fixed_list v =
     (record { top = 0; bottom = 6; left = s - 11; right = s - 8 }
     ∷ record { top = s - 11; bottom = s - 8; left = 0; right = 6 } ∷ []))
 
--- Rectangles that cover all modules of version `v` outside the encoding region (ISO/IEC 18004:2015, 6.3.7, 7.7.3)
+-- Rectangles that together cover all modules of version `v` outside the encoding region, and no module of this region
+-- (ISO/IEC 18004:2015, 6.3.7, 7.7.3)
 abbrev pub taken_rectangles : ℕ → List Rectangle
 taken_rectangles v = fixed_list v ++ alignment_rectangles (side_of v) (centres_of v)

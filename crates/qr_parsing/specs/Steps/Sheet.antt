@@ -1,5 +1,6 @@
--- Sheets, whose bytes show the modules of all rasters of a drawing. A raster is `width` modules wide; `k` is its index,
--- and `y` and `x` are a row and a column of it.
+-- Sheets. A drawing is turned into a sheet, a list of bytes in which the index of the byte that shows a module can be
+-- computed. Each raster of the drawing is `width` modules wide. `k` is the index of a raster, and `y` and `x` are a row
+-- and a column of this raster, all counted from 0.
 use Rattle.std.specs.Prelude.{◌≡◌, ℕ, ◌+◌, ◌*◌, ◌/◌, ◌%◌, ◌<◌, ◌==◌, ◌⊎◌, Bool, ◌||◌, if◌then◌else◌, List, drop, length, slice_index_or}
 use Rattle.qr_matrix.specs.Grid.{Grid}
 use Rattle.qr_drawing.specs.Raster.{is_dark_at, raster_width}
@@ -9,58 +10,61 @@ use Rattle.qr_drawing.specs.declared.drawing.Drawing.TheVariants.{Ascii, AsciiIn
 use Rattle.qr_parsing.specs.Parsing.{IsDrawingOf}
 use Rattle.qr_parsing.specs.Steps.{Svg.{canvas_of, numbers_in}, Text.{cells_in, first_line, has_block}}
 
--- The index of the byte in the sheet that shows the module in row `y` and column `x` of the raster `k`. All are counted
--- from 0, and a raster is `width` modules wide
+-- Where a module is in the sheet of a drawing of this type: the index of the byte that shows the module in row `y` and
+-- column `x` of the raster `k`. All are counted from 0, and a raster is `width` modules wide
 abbrev pub place_of : Drawing → ℕ → ℕ → ℕ → ℕ → ℕ
 place_of Ascii width k y x = (k * width + y) * (2 * width + 1) + 2 * x
 place_of AsciiInverse width k y x = (k * width + y) * (2 * width + 1) + 2 * x
 place_of Utf8 width k y x = (k * ((width + 1) / 2) + y / 2) * (width + 1) + x
 place_of Svg width k y x = (k * width + y) * width + x
 
--- In a drawing of this type the byte shows a dark module, if the module is in row `y` of its raster
+-- In the sheet of a drawing of this type, `byte` shows a dark module. The module is in row `y` of its raster. In a UTF8
+-- sheet a byte shows two modules, of which the upper one is in an even row
 abbrev pub is_dark_byte : Drawing → ℕ → ℕ → Bool
 is_dark_byte Ascii y byte = byte == 35
 is_dark_byte AsciiInverse y byte = byte == 32
 is_dark_byte Utf8 y byte = byte == 32 || byte == (if y % 2 == 0 then 0x84 else 0x80)
 is_dark_byte Svg y byte = byte == 1
 
--- The byte is one of the two `signs`
+-- The byte is one of the two `signs`, the bytes that show a dark module
 abbrev pub is_sign : ℕ × ℕ → ℕ → Bool
 is_sign signs byte = byte == signs.0 || byte == signs.1
 
--- The sheet shows a dark module in row `y` and column `x` of raster `k`
+-- The sheet `bytes` of a drawing of this type shows a dark module in row `y` and column `x` of the raster `k`
 unfoldable pub is_dark_on : Drawing → ℕ → List ℕ → ℕ → ℕ → ℕ → Bool
 is_dark_on kind width bytes k y x = is_dark_byte kind y (slice_index_or bytes (place_of kind width k y x) 0)
 
--- In the sheet there is a byte for each module of the `count` rasters
+-- The sheet `bytes` is long enough to have a byte for each module of its `count` rasters
 abbrev pub HasPlaces : Drawing → ℕ → ℕ → List ℕ → Type 0
 HasPlaces kind width count bytes = (k y x : ℕ) → k < count → y < width → x < width → place_of kind width k y x < length bytes
 
--- The sheet `bytes` shows the rasters that the squares have with this margin
+-- The sheet `bytes` shows the modules of the squares, with this margin around each. `count` is the number of squares,
+-- and `width` the width of a raster
 pub record ShowsOn (kind : Drawing) (width count : ℕ) (bytes : List ℕ) (margin : ℕ) (squares : List Grid) : Type 0 where
   pub width_is : width ≡ raster_width margin (square_at squares 0)
   pub count_is : count ≡ length squares
   pub places : (k y x : ℕ) → k < count → y < width → x < width
       → is_dark_on kind width bytes k y x ≡ is_dark_at margin (square_at squares k) y x
 
--- The only type of drawing that a text can have. An SVG document begins with `<`, only UTF8 texts have block
--- characters, and byte 14 of an ASCII text, counted from 0, belongs to a light module
+-- The only type of drawing that a text can have. A text that begins with `<` can only be an SVG document, and one with
+-- a block character only a UTF8 text. In the other two types byte 14, counted from 0, belongs to a light module. So it
+-- is a space if the text is an ASCII text, and another byte if the text is an inverse ASCII text
 abbrev pub kind_in : List ℕ → Drawing
 kind_in text =
     if slice_index_or text 0 0 == 60 then Svg else
     (if has_block text then Utf8 else
     (if slice_index_or text 14 0 == 32 then Ascii else AsciiInverse))
 
--- The width of the rasters in modules, if the text is a drawing of this type. An SVG document contains many numbers,
--- and the one with the index 9, counted from 0, is the width
+-- The width of each raster in modules, if the text is a drawing of this type. In an SVG document it is the number with
+-- the index 9 among all numbers in the document, counted from 0
 abbrev pub width_in : Drawing → List ℕ → ℕ
 width_in Ascii text = first_line text / 2
 width_in AsciiInverse text = first_line text / 2
 width_in Utf8 text = first_line (cells_in text)
 width_in Svg text = slice_index_or (numbers_in text) 9 0
 
--- The bytes of the sheet, if the text is a drawing of this type. Among the numbers of an SVG document, counted from 0,
--- the one with the index 10 is the height, and those of the boxes begin at the index 16
+-- The bytes of the sheet, if the text is a drawing of this type. Among all numbers in an SVG document, counted from 0,
+-- the number with the index 10 is the height, and the numbers from the index 16 on give the boxes
 abbrev pub bytes_in : Drawing → List ℕ → List ℕ
 bytes_in Ascii text = text
 bytes_in AsciiInverse text = text
@@ -74,15 +78,15 @@ count_in AsciiInverse text = length text / (width_in AsciiInverse text * (2 * wi
 count_in Utf8 text = length (cells_in text) / ((width_in Utf8 text + 1) / 2 * (width_in Utf8 text + 1))
 count_in Svg text = slice_index_or (numbers_in text) 10 0 / width_in Svg text
 
--- The sheet of the text has this type, this width and count of rasters, and these bytes. If the text is no drawing, the
--- bytes may be any
+-- The code makes this sheet from the text: `kind` is its type, `width` the width of each raster, `count` the number of
+-- rasters, and `bytes` are its bytes. If the text is no drawing, the bytes may be any
 pub record IsSheetOf (kind : Drawing) (width count : ℕ) (bytes text : List ℕ) : Type 0 where
   pub kind_is : kind ≡ kind_in text
   pub width_is : width ≡ width_in kind text
   pub count_is : count ≡ count_in kind text
   pub bytes_is : (k : Drawing) (margin : ℕ) (squares : List Grid) → IsDrawingOf k margin squares text → bytes ≡ bytes_in kind text
 
--- If the text were a drawing, its rasters would be narrower or wider than in any drawing, or there would be more of
--- them than in any drawing
+-- The text cannot be a drawing, because its rasters would be narrower than 8 modules or wider than 687, or there would
+-- be more than 16 of them. A raster of 687 modules has the greatest symbol, 177 modules wide, and two margins of 255
 abbrev pub HasNoSheet : List ℕ → Type 0
 HasNoSheet text = ((width_in (kind_in text) text < 8) ⊎ (687 < width_in (kind_in text) text)) ⊎ (16 < count_in (kind_in text) text)

@@ -1,4 +1,5 @@
--- The cells of a UTF8 text, as one byte for each of its characters, and what tells such a text from others.
+-- A UTF8 text with one byte for each of its characters, and how such a text is recognized. Its block characters are the
+-- half blocks and the full block, which have three bytes each. The first two of them are E2 and 96 (hexadecimal).
 use Rattle.std.specs.Prelude.{ℕ, ◌==◌, not, ◌||◌, nat_lt, Bool, List, length, take}
 use Rattle.std.specs.List.{filter, position_or_len}
 
@@ -6,11 +7,13 @@ use Rattle.std.specs.List.{filter, position_or_len}
 abbrev pub is_cell : ℕ → Bool
 is_cell byte = not (byte == 0xE2 || byte == 0x96)
 
--- Among the first 22 bytes of the text is one with which a block character begins
+-- One of the first 22 bytes of the text is E2 (hexadecimal), with which each block character begins. Every UTF8 text
+-- has one there, since the module in row 0 and column 7 of a square is light
 abbrev pub has_block : List ℕ → Bool
 has_block text = nat_lt (position_or_len (λ byte. byte == 0xE2) (take 22 text)) (length (take 22 text))
 
--- The text in which each block character is replaced by its last byte; spaces and newlines are one byte already
+-- The text in which each block character is replaced by its last byte. Spaces and newlines stay, since they are one
+-- byte already
 abbrev pub cells_in : List ℕ → List ℕ
 cells_in text = filter is_cell text
 

@@ -1,6 +1,7 @@
 -- What each step of a run can return. `words` are the arguments, and `s` the settings. A drawing job has what is needed
--- for a drawing: its type, its margin and the symbols. A device is `old` before the step and `new` after it; in
--- `Attempts` it is `in0` or `out0` before, and `in1` or `out1` after.
+-- for a drawing: its type, its margin and the symbols. A device is `old` before the step and `new` after it. In
+-- `Attempts` the reader is `in0` before and `in1` after, and the writer is `out0` before and `out1` after. What is said
+-- of a device's counts holds if they were 0 before the step.
 use Rattle.std.specs.Prelude.{◌≡◌, ◌<◌, ◌≤◌, ◌↔◌, ◌⊎◌, ℕ, List, [], false, length, max, IfErr, IsErrOf, IsTrue, OnOk, Result, Ok, Err, MatchResult, true}
 use Rattle.clap.specs.Walk.{Text}
 use Rattle.qrencode_cli.specs.Command.{AllRead, DrawnInPart, DrawnWhole, HasDrawing, InputConsumed, IsDrawing, IsFault}
@@ -19,7 +20,7 @@ use Rattle.qrencode_cli.specs.declared.fault.Fault.TheVariants.{Encode, Memory, 
 use Rattle.qr_symbol.specs.declared.fault.EncodeFault.TheVariants.{Empty, TooLong, TooMany}
 use Rattle.qrencode_cli.specs.declared.drawing_job.DrawingJob.{DrawingJob}
 
--- The reader returned the input without a fault
+-- The reader had no fault and returned the input: all its bytes, or the first `INPUT_MAX` if it has more
 pub record HasRead (old new : Reader) (input : List ℕ) : Type 0 where
   pub is_input : IsInputOf old.remaining input
   pub short : length input ≤ INPUT_MAX
@@ -27,19 +28,20 @@ pub record HasRead (old new : Reader) (input : List ℕ) : Type 0 where
   pub well : old.counts ≡ no_reads → is_read_fault new.counts ≡ false
   pub within : old.counts ≡ no_reads → IsReadWithin new.counts
 
--- `f` ended the reading. It is a fault of the reader, which the reader's counts show, or it is lack of memory
+-- `f` ended the reading before the input was complete. It is a fault of the reader, which the reader's counts show, or
+-- lack of memory
 pub record StopsReading (old new : Reader) (f : Fault) : Type 0 where
   pub only : (f ≡ Read) ⊎ (f ≡ Memory)
   pub read_fault : old.counts ≡ no_reads → (f ≡ Read) ↔ IsTrue (is_read_fault new.counts)
   pub within : old.counts ≡ no_reads → IsReadWithin new.counts
 
--- The drawing that a job writes if no write fails
+-- The drawing of the job's symbols, which the job writes if no write fails
 abbrev pub drawing_of_job : DrawingJob → List ℕ
 drawing_of_job job = drawn job.kind job.margin (squares_of job.symbols.items)
 
--- The settings ask for these symbols of `input`, and the symbols are read and joined as `input`. `input` is not empty,
--- and it is shorter than `INPUT_MAX`, so nothing was cut off. The symbols can be drawn, since there are 1 to 16, all
--- with one side
+-- The settings ask for these symbols of `input`. If the symbols are read and joined, they yield `input`. `input` is not
+-- empty, and it is shorter than `INPUT_MAX`, so nothing was cut off. The symbols can be drawn: there are 1 to 16, and
+-- all have one side
 pub record AreDrawnFor (s : SettingsView) (input : List ℕ) (symbols : List Symbol) : Type 0 where
   pub asked : AreSymbols s input (squares_of symbols)
   pub joined : IsJoined (squares_of symbols) input
@@ -49,7 +51,8 @@ pub record AreDrawnFor (s : SettingsView) (input : List ℕ) (symbols : List Sym
   pub few : length symbols ≤ 16
   pub one_side : HaveOneSide (squares_of symbols)
 
--- `f` is lack of memory, or a correct reason why `input` has no drawing
+-- The fault is lack of memory, or a correct reason why `input` has no drawing: it is empty, it is too long for one
+-- symbol, or its series would have too many symbols
 abbrev pub IsInputFault : SettingsView → List ℕ → Fault → Type 0
 IsInputFault s input (Encode Empty) = input ≡ []
 IsInputFault s input (Encode TooLong) = IsTooLong s input
@@ -57,22 +60,24 @@ IsInputFault s input (Encode TooMany) = IsTooMany s input
 IsInputFault s input Memory = Unit {0}
 IsInputFault s input _ = ⊥
 
--- The result is the drawing job of `input`, or the fault that is the reason why there is none
+-- The result is the drawing job of `input`, or a fault. The fault is lack of memory, or a correct reason why `input`
+-- has no drawing
 abbrev pub IsJobFor : SettingsView → List ℕ → Result DrawingJob Fault → Type 0
 IsJobFor s input result = MatchResult result (λ p. IsDrawing s input (drawing_of_job p)) (IsInputFault s input)
 
--- The fault is one that occurs before any byte of the drawing is written
+-- The fault is not one of the writer, and so occurs before any byte of the drawing is written
 abbrev pub IsEarly : Fault → Type 0
 IsEarly Write = ⊥
 IsEarly _ = Unit {0}
 
--- The result is the drawing job for the arguments if the reader returned `given`, or a fault before any byte of the
--- drawing is written
+-- The result is a drawing job, or a fault. The job has the drawing that the arguments ask for, if `given` are the bytes
+-- that the reader returned. The fault can occur with these arguments and bytes, before any byte of a drawing is written
 abbrev pub IsJobGiven : List Text → List ℕ → Result DrawingJob Fault → Type 0
 IsJobGiven words given result =
     MatchResult result (λ p. HasDrawing words given (drawing_of_job p)) (λ f. IsFault words given f × IsEarly f)
 
--- The result is the drawing job for the arguments and their input, or a fault before any byte of the drawing is written
+-- The step reads the input, unless it is among the arguments, and makes the drawing job. The result is this job, or a
+-- fault that can occur before any byte of the drawing is written
 pub record Prepares (words : List Text) (old new : Reader) (result : Result DrawingJob Fault) : Type 0 where
   pub given : List ℕ
   pub is_input : IsInputOf old.remaining given
@@ -81,7 +86,8 @@ pub record Prepares (words : List Text) (old new : Reader) (result : Result Draw
   pub read_fault : old.counts ≡ no_reads → IsErrOf result Read ↔ IsTrue (is_read_fault new.counts)
   pub within : old.counts ≡ no_reads → IsReadWithin new.counts
 
--- The drawing was written and flushed, or the result is a fault of the writer
+-- If the step succeeded, the whole drawing was written, and the writer was flushed. Otherwise the result is a fault of
+-- the writer, and a prefix of the drawing was written, or all of it. No write offered more than `WRITE_MAX` bytes
 pub record Draws (old new : Writer) (drawing : List ℕ) (result : Result (Unit {0}) Fault) : Type 0 where
   pub ok : OnOk result (DrawnWhole true old new drawing)
   pub err : IfErr result (λ f. (f ≡ Write) × DrawnInPart old new drawing)
@@ -89,8 +95,9 @@ pub record Draws (old new : Writer) (drawing : List ℕ) (result : Result (Unit 
   pub within : old.counts ≡ no_writes → IsWrittenWithin new.counts
   pub offered : new.counts.offered ≤ max old.counts.offered WRITE_MAX
 
--- A run can have this result before the line of a fault is written. Either a drawing job was made, and writing its
--- drawing had this result; or making the job failed with this result, and nothing was written
+-- The result of a run before it tells a fault on standard error. There are two cases. A drawing job was made, and the
+-- result is that of writing the job's drawing. Or no drawing job was made because of a fault; then the result is this
+-- fault, and nothing was written
 abbrev pub Attempts : List Text → Reader → Reader → Writer → Writer → Result (Unit {0}) Fault → Type 0
 Attempts words in0 in1 out0 out1 result =
     ((job : DrawingJob) × Prepares words in0 in1 (Ok job) × Draws out0 out1 (drawing_of_job job) result)

@@ -1,4 +1,5 @@
--- How faults of the arguments and of encoding become faults of a run.
+-- How faults of two steps of a run become faults of the run. One step finds the settings in the arguments, and the
+-- other encodes the input. Lack of memory becomes the same fault in both.
 use Rattle.qr_symbol.specs.declared.fault.EncodeFault.{EncodeFault}
 use Rattle.qr_symbol.specs.declared.fault.EncodeFault.TheVariants as encode
 use Rattle.qrencode_cli.specs.declared.fault.Fault.{Fault}
@@ -6,12 +7,12 @@ use Rattle.qrencode_cli.specs.declared.fault.Fault.TheVariants as fault
 use Rattle.qrencode_cli.specs.declared.settings.UsageFault.{UsageFault}
 use Rattle.qrencode_cli.specs.declared.settings.UsageFault.TheVariants as usage
 
--- The fault of a run whose arguments are refused
+-- The fault of a run that finds this fault in its arguments
 abbrev pub fault_of_words : UsageFault → Fault
 fault_of_words usage.Memory = fault.Memory
 fault_of_words f = fault.Usage f
 
--- The fault of a run whose input is not encoded
+-- The fault of a run whose input is not encoded because of this fault
 abbrev pub fault_of_input : EncodeFault → Fault
 fault_of_input encode.Memory = fault.Memory
 fault_of_input f = fault.Encode f
