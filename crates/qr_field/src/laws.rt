@@ -51,8 +51,9 @@ pub fn correction_computes()
     ensures { IsCorrection worked_data 10 worked_correction }
 {}
 
-/// Two blocks with equally many data codewords, but different ones, differ in more codewords than each of them has
-/// error correction codewords. This holds for blocks of at most 255 codewords.
+/// Suppose that two blocks have the same number of data codewords and the same number of error correction codewords,
+/// but that their data codewords are not the same. Then the blocks differ in more codewords than one of them has error
+/// correction codewords. This holds for blocks of at most 255 codewords.
 pub fn blocks_lie_apart()
     ensures { BlocksLieApart }
 {}

@@ -188,7 +188,8 @@ pub(crate) fn near_format_of(scan: &Scan, copy: FormatCopy) -> Option<(Level, u8
     None
 }
 
-// The pair that is near to the first copy, or if there is none, the one that is near to the second.
+// Returns the level and the mask that are near to the first copy. If none are, it returns those that are near to the
+// second copy, and if none are near to that either, `None`.
 pub(crate) fn near_format_of_either(scan: &Scan) -> Option<(Level, u8)>
     ensures { MatchOption result
         ((copy : FormatCopy) (l : Level) (mask : ℕ) → IsNearFormat scan.now.unknown.now copy scan.now.matrix.now l mask → ⊥)
