@@ -151,8 +151,9 @@ impl MatrixPair {
         }
     }
 
-    /// Sets every twelfth row of both squares, from row `first` on. In each square it sets them as
-    /// `Matrix::set_row_masked` does, with the square's part of `patterns`.
+    /// Copies every twelfth row of `plain`, from row `first` on, into both squares. In a square, the module in column
+    /// `col` is inverted if its place is dark in `within` and bit `col % 6` of the square's part of `patterns` is 1;
+    /// bit 0 is the lowest bit.
     pub fn set_rows_masked(
         &mut self,
         first: u8,

@@ -99,8 +99,8 @@ impl Removal {
         }
     }
 
-    // Returns the error of the codeword at `location`, where the locator has a root. Takes it out of the locator and
-    // the syndromes.
+    // Returns the error of the codeword at `location`, where the locator has a root. Takes the root out of the locator,
+    // and the error out of the syndromes.
     fn error_at_root(&mut self, location: u8) -> u8
         requires small { location < 255 }
         requires root { eval (power location) self.old.locator.items ≡ 0 }

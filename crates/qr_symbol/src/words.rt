@@ -153,8 +153,9 @@ pub(crate) fn split(bits: u64, upward: bool, count: u8) -> (u64, u64)
     }
 }
 
-// The inverse of `split`. Returns the bits of `count` rows in the order in which the rows are filled, with the last bit
-// as bit 0. In `right` and `left` the lowest bit is that of the topmost row.
+// Joins the bits of the right and the left column of `count` rows of a strip, in the order in which they are filled: in
+// each row the right bit comes first. The last bit is bit 0 of the result, whereas `split` takes the highest bits of a
+// word. In `right` and `left` the lowest bit is that of the topmost row.
 #[inline(always)]
 pub(crate) fn joined(right: u64, left: u64, upward: bool, count: u8) -> u64
     requires some { 1 ≤ count }
