@@ -4,15 +4,16 @@
 //! of two numbers: the bits that the byte adds in this mode, and the fewest bits that the later bytes can then add. The
 //! best mode has the least sum.
 //!
-//! A row is a number with two bits for each state: the rank of the best mode for this state. The code compares modes by
-//! their choices. A choice is a number, and the head of `run_state.rt` says how it is formed.
+//! A row is a number with two bits for each state: the rank of the best mode for this state. In GS1 data a row also has
+//! a flag, if alphanumeric mode writes its byte as other characters. The code compares modes by their choices. A choice
+//! is a number, and the head of `run_state.rt` says how it is formed.
 //!
 //! In all functions `kanji` says that the rule allows kanji mode, `pair` that the byte may begin a kanji pair, and
 //! `gs1` that the bytes are GS1 data. The functions are inlined in the loops that call them. Where `kanji` is the
 //! constant `false`, the compiler leaves out the tests for pairs, and where `gs1` is the constant `false`, those for
 //! `%` and the separator.
 
-ghost use Rattle.std.specs.Prelude.{◌≡◌, ◌+◌, ◌*◌, ◌/◌, ◌%◌, ◌<◌, ◌≤◌, ℕ, Bool, true, false, length, reverse, IfOk, vec_len};
+ghost use Rattle.std.specs.Prelude.{◌≡◌, ◌&&◌, ◌+◌, ◌*◌, ◌/◌, ◌%◌, ◌<◌, ◌≤◌, ℕ, Bool, true, false, length, reverse, IfOk, vec_len};
 ghost use Rattle.qr_bits.specs.declared.modes.Mode.{Mode};
 ghost use Rattle.qr_bits.specs.declared.run_state.RunState.{RunState};
 ghost use Rattle.qr_bits.specs.Modes.{is_kanji_pair, may_use};
@@ -21,13 +22,17 @@ ghost use Rattle.qr_bits.specs.declared.modes.Rule.{Rule};
 ghost use Rattle.qr_bits.specs.declared.interpretation.Interpretation.{Interpretation};
 ghost use Rattle.qr_bits.specs.Interpretation.{character_for, is_doubled};
 ghost use Rattle.qr_bits.specs.Steps.RunState.{begins_with_pair, is_gs1, may_begin, choice_number, ranked};
-ghost use Rattle.qr_bits.specs.Steps.BestModes.{AreCharacterChoices, in_state, mode_at, IsBestTable, IsRow, IsSmall, shift_of};
+ghost use Rattle.qr_bits.specs.Steps.BestModes.{AreCharacterChoices, AreFlagged, in_state, is_flagged, mode_at, IsBestTable, IsRow, IsSmall, shift_of};
+ghost use Rattle.qr_bits.specs.Steps.Segmentation.{is_escaped};
 
-use crate::interpretation::SEPARATOR;
+use crate::interpretation::{SEPARATOR, is_itself};
 use crate::modes::{INPUT_MAX, Mode, Rule, is_alphanumeric, is_digit, is_kanji_pair, may_use};
 use crate::run_state::{FirstChoices, NO_BITS, PerState, RunState, number};
 use qr_layout::Version;
 use std::alloc::{AllocError, Global};
+
+// The flag of a row: the bit above the bits of the nine states.
+const FLAG: u32 = 1 << 18;
 
 // Stands for a choice that is not allowed, and is greater than every choice that is allowed.
 const NO_CHOICE: u32 = u32::MAX;
@@ -86,7 +91,8 @@ fn next_if(may: bool, bits: u32, mode: Mode, rest: u32) -> u32
 #[tactic(auto, using(crate::proofs::lemmas::best_modes::TableLemmas::packed_mode))]
 #[inline(always)]
 fn row_for(numbers: &PerState) -> u32
-    ensures { (p : RunState) → mode_at result p ≡ ranked (in_state numbers.now p % 4) }
+    ensures low { result < FLAG }
+    ensures modes { (p : RunState) → mode_at result p ≡ ranked (in_state numbers.now p % 4) }
 {
     let last = numbers.half_pair % 4 + 4 * (numbers.whole_pair % 4);
     let last = numbers.character2 % 4 + 4 * (numbers.in_bytes % 4 + 4 * last);
@@ -151,7 +157,8 @@ fn choices(
     rest: &PerState,
 ) -> (u32, PerState)
     requires { IsSmall rest.now }
-    ensures { (i : Interpretation) (r : Rule) (x : ℕ) → digit ≡ may_begin r x pair Mode.Numeric
+    ensures low { result.0 < FLAG }
+    ensures row { (i : Interpretation) (r : Rule) (x : ℕ) → digit ≡ may_begin r x pair Mode.Numeric
         → AreCharacterChoices i first_choices.now.version r x pair rest.now characters.now
         → IsRow i first_choices.now.version r x pair rest.now result.0 result.1 }
 {
@@ -209,7 +216,27 @@ fn may_be_character(gs1: bool, rule: Rule, byte: u8) -> bool
     gs1 && byte == SEPARATOR && may_use(rule, Mode::Alphanumeric)
 }
 
-// The row of a byte, and the best choice for it in each state. `rest` has the best choices of the next byte.
+// The row with its flag set, if `flag` is true.
+#[tactic(auto, using(crate::proofs::lemmas::best_modes::TableLemmas::flagged_mode))]
+#[inline(always)]
+fn flagged(row: u32, flag: bool) -> u32
+    requires { row < FLAG }
+    ensures flag { is_flagged result ≡ flag }
+    ensures modes { (p : RunState) → mode_at result p ≡ mode_at row p }
+{
+    if flag { row + FLAG } else { row }
+}
+
+// Whether the row has its flag.
+#[inline(always)]
+pub(crate) fn is_flagged(row: u32) -> bool
+    ensures { result ≡ is_flagged row }
+{
+    row >= FLAG
+}
+
+// The row of a byte, and the best choice for it in each state. `rest` has the best choices of the next byte. The row has
+// its flag if alphanumeric mode writes this byte of GS1 data as other characters.
 #[inline(always)]
 pub(crate) fn row_of(
     first_choices: &FirstChoices,
@@ -220,24 +247,28 @@ pub(crate) fn row_of(
     rest: &PerState,
 ) -> (u32, PerState)
     requires { IsSmall rest.now }
-    ensures { (i : Interpretation) → gs1 ≡ is_gs1 i
+    ensures flag { is_flagged result.0 ≡ (gs1 && is_escaped Mode.Alphanumeric byte) }
+    ensures row { (i : Interpretation) → gs1 ≡ is_gs1 i
         → IsRow i first_choices.now.version rule byte pair rest.now result.0 result.1 }
 {
-    // `choices` is compiled into each of the places that call it. Where a flag is a constant, the compiler leaves out
-    // the cases that the constant excludes. A byte that may be written in numeric mode may be written in alphanumeric
+    // `choices` is compiled into each of the places that call it. Where an argument is a constant, the compiler leaves
+    // out the cases that the constant excludes. A byte that may be written in numeric mode may be written in alphanumeric
     // mode too.
     let digit = may_begin(rule, byte, Mode::Numeric);
     if digit && !pair {
         let characters = character_choices(first_choices, true, false, rest);
         return choices(first_choices, true, &characters, false, rest);
     }
-    let doubled = is_doubled(gs1, byte);
-    let may = may_be_character(gs1, rule, byte);
-    if pair || doubled {
+    // Bytes whose rows have a flag are rare, as pairs are, so the same code serves both.
+    let escaped = gs1 && !is_itself(byte);
+    if pair || escaped {
+        let may = may_be_character(gs1, rule, byte);
+        let doubled = is_doubled(gs1, byte);
         let characters = character_choices(first_choices, may, doubled, rest);
-        return choices(first_choices, digit, &characters, pair, rest);
+        let (row, numbers) = choices(first_choices, digit, &characters, pair, rest);
+        return (flagged(row, escaped), numbers);
     }
-    if may {
+    if may_begin(rule, byte, Mode::Alphanumeric) {
         let characters = character_choices(first_choices, true, false, rest);
         choices(first_choices, false, &characters, false, rest)
     } else {
@@ -288,7 +319,7 @@ pub(crate) fn best_modes(
     }
 }
 
-// Returns the same table as `best_modes` would, but for GS1 data.
+// Returns the same table as `best_modes` would, but for GS1 data, and with the flags of rows.
 #[inline(never)]
 pub(crate) fn best_gs1_modes(
     alloc: Global,
@@ -299,7 +330,8 @@ pub(crate) fn best_gs1_modes(
     requires short { length input.now ≤ INPUT_MAX }
     requires mixed { rule ≡ Rule.BytesOnly → ⊥ }
     ensures { IfOk result (λ t. (vec_len t ≡ length input.now)
-        × IsBestTable Interpretation.Gs1 version rule is_kanji_pair input.now (reverse t.items)) }
+        × IsBestTable Interpretation.Gs1 version rule is_kanji_pair input.now (reverse t.items)
+        × AreFlagged input.now (reverse t.items)) }
 {
     match rule {
         Rule::WithKanji => best_rows(alloc, input, version, Rule::WithKanji, true, true),
@@ -307,7 +339,7 @@ pub(crate) fn best_gs1_modes(
     }
 }
 
-// As `best_modes`, but for GS1 data if `gs1` is true.
+// As `best_modes`, but as `best_gs1_modes` if `gs1` is true.
 #[inline(always)]
 fn best_rows(
     alloc: Global,
@@ -320,7 +352,8 @@ fn best_rows(
     requires short { length input.now ≤ INPUT_MAX }
     requires kanji { kanji ≡ may_use rule Mode.Kanji }
     ensures { IfOk result (λ t. (vec_len t ≡ length input.now) × ((i : Interpretation) → gs1 ≡ is_gs1 i
-        → IsBestTable i version rule is_kanji_pair input.now (reverse t.items))) }
+        → IsBestTable i version rule is_kanji_pair input.now (reverse t.items))
+        × (gs1 ≡ true → AreFlagged input.now (reverse t.items))) }
 {
     let first_choices = FirstChoices::of(version);
     let mut table = Vec::with_capacity(alloc, input.len())?;

@@ -8,6 +8,7 @@
 ghost use Rattle.std.specs.Prelude.{IfOk, IsTrue, ◌↔◌, List, OnOk, false, true, if◌then◌else◌, [], ◌∷◌, take, drop, length, ◌==◌, ◌≡◌, ◌≤◌, ◌++◌};
 ghost use Rattle.qr_bits.specs.declared.interpretation.Item.{Item};
 ghost use Rattle.qr_bits.specs.Steps.RunState.{is_gs1};
+ghost use Rattle.qr_bits.specs.Steps.Segmentation.{is_itself};
 ghost use Rattle.qr_bits.specs.Interpretation.{are_fields, eci_changes, fnc1_of, interpretation_bits, MayWrite, meant, meant_bytes, percent, separated, separator};
 
 use crate::modes::Mode;
@@ -67,17 +68,26 @@ pub fn may_write(input: &[u8], interpretation: Interpretation) -> bool
 
 // Whether no separator comes directly before another separator or before `%`. One segment in alphanumeric mode could
 // not contain two such bytes: it would write `%%` or `%%%` for them, and the first two characters would be read as `%`.
-// The loop has no early exit, so that the compiled code takes many bytes at once.
 #[tactic(auto, unfolding(crate::specs::Interpretation::are_fields))]
-#[inline(never)]
 fn are_fields(bytes: &[u8]) -> bool
     ensures { result ≡ are_fields bytes.now }
 {
+    match bytes {
+        [] => true,
+        [_, seconds @ ..] => may_all_precede(bytes, seconds),
+    }
+}
+
+// As `are_fields`; `seconds` are the bytes after the first. The loop has no early exit, so that the compiled code takes
+// many bytes at once. It is out of line, since code that knows how the two slices lie takes the last bytes one by one.
+#[inline(never)]
+fn may_all_precede(firsts: &[u8], seconds: &[u8]) -> bool
+    requires { seconds.now ≡ drop 1 firsts.now }
+    ensures { result ≡ are_fields firsts.now }
+{
     let mut fields = true;
-    let mut rest = bytes;
-    while let [first, second, ..] = rest {
-        fields = fields & may_precede(*first, *second);
-        rest = &rest[1..];
+    for i in 0..seconds.len() {
+        fields = fields & may_precede(firsts[i], seconds[i]);
     }
     fields
 }
@@ -132,6 +142,15 @@ pub struct EciChange {
 
 // The byte that separates fields (ISO/IEC 18004:2015, 7.4.8.2).
 pub(crate) const SEPARATOR: u8 = 0x1D;
+
+// Whether each mode writes this byte of GS1 data as itself: it is neither `%` nor the separator (ISO/IEC 18004:2015,
+// 7.4.8.2).
+#[inline(always)]
+pub(crate) fn is_itself(byte: u8) -> bool
+    ensures { result ≡ is_itself byte }
+{
+    (byte != b'%') & (byte != SEPARATOR)
+}
 
 // Appends the bytes that the characters of a segment in alphanumeric mode stand for after FNC1 (ISO/IEC 18004:2015,
 // 7.4.8.2).

@@ -2,7 +2,7 @@
 -- before it. (The file `RunState` says what a state is.) A choice is a mode of a byte, with the number of bits that
 -- this byte and all later ones then take. `rest` has the best choices of the next byte, one for each state after the
 -- byte. `pair` says that the byte may begin a kanji pair.
-use Rattle.std.specs.Prelude.{◌≡◌, ℕ, ◌+◌, ◌<◌, ◌/◌, ◌%◌, ◌^◌, Bool, List, [], ◌∷◌, IsTrue}
+use Rattle.std.specs.Prelude.{◌≡◌, ℕ, ◌+◌, ◌<◌, ◌/◌, ◌%◌, ◌^◌, nat_le, Bool, List, [], ◌∷◌, map, IsTrue}
 use Rattle.qr_bits.specs.declared.modes.Mode.{Mode}
 use Rattle.qr_bits.specs.declared.modes.Mode.TheVariants.{Alphanumeric}
 use Rattle.qr_bits.specs.declared.modes.Rule.{Rule}
@@ -12,6 +12,7 @@ use Rattle.qr_bits.specs.declared.run_state.PerState.{PerState}
 use Rattle.qr_bits.specs.declared.best_modes.CharacterChoices.{CharacterChoices}
 use Rattle.qr_bits.specs.declared.interpretation.Interpretation.{Interpretation}
 use Rattle.qr_bits.specs.Interpretation.{character_for}
+use Rattle.qr_bits.specs.Steps.Segmentation.{is_escaped}
 use Rattle.qr_bits.specs.Steps.RunState.{state_after, state_in, cost_in, may_begin, allowed_in, choice_number, ranked, IsBestRest, IsChoice}
 
 -- The choice that `b` has for the given state. It is stored as one number: 4 times its bits, plus the rank of its mode
@@ -65,6 +66,14 @@ shift_of WholePair = 16
 -- The mode that the row has for the state `p`
 unfoldable pub mode_at : ℕ → RunState → Mode
 mode_at row p = ranked (row / 2 ^ shift_of p % 4)
+
+-- The row has its flag, which is the bit above those of the nine states: 2 ^ 18
+abbrev pub is_flagged : ℕ → Bool
+is_flagged row = nat_le 262144 row
+
+-- A row of the bytes `xs` of GS1 data has its flag exactly if alphanumeric mode writes its byte as other characters
+abbrev pub AreFlagged : List ℕ → List ℕ → Type 0
+AreFlagged xs rows = map is_flagged rows ≡ map (is_escaped Alphanumeric) xs
 
 -- For each state before the byte `x`, `numbers` has the best choice, and `row` has the mode of this choice
 abbrev pub IsRow : Interpretation → ℕ → Rule → ℕ → Bool → PerState → ℕ → PerState → Type 0

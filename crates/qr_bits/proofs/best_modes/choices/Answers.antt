@@ -23,9 +23,9 @@ minima n a b k d c2 c1 b1 k1 h i j l = (
   swap k1 n _ ∙ ap (min n) (swap k1 a _ ∙ ap (min a) (swap k1 b k ∙ ap (min b) (min-eq_left l))),
 )
 
-pub returns : goal.returns
+pub returns-clause-row : goal.returns-clause-row
 unfolding may_begin may_end byte_cost state_after in_state
-returns c = λ i r x digit characters.
+returns-clause-row c = λ i r x digit characters.
     let h = c.args.first_choices.now in
     let v = h.version in
     let t = c.args.pair in
@@ -48,13 +48,13 @@ returns c = λ i r x digit characters.
     let m = minima (of Start Numeric) (written Start) (of Start Byte) (of Start Kanji) (of Digit3 Numeric) (written Character1) (written Character2) (of InBytes Byte) (of WholePair Kanji)
     (number-less _ Numeric 4 _ _) (character-less i v r x t rest) (number-less _ Byte 8 _ _) (number-less _ Kanji 13 _ _) in
     elim [
-      | Start ↦ row-choice i v r Start x t rest _ _ (c.row_for.ensures Start) refl s start
-      | Digit1 ↦ row-choice i v r Digit1 x t rest _ _ (c.row_for.ensures Digit1) refl s (rw (d2, ab) at c.min.ensures)
-      | Digit2 ↦ row-choice i v r Digit2 x t rest _ _ (c.row_for.ensures Digit2) refl s (rw (d3, ab) at c.min-2.ensures)
-      | Digit3 ↦ row-choice i v r Digit3 x t rest _ _ (c.row_for.ensures Digit3) refl s ((rw (d1, start) at c.min-3.ensures) ∙ m.0)
-      | Character1 ↦ row-choice i v r Character1 x t rest _ _ (c.row_for.ensures Character1) refl s ((rw (characters.1, nbk) at c.min-4.ensures) ∙ m.1)
-      | Character2 ↦ row-choice i v r Character2 x t rest _ _ (c.row_for.ensures Character2) refl s ((rw (characters.2, start) at c.min-5.ensures) ∙ m.2)
-      | InBytes ↦ row-choice i v r InBytes x t rest _ _ (c.row_for.ensures InBytes) refl s ((rw (b1, start) at c.min-6.ensures) ∙ m.3)
-      | HalfPair ↦ half-choice i v r x t _ _ _ (c.row_for.ensures HalfPair) c.next_if-whole_pair.ensures
-      | WholePair ↦ row-choice i v r WholePair x t rest _ _ (c.row_for.ensures WholePair) refl s ((rw (k1, start) at c.min-7.ensures) ∙ m.4)
+      | Start ↦ row-choice i v r Start x t rest _ _ (c.row_for.ensures.modes Start) refl s start
+      | Digit1 ↦ row-choice i v r Digit1 x t rest _ _ (c.row_for.ensures.modes Digit1) refl s (rw (d2, ab) at c.min.ensures)
+      | Digit2 ↦ row-choice i v r Digit2 x t rest _ _ (c.row_for.ensures.modes Digit2) refl s (rw (d3, ab) at c.min-2.ensures)
+      | Digit3 ↦ row-choice i v r Digit3 x t rest _ _ (c.row_for.ensures.modes Digit3) refl s ((rw (d1, start) at c.min-3.ensures) ∙ m.0)
+      | Character1 ↦ row-choice i v r Character1 x t rest _ _ (c.row_for.ensures.modes Character1) refl s ((rw (characters.1, nbk) at c.min-4.ensures) ∙ m.1)
+      | Character2 ↦ row-choice i v r Character2 x t rest _ _ (c.row_for.ensures.modes Character2) refl s ((rw (characters.2, start) at c.min-5.ensures) ∙ m.2)
+      | InBytes ↦ row-choice i v r InBytes x t rest _ _ (c.row_for.ensures.modes InBytes) refl s ((rw (b1, start) at c.min-6.ensures) ∙ m.3)
+      | HalfPair ↦ half-choice i v r x t _ _ _ (c.row_for.ensures.modes HalfPair) c.next_if-whole_pair.ensures
+      | WholePair ↦ row-choice i v r WholePair x t rest _ _ (c.row_for.ensures.modes WholePair) refl s ((rw (k1, start) at c.min-7.ensures) ∙ m.4)
     ]

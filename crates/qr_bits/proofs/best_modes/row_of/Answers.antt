@@ -1,44 +1,60 @@
-use Rattle.std.proofs.Common.{◌≡◌, false, sym, ◌∙◌}
+use Rattle.std.proofs.Common.{◌≡◌, true, false, ◌&&◌, refl, sym, ◌∙◌}
+use Rattle.std.proofs.Math.Bool.{and-false}
 use Rattle.std.proofs.lemmas.Bool.{false≢true}
-use Rattle.qr_bits.proofs.lemmas.best_modes.ChoiceLemmas.{digit-written}
+use Rattle.qr_bits.specs.{declared.modes.Mode.TheVariants.Alphanumeric, Interpretation.character_for, Steps.RunState.may_begin, Steps.Segmentation.is_escaped}
+use Rattle.qr_bits.proofs.lemmas.best_modes.{ChoiceLemmas.{digit-itself, digit-written, own-character}, TableLemmas.{no-flag}}
 use Rattle.qr_bits.proofs.best_modes.row_of.Goals as goal
-use Rattle.qr_bits.proofs.best_modes.row_of.Goals.{else-digit-via-then-digit+else-not-pair, else-digit-via-else-digit}
+use Rattle.qr_bits.proofs.best_modes.row_of.Goals.{else-digit-via-then-digit+else-not-pair, else-digit-via-else-digit, then-gs1, else-gs1}
 
-pub returns-then-not-pair : goal.returns-then-not-pair
-returns-then-not-pair c = λ i g.
+pub returns-then-not-pair-clause-row : goal.returns-then-not-pair-clause-row
+returns-then-not-pair-clause-row c = λ i g.
     let r = c.args.rule in
     let x = c.args.byte in
     let digit = sym (c.may_begin-digit.ensures false) ∙ c.if-digit.true in
     let own = digit-written i r x false digit in
-    rw c.if-not-pair.true (c.choices.ensures i r x (sym digit) (c.character_choices-characters.ensures i r x false (sym own.1) (sym own.0)))
+    rw c.if-not-pair.true (c.choices.ensures.row i r x (sym digit) (c.character_choices-characters.ensures i r x false (sym own.1) (sym own.0)))
 
-pub returns-then-pair : goal.returns-then-pair
-returns-then-pair c = λ i g.
+pub returns-then-not-pair-clause-flag : goal.returns-then-not-pair-clause-flag
+returns-then-not-pair-clause-flag c =
+    let digit = sym (c.may_begin-digit.ensures false) ∙ c.if-digit.true in
+    rw (no-flag _ c.choices.ensures.low, digit-itself c.args.rule c.args.byte false digit) (sym (and-false c.args.gs1))
+
+pub returns-then-pair-clause-row : goal.returns-then-pair-clause-row
+returns-then-pair-clause-row c = λ i g p.
     let r = c.args.rule in
     let x = c.args.byte in
     let t = c.args.pair in
-    c.choices-then-pair.ensures i r x (c.may_begin-digit.ensures t) (c.character_choices-characters-then-pair.ensures i r x t (c.may_be_character-may.ensures i t g) (c.is_doubled-doubled.ensures i g))
+    let row = c.choices-row.ensures.row i r x (c.may_begin-digit.ensures t) (c.character_choices-characters-then-pair.ensures i r x t (c.may_be_character-may.ensures i t g) (c.is_doubled-doubled.ensures i g)) in
+    rw (c.flagged.ensures.modes p) (row p)
 
-pub returns-then-may : goal.returns-then-may
-returns-then-may c = λ i g.
+pub returns-then-may_begin-clause-row : goal.returns-then-may_begin-clause-row
+returns-then-may_begin-clause-row c = λ i g.
     let r = c.args.rule in
     let x = c.args.byte in
     let none : c.may_begin-digit.result ≡ false = elim c.else-digit.branch [
       | else-digit-via-then-digit+else-not-pair w ↦ absurd (false≢true (sym c.if-pair.false ∙ w.if-not-pair.false))
       | else-digit-via-else-digit w ↦ w.if-digit.false
     ] in
-    let may = sym c.if-may.true ∙ c.may_be_character-may.ensures i false g in
-    let one = sym c.if-doubled.false ∙ c.is_doubled-doubled.ensures i g in
-    rw c.if-pair.false (c.choices-then-may.ensures i r x (sym none ∙ c.may_begin-digit.ensures false) (c.character_choices-characters-then-may.ensures i r x false may one))
+    let escaped : (c.args.gs1 && is_escaped Alphanumeric x) ≡ false = elim c.if-gs1.branch [
+      | then-gs1 w ↦ rw (w.if-gs1.true, ← w.is_itself.ensures) (sym w.escaped-is ∙ c.if-escaped.false)
+      | else-gs1 w ↦ rw w.if-gs1.false refl
+    ] in
+    let own = own-character i x (rw g at escaped) in
+    let may : true ≡ may_begin r (character_for i x Alphanumeric) false Alphanumeric = rw own.1 (sym c.if-may_begin.true ∙ c.may_begin.ensures false) in
+    rw c.if-pair.false (c.choices-then-may_begin.ensures.row i r x (sym none ∙ c.may_begin-digit.ensures false) (c.character_choices-characters-then-may_begin.ensures i r x false may (sym own.0)))
 
-pub returns-else-may : goal.returns-else-may
-returns-else-may c = λ i g.
+pub returns-else-may_begin-clause-row : goal.returns-else-may_begin-clause-row
+returns-else-may_begin-clause-row c = λ i g.
     let r = c.args.rule in
     let x = c.args.byte in
     let none : c.may_begin-digit.result ≡ false = elim c.else-digit.branch [
       | else-digit-via-then-digit+else-not-pair w ↦ absurd (false≢true (sym c.if-pair.false ∙ w.if-not-pair.false))
       | else-digit-via-else-digit w ↦ w.if-digit.false
     ] in
-    let may = sym c.if-may.false ∙ c.may_be_character-may.ensures i false g in
-    let one = sym c.if-doubled.false ∙ c.is_doubled-doubled.ensures i g in
-    rw c.if-pair.false (c.choices-else-may.ensures i r x (sym none ∙ c.may_begin-digit.ensures false) (c.character_choices-characters-else-may.ensures i r x false may one))
+    let escaped : (c.args.gs1 && is_escaped Alphanumeric x) ≡ false = elim c.if-gs1.branch [
+      | then-gs1 w ↦ rw (w.if-gs1.true, ← w.is_itself.ensures) (sym w.escaped-is ∙ c.if-escaped.false)
+      | else-gs1 w ↦ rw w.if-gs1.false refl
+    ] in
+    let own = own-character i x (rw g at escaped) in
+    let may : false ≡ may_begin r (character_for i x Alphanumeric) false Alphanumeric = rw own.1 (sym c.if-may_begin.false ∙ c.may_begin.ensures false) in
+    rw c.if-pair.false (c.choices-else-may_begin.ensures.row i r x (sym none ∙ c.may_begin-digit.ensures false) (c.character_choices-characters-else-may_begin.ensures i r x false may (sym own.0)))

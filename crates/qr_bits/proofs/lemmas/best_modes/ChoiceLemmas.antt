@@ -1,5 +1,5 @@
 -- The best mode for a byte is the one whose number is the least.
-use Rattle.std.proofs.Common.{◌≡◌, ℕ, ◌+◌, ◌*◌, ◌/◌, ◌%◌, ◌<◌, ◌≤◌, Bool, true, false, min, refl, sym, ◌∙◌, ⊎_elim, arith}
+use Rattle.std.proofs.Common.{◌≡◌, ℕ, ◌+◌, ◌*◌, ◌/◌, ◌%◌, ◌<◌, ◌≤◌, Bool, true, false, ◌&&◌, min, refl, sym, ◌∙◌, ⊎_elim, arith}
 use Rattle.std.proofs.lemmas.Bool.{cases_Bool, cases_lt, cond_both, ne_eqb}
 use Rattle.qr_bits.specs.declared.interpretation.Interpretation.{Interpretation, TheVariants.{Default, Gs1, Eci}}
 use Rattle.qr_bits.specs.Interpretation.{character_for, is_doubled}
@@ -9,7 +9,8 @@ use Rattle.qr_bits.specs.declared.modes.Mode.TheVariants.{Numeric, Alphanumeric,
 use Rattle.qr_bits.specs.declared.run_state.{PerState.PerState, RunState.{RunState, TheVariants.{Start, Character2, InBytes, HalfPair}}}
 use Rattle.qr_bits.specs.Steps.BestModes.{bits_at, character_choice}
 use Rattle.qr_bits.proofs.lemmas.modes.CharacterLemmas.{digit-character}
-use Rattle.qr_bits.specs.Steps.RunState.{state_after, state_in, state_on, byte_cost, cost_in, may_take_in, may_begin, may_take, may_end, choice_number, ranked, IsChoice}
+use Rattle.qr_bits.specs.Steps.Segmentation.{is_escaped}
+use Rattle.qr_bits.specs.Steps.RunState.{is_gs1, state_after, state_in, state_on, byte_cost, cost_in, may_take_in, may_begin, may_take, may_end, choice_number, ranked, IsChoice}
 
 -- the least of the numbers of the four modes
 abbrev pub least_of : (Mode → Bool) → (Mode → ℕ) → ℕ
@@ -133,6 +134,15 @@ pub digit-written : (i : Interpretation) (r : Rule) (x : ℕ) (q : Bool) → may
 digit-written Default r x q h = (refl, digit-character r x q h)
 digit-written (Eci k) r x q h = (refl, digit-character r x q h)
 digit-written Gs1 r x q h = let own = no-escape r x q h in (own.0, rw own.1 (digit-character r x q h))
+
+-- each mode writes a digit as itself
+pub digit-itself : (r : Rule) (x : ℕ) (q : Bool) → may_begin r x q Numeric ≡ true → is_escaped Alphanumeric x ≡ false
+unfolding may_begin
+digit-itself r x q h = grind (arith, ne_eqb)
+
+-- a byte that alphanumeric mode writes as itself is one character
+pub own-character : (i : Interpretation) (x : ℕ) → (is_gs1 i && is_escaped Alphanumeric x) ≡ false → (is_doubled i x Alphanumeric ≡ false) × (character_for i x Alphanumeric ≡ x)
+own-character i x h = grind arith
 
 -- a byte in kanji mode begins a pair if no half pair is open
 pub state_after-whole : (p : RunState) → may_end p ≡ true → state_after p Kanji ≡ HalfPair

@@ -1,5 +1,5 @@
 -- Segments that grow at their end.
-use Rattle.std.proofs.Common.{◌≡◌, ℕ, zero, suc, ◌+◌, true, ◌==◌, false, ◌⊎◌, List, [], ◌∷◌, ◌++◌, ◌≤◌, length, replicate, reverse, refl, sym, ap, ◌∙◌, append_assoc, arith, rules}
+use Rattle.std.proofs.Common.{◌≡◌, ℕ, zero, suc, ◌+◌, true, ◌==◌, false, List, [], ◌∷◌, ◌++◌, ◌≤◌, ◌<◌, length, replicate, reverse, refl, sym, ap, ◌∙◌, append_assoc, arith, rules}
 use Rattle.std.proofs.lemmas.{Bool.Decides.nat_tests, List.Sums.sum_by-cons, Bool.and_from, Bool.cond_both, Bool.ne_eqb, Bool.false≢true}
 use Rattle.{qr_bits.specs.{declared.modes.Mode.Mode, contracts.modes.Mode.the_type}, std.specs.List.{list_all, sum_by}}
 use Rattle.qr_bits.specs.{declared.modes.Rule.Rule, declared.segment.Segment.Segment, Modes.may_use}
@@ -48,17 +48,17 @@ pub record IsFound (all : List Mode) (most : ℕ) (found : List Segment) (m : Mo
   pub next : state_on p ≡ state_after p m
 
 -- one more row, whose mode goes on with the open run or begins one
-pub found-more : {all : List Mode} {most n k : ℕ} {found : List Segment} {m : Mode} {p : RunState} {items : List ℕ} (rows : List ℕ) (row j i : ℕ) (w : Mode) (new : List Segment)
+pub found-more : {all : List Mode} {most n k : ℕ} {found : List Segment} {m : Mode} {p : RunState} {items : List ℕ} (rows : List ℕ) (row j i : ℕ) (w : Mode) (q : RunState) (new : List Segment)
     → IsFound all most found m n p items k → items ≡ rows ++ row ∷ [] → j + 1 ≡ k → w ≡ mode_at row p
-    → (i ≡ 0) ⊎ (i ≡ n) → new ++ one_segment w (i + 1) ≡ append_mode (found ++ one_segment m n) w → IsFound all most new w (i + 1) (state_after p w) rows j
-found-more {p = p} rows row j i w new h e l is low f = record {
+    → new ++ one_segment w i ≡ append_mode (found ++ one_segment m n) w → q ≡ state_after p w → 0 < i → i ≤ n + 1 → IsFound all most new w i q rows j
+found-more {p = p} rows row j i w q new h e l is f state some low = rw state (record {
   modes = h.modes ++ w ∷ [];
   runs = f ∙ ap (λ (r : List Segment). append_mode r w) h.runs ∙ sym (runs_of-push h.modes w);
   led = led-on p _ _ _ h.modes _ w e is h.led;
   few = omega (arith, h.few, l, low);
-  first = λ z. absurd (omega arith);
+  first = λ z. absurd (omega (arith, z, some));
   next = on-after p w;
-}
+})
 
 -- equal modes by the test, and unequal ones
 pub same-mode : (k m : Mode) → true ≡ sameb the_type k m → k ≡ m

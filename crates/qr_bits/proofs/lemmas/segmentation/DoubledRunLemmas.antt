@@ -1,11 +1,11 @@
 -- The segments and characters of GS1 data, byte by byte.
-use Rattle.std.proofs.Common.{◌≡◌, ℕ, ◌+◌, ◌*◌, ◌-◌, ◌<◌, ◌≤◌, Bool, true, false, cond, List, [], ◌∷◌, ◌++◌, length, get_or, take, drop, reverse, append_assoc, refl, sym, ap, ◌∙◌, arith}
-use Rattle.std.proofs.lemmas.{Bool.{cond_both, eqb-true}, List.{append-nil, drop_more, get_or-drop, length-append, length-drop, length-take-le, take_more}}
-use Rattle.qr_bits.specs.declared.{modes.Mode.Mode, segment.Segment.Segment, run_state.RunState.{RunState}}
+use Rattle.std.proofs.Common.{◌≡◌, ℕ, ◌+◌, ◌*◌, ◌-◌, ◌<◌, ◌≤◌, Bool, true, false, cond, List, [], ◌∷◌, ◌++◌, length, get_or, map, take, drop, reverse, append_assoc, refl, sym, ap, ◌∙◌, arith}
+use Rattle.std.proofs.lemmas.{Bool.{cond_both, eqb-true}, List.{append-nil, drop_more, get_or-drop, length-append, length-drop, length-take-le, reverse-append, take_more}}
+use Rattle.qr_bits.specs.declared.{modes.Mode.{Mode, TheVariants.Alphanumeric}, segment.Segment.Segment, run_state.RunState.{RunState}}
 use Rattle.qr_bits.specs.declared.interpretation.Interpretation.{TheVariants.{Gs1}}
 use Rattle.qr_bits.specs.Interpretation.{character_for, characters_gs1, doubled_gs1, is_doubled, percent}
 use Rattle.qr_bits.specs.Segmentation.{runs_of}
-use Rattle.qr_bits.specs.Steps.{BestModes.{follow_in, mode_at}, RunState.{state_after, state_in, state_on}, Segmentation.{append_mode, is_escaped, one_segment}}
+use Rattle.qr_bits.specs.Steps.{BestModes.{AreFlagged, follow_in, is_flagged, mode_at}, RunState.{state_after, state_in, state_on}, Segmentation.{append_mode, is_escaped, one_segment}}
 use Rattle.qr_bits.proofs.lemmas.{best_modes.{ChoiceLemmas.{on-in}, TableLemmas.led-on-in}, interpretation.WrittenLemmas.{characters-append, characters-one, doubled-append, doubled-one}, segmentation.BackLemmas.{run-same, runs_of-push}}
 
 -- of the bytes `xs` the first `i`, whose modes were read, have the segments `found` and one of `n` characters, and their
@@ -16,6 +16,7 @@ pub record IsWritten (xs : List ℕ) (all : List Mode) (i : ℕ) (found : List S
   pub runs : found ++ one_segment m n ≡ runs_of (doubled_gs1 (take i xs) modes)
   pub characters : chars ++ take (i - copied) (drop copied xs) ≡ characters_gs1 (take i xs) modes
   pub led : modes ++ follow_in Gs1 p (drop i xs) (reverse rows) ≡ all
+  pub flags : AreFlagged (drop i xs) (reverse rows)
   pub inside : copied ≤ i
   pub short : n ≤ 2 * i
   pub first : n ≡ 0 → found ≡ []
@@ -24,6 +25,10 @@ pub record IsWritten (xs : List ℕ) (all : List Mode) (i : ℕ) (found : List S
 -- a byte that the mode writes as itself
 pub plain_character : (m : Mode) (x : ℕ) → is_escaped m x ≡ false → (is_doubled Gs1 x m ≡ false) × (character_for Gs1 x m ≡ x)
 plain_character m x h = grind arith
+
+-- a byte that alphanumeric mode writes as itself, as the other modes do
+pub unescaped : (m : Mode) (x : ℕ) → is_escaped Alphanumeric x ≡ false → is_escaped m x ≡ false
+unescaped m x h = grind arith
 
 -- of the other bytes `%` is doubled, and `%` is written for the separator
 pub percent_character : (m : Mode) (x : ℕ) → is_escaped m x ≡ true → x ≡ percent → (is_doubled Gs1 x m ≡ true) × (character_for Gs1 x m ≡ percent)
@@ -53,6 +58,16 @@ runs_more ds found m n true h e =
     rw (← append_assoc ds (m ∷ []) (m ∷ []), runs_of-push (ds ++ m ∷ []) m, runs_of-push ds m, ← e) (sym (run-same found m n (λ z. absurd (omega (arith, h, z)))))
 runs_more ds found m n false h e = e ∙ sym (runs_of-push ds m)
 
+-- the flag of the next row, and those of the others
+pub flags-next : (xs : List ℕ) (i : ℕ) {rows : List ℕ} (later : List ℕ) (row : ℕ) → AreFlagged (drop i xs) (reverse rows) → i < length xs → rows ≡ later ++ row ∷ []
+    → (is_flagged row ≡ is_escaped Alphanumeric (get_or xs i 0)) × AreFlagged (drop (i + 1) xs) (reverse later)
+flags-next xs i {rows} later row h inside last =
+    let both : is_flagged row ∷ map is_flagged (reverse later) ≡ is_escaped Alphanumeric (get_or xs i 0) ∷ map (is_escaped Alphanumeric) (drop (i + 1) xs) =
+    rw (last, reverse-append later (row ∷ []), drop_more xs i 0 inside) at h in (
+      ap (λ (flags : List Bool). get_or flags 0 false) both,
+      ap (λ (flags : List Bool). drop 1 flags) both,
+    )
+
 -- one more byte, of the mode `w`
 pub written_more : {xs : List ℕ} {all : List Mode} {i : ℕ} {found : List Segment} {m : Mode} {n : ℕ} {p : RunState} {rows chars : List ℕ} {copied : ℕ}
     (later : List ℕ) (row : ℕ) (w : Mode) (new : List Segment) (k j : ℕ) (q : RunState) (cs : List ℕ) (b : ℕ)
@@ -75,6 +90,7 @@ written_more {xs} {all} {i} {found} {m} {n} {p} {rows} {chars} {copied} later ro
       runs = rw (count, more, modes) (runs_more ds new w k (is_doubled Gs1 x w) some (run ∙ ap (λ (r : List Segment). append_mode r w) h.runs));
       characters = characters ∙ rw (more, own, h.characters) refl;
       led = rw state (led-on-in Gs1 p x (drop (i + 1) xs) rows later row h.modes all w last is (rw next at h.led));
+      flags = (flags-next xs i later row h.flags inside last).1;
       inside = low;
       short = cond_both (is_doubled Gs1 x w) _ _ (λ (r : ℕ). j ≡ r → j ≤ 2 * (i + 1)) (λ _ e. omega (arith, e, few, h.short)) (λ _ e. omega (arith, e, few, h.short)) count;
       first = cond_both (is_doubled Gs1 x w) _ _ (λ (r : ℕ). j ≡ r → j ≡ 0 → new ≡ []) (λ _ e z. absurd (omega (arith, e, z, some))) (λ _ e z. absurd (omega (arith, e, z, some))) count;

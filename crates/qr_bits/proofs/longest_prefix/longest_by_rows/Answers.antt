@@ -36,7 +36,7 @@ loop-i-preserved c =
     let xs = c.args.input.now in
     let i = c.loop-i.i in
     let inv = c.loop-i.invariant in
-    let chosen : (n : Interpretation) → c.args.gs1 ≡ is_gs1 n → IsRow n v r (get_or xs i 0) _ c.loop-i.rest c.row_of.result.0 c.row_of.result.1 = λ n g. rw c.of-first_choices.ensures at (c.row_of.ensures n g) in
+    let chosen : (n : Interpretation) → c.args.gs1 ≡ is_gs1 n → IsRow n v r (get_or xs i 0) _ c.loop-i.rest c.row_of.result.0 c.row_of.result.1 = λ n g. rw c.of-first_choices.ensures at (c.row_of.ensures.row n g) in
     let some = some-interpretation c.args.gs1 in
     let small = small-more some.0 v r _ _ _ _ _ _ inv.small (chosen some.0 some.1) in
     let b : (n : Interpretation) → (g : c.args.gs1 ≡ is_gs1 n) → _ = λ n g. prefix-more n v r xs i _ inv.best.0 _ _ _ c.loop-i-test.true c.ends_with_pair-pair.ensures (inv.best.1 n g) (chosen n g) in
@@ -79,7 +79,7 @@ returns-then-from-room-2 c = λ n g.
     let xs = c.args.input.now in
     let i = c.loop-i.i in
     let inv = c.loop-i.invariant in
-    let chosen : IsRow n v r (get_or xs i 0) _ c.loop-i.rest c.row_of.result.0 c.row_of.result.1 = rw c.of-first_choices.ensures at (c.row_of.ensures n g) in
+    let chosen : IsRow n v r (get_or xs i 0) _ c.loop-i.rest c.row_of.result.0 c.row_of.result.1 = rw c.of-first_choices.ensures at (c.row_of.ensures.row n g) in
     let b = prefix-more n v r xs i _ inv.best.0 _ _ _ c.loop-i-test.true c.ends_with_pair-pair.ensures (inv.best.1 n g) chosen in
     record {
       inside = omega (arith, inv.inside, c.loop-i-test.true);

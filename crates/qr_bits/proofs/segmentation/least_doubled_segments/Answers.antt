@@ -1,104 +1,149 @@
-use Rattle.std.proofs.Common.{◌≡◌, ◌+◌, ◌-◌, ◌<◌, ◌≤◌, cond, [], ◌∷◌, ◌++◌, length, get_or, take, drop, reverse, refl, sym, ap, ◌∙◌, arith}
+use Rattle.std.proofs.Common.{◌≡◌, ◌+◌, ◌-◌, ◌<◌, ◌≤◌, cond, vec_len, [], ◌∷◌, ◌++◌, length, get_or, take, drop, reverse, refl, sym, ◌∙◌, arith}
 use Rattle.std.proofs.{Math.Nat.le_refl, lemmas.{Bool.ne_eqb, List.{append-nil, drop_all, take_all}}}
 use Rattle.qr_bits.specs.declared.{interpretation.Interpretation.TheVariants.Gs1, run_state.RunState.TheVariants.Start}
-use Rattle.qr_bits.specs.{Interpretation.{character_for, characters_gs1, doubled_gs1, is_doubled, percent}, Segmentation.runs_of, Steps.BestModes.follow_in, Steps.Segmentation.{append_mode, one_segment}, Steps.RunState.{state_after, state_in, state_on}}
-use Rattle.qr_bits.proofs.lemmas.segmentation.{AssignedLemmas.assignment-from-table, BackLemmas.{other-mode, run-other, run-same, same-mode}, DoubledRunLemmas.{escaped_more, percent_character, plain_character, plain_more, separator_character, written_more}}
+use Rattle.qr_bits.specs.{Interpretation.{character_for, characters_gs1, doubled_gs1, is_doubled, percent}, Segmentation.runs_of, Steps.BestModes.follow_in, Steps.Segmentation.{is_escaped}, Steps.RunState.{state_after, state_in, state_on}}
+use Rattle.qr_bits.proofs.lemmas.segmentation.{AssignedLemmas.assignment-from-table, DoubledRunLemmas.{IsWritten, escaped_more, flags-next, percent_character, plain_character, plain_more, separator_character, unescaped, written_more}}
 use Rattle.qr_bits.proofs.lemmas.best_modes.{ChoiceLemmas.on-after}
 use Rattle.qr_bits.proofs.segmentation.least_doubled_segments.Goals as goal
-use Rattle.qr_bits.proofs.segmentation.least_doubled_segments.Goals.{then-eq, else-eq+in_ok-push_segment, then-is_escaped+in_ok-put_escape+then-input-i-eq37, then-is_escaped+in_ok-put_escape+else-input-i-eq37, else-is_escaped}
+use Rattle.qr_bits.proofs.segmentation.least_doubled_segments.Goals.{then-is_escaped+in_ok-put_escape+then-input-i-eq37, then-is_escaped+in_ok-put_escape+else-input-i-eq37, else-is_escaped}
 
-pub loop-i-init : goal.loop-i-init
+pub loop-modes-init : goal.loop-modes-init
 unfolding runs_of state_on state_after doubled_gs1 characters_gs1
-loop-i-init c = record {
-  count = omega (arith, c.in_ok-table.ensures.0);
-  written = record {
-    modes = [];
-    many = refl;
-    runs = rw c.new-found.ensures.items refl;
-    characters = rw c.in_ok-characters.ensures.items refl;
-    led = refl;
-    inside = omega arith;
-    short = omega arith;
-    first = λ _. c.new-found.ensures.items;
-    next = refl;
-  };
-}
-
-pub loop-i-preserved : goal.loop-i-preserved
-loop-i-preserved c =
-    let l = c.loop-i in
-    let inv = l.invariant.written in
-    let i = l.i in
+loop-modes-init c =
     let input = c.args.input.now in
+    let rows = reverse c.in_ok-table.table.items in
+    let none : length input - vec_len c.in_ok-table.table ≡ 0 = omega (arith, c.in_ok-table.ensures.0) in
+    record {
+      all = follow_in Gs1 Start input rows;
+      best = assignment-from-table Gs1 c.args.version c.args.rule input rows c.in_ok-table.ensures.1;
+      rows = omega (arith, c.in_ok-table.ensures.0);
+      written = rw none (record {
+        modes = [];
+        many = refl;
+        runs = rw c.new-found.ensures.items refl;
+        characters = rw c.in_ok-characters.ensures.items refl;
+        led = refl;
+        flags = c.in_ok-table.ensures.2;
+        inside = omega arith;
+        short = omega arith;
+        first = λ _. c.new-found.ensures.items;
+        next = refl;
+      });
+    }
+
+pub loop-row-init : goal.loop-row-init
+loop-row-init c =
+    let l = c.loop-modes in
+    let input = c.args.input.now in
+    let i = length input - c.len.result - 1 in
+    let at : (length input - vec_len l.table ≡ i) × (i < length input) × (length input - vec_len c.pop.new.self ≡ i + 1) × (vec_len c.pop.new.self ≤ length input) =
+    let some = c.in-Some.ensures.len in
+    let rows = l.invariant.rows in
+    let len = c.len.ensures in (omega (arith, some, rows, len), omega (arith, some, rows, len), omega (arith, some, rows, len), omega (arith, some, rows)) in
+    let inv : IsWritten input l.invariant.all i l.found.items l.run.mode l.run.len l.run.state l.table.items l.characters.items l.copied = rw at.0 at l.invariant.written in
     let x = get_or input i 0 in
-    let m = c.mode_at-next.result in
-    let f = c.if-eq in
+    let m = c.mode_at.result in
+    let f = c.in_ok-run.run' in
     let e = c.if-is_escaped in
     let t = character_for Gs1 x m in
-    let run : (f.found.items ++ one_segment m f.len ≡ append_mode (l.found.items ++ one_segment l.mode l.len) m) × (f.mode ≡ m) × (f.state ≡ state_after l.state m) × (0 < f.len) × (f.len ≤ l.len + 1) =
-    elim f.branch [
-      | then-eq w ↦
-          let same : m ≡ l.mode = same-mode m l.mode w.if-eq.ensures in (
-            rw (w.found-is, w.len-is, same) (sym (run-same l.found.items l.mode l.len inv.first)),
-            w.mode-is ∙ sym same,
-            w.state-is ∙ w.state_on-state.ensures ∙ inv.next ∙ ap (state_after l.state) (sym same),
-            omega (arith, w.len-is),
-            omega (arith, w.len-is),
-          )
-      | else-eq+in_ok-push_segment w ↦ (
-        rw (w.found-is, w.len-is, w.in_ok-push_segment.ensures) (sym (run-other l.found.items l.mode m l.len inv.first (other-mode l.mode m w.if-eq.ensures))),
-        w.mode-is,
-        w.state-is ∙ w.next_state-state.ensures,
-        omega (arith, w.len-is),
-        omega (arith, w.len-is),
-      )
-    ] in
-    let put : (e.len ≡ cond (is_doubled Gs1 x m) (f.len + 1) f.len) × (e.state ≡ state_in Gs1 l.state x m) × (e.copied ≤ i + 1)
+    let run = c.in_ok-run.ensures in
+    let escaped : c.is_escaped.result ≡ is_escaped m x = rw run.1 at c.is_escaped.ensures in
+    let put : (e.run.mode ≡ m) × (e.run.len ≡ cond (is_doubled Gs1 x m) (f.len + 1) f.len) × (e.run.state ≡ state_in Gs1 l.run.state x m) × (e.copied ≤ i + 1)
     × (e.characters.items ++ take ((i + 1) - e.copied) (drop e.copied input) ≡ (l.characters.items ++ take (i - l.copied) (drop l.copied input)) ++ cond (is_doubled Gs1 x m) (t ∷ t ∷ []) (t ∷ [])) =
     elim e.branch [
       | then-is_escaped+in_ok-put_escape+then-input-i-eq37 w ↦
-          let own = percent_character m x (sym c.is_escaped.ensures ∙ w.if-is_escaped.true) w.if-input-i-eq37.true in (
-            rw own.0 w.len-is,
-            rw own.0 (w.state-is ∙ w.state_on-state-then-input-i-eq37.ensures ∙ rw run.2 (on-after l.state m)),
+          let own = percent_character m x (sym escaped ∙ w.if-is_escaped.true) w.if-input-i-eq37.true in (
+            rw w.run-is run.1,
+            rw (own.0, w.run-is) refl,
+            rw (own.0, w.run-is) (w.state_on-run.ensures ∙ rw run.2 (on-after l.run.state m)),
             omega (arith, w.copied-is),
             rw (w.characters-is, w.copied-is, own.0, own.1) (escaped_more input _ i ∙ w.in_ok-put_escape.ensures ∙ rw w.if-input-i-eq37.true refl),
           )
       | then-is_escaped+in_ok-put_escape+else-input-i-eq37 w ↦
-          let own = separator_character m x (sym c.is_escaped.ensures ∙ w.if-is_escaped.true) w.if-input-i-eq37.false in (
-            rw own.0 w.len-is,
-            rw own.0 (w.state-is ∙ run.2),
+          let own = separator_character m x (sym escaped ∙ w.if-is_escaped.true) w.if-input-i-eq37.false in (
+            rw w.run-is run.1,
+            rw (own.0, w.run-is) refl,
+            rw (own.0, w.run-is) run.2,
             omega (arith, w.copied-is),
             rw (w.characters-is, w.copied-is, own.0, own.1) (escaped_more input _ i ∙ w.in_ok-put_escape.ensures ∙ rw (ne_eqb x percent w.if-input-i-eq37.false) refl),
           )
       | else-is_escaped w ↦
-          let own = plain_character m x (sym c.is_escaped.ensures ∙ w.if-is_escaped.false) in (
-            rw own.0 w.len-is,
-            rw own.0 (w.state-is ∙ run.2),
+          let own = plain_character m x (sym escaped ∙ w.if-is_escaped.false) in (
+            rw w.run-is run.1,
+            rw (own.0, w.run-is) refl,
+            rw (own.0, w.run-is) run.2,
             omega (arith, w.copied-is, inv.inside),
-            rw (w.characters-is, w.copied-is, own.0, own.1) (plain_more input l.characters.items l.copied i inv.inside c.loop-i-test.true),
+            rw (w.characters-is, w.copied-is, own.0, own.1) (plain_more input l.characters.items l.copied i inv.inside at.1),
           )
     ] in
     record {
-      count = let u = c.unwrap-modes.ensures in omega (arith, rw u at c.pop.ensures.len, l.invariant.count);
-      written = rw run.1
-          (written_more c.pop.new.self.items c.unwrap-modes.result m f.found.items f.len e.len e.state e.characters.items e.copied inv c.loop-i-test.true
-          (rw c.unwrap-modes.ensures at c.pop.ensures.items) c.mode_at-next.ensures run.0 run.3 run.4 put.0 put.1 put.3 put.2);
+      all = l.invariant.all;
+      best = l.invariant.best;
+      rows = at.3;
+      fewer = le_refl (vec_len c.pop.new.self);
+      written = rw (at.2, put.0)
+          (written_more c.pop.new.self.items c.in-Some.modes m c.next_run.new.found.items f.len e.run.len e.run.state e.characters.items e.copied inv at.1
+          c.in-Some.ensures.items c.mode_at.ensures run.0 run.3 run.4 put.1 put.2 put.4 put.3);
     }
+
+pub next_run-requires-in-Some-pop_unflagged-clause-short : goal.next_run-requires-in-Some-pop_unflagged-clause-short
+next_run-requires-in-Some-pop_unflagged-clause-short c =
+    let row = c.pop_unflagged.ensures.row c.in-Some-pop_unflagged.row c.in-Some-pop_unflagged.is in
+    omega (arith, row.1, c.loop-row.invariant.written.short, c.loop-row.invariant.rows, c.requires.short)
+
+pub loop-row-smaller : goal.loop-row-smaller
+loop-row-smaller c =
+    let row = c.pop_unflagged.ensures.row c.in-Some-pop_unflagged.row c.in-Some-pop_unflagged.is in
+    omega (arith, row.1)
+
+pub loop-row-preserved : goal.loop-row-preserved
+loop-row-preserved c =
+    let l = c.loop-row in
+    let inv = l.invariant.written in
+    let input = c.args.input.now in
+    let chars = c.if-is_escaped.characters.items in
+    let copied = c.if-is_escaped.copied in
+    let new = c.pop_unflagged.new.table in
+    let i = length input - vec_len l.table in
+    let row = c.pop_unflagged.ensures.row c.in-Some-pop_unflagged.row c.in-Some-pop_unflagged.is in
+    let rows = l.invariant.rows in
+    let at : (i < length input) × (length input - vec_len new ≡ i + 1) × (vec_len new ≤ length input) × (vec_len new ≤ vec_len c.pop.new.self) =
+    (omega (arith, row.1, rows), omega (arith, row.1, rows), omega (arith, row.1, rows), omega (arith, row.1, l.invariant.fewer)) in
+    let x = get_or input i 0 in
+    let m = c.mode_at-in-Some-pop_unflagged.result in
+    let run = c.in_ok-run-2.ensures in
+    let own = plain_character m x (unescaped m x (sym (flags-next input i new.items c.in-Some-pop_unflagged.row inv.flags at.0 row.0).0 ∙ row.2)) in
+    record {
+      all = l.invariant.all;
+      best = l.invariant.best;
+      rows = at.2;
+      fewer = at.3;
+      written = rw (at.1, run.1)
+          (written_more new.items c.in-Some-pop_unflagged.row m c.next_run-in-Some-pop_unflagged.new.found.items c.in_ok-run-2.run'.len c.in_ok-run-2.run'.len c.in_ok-run-2.run'.state chars copied inv at.0
+          row.0 c.mode_at-in-Some-pop_unflagged.ensures run.0 run.3 run.4 (rw own.0 refl) (rw own.0 run.2) (rw (own.0, own.1) (plain_more input chars copied i inv.inside at.0)) (omega (arith, inv.inside)));
+    }
+
+pub loop-modes-preserved : goal.loop-modes-preserved
+loop-modes-preserved c =
+    let inv = c.loop-row.invariant in
+    rw (c.pop_unflagged.ensures.none c.in_default-pop_unflagged.is) (record { all = inv.all; best = inv.best; rows = inv.rows; written = inv.written })
+
+pub loop-modes-smaller : goal.loop-modes-smaller
+loop-modes-smaller c = rw (c.pop_unflagged.ensures.none c.in_default-pop_unflagged.is) (omega (arith, c.loop-row.invariant.fewer, c.in-Some.ensures.len))
 
 pub returns-clause-ok : goal.returns-clause-ok
 unfolding follow_in
 returns-clause-ok c =
-    let l = c.loop-i in
+    let l = c.loop-modes in
     let inv = l.invariant.written in
     let input = c.args.input.now in
-    let rows = reverse c.in_ok-table.table.items in
-    let end : l.i ≡ length input = omega arith in
+    let i = length input - vec_len l.table in
+    let end : i ≡ length input = omega (arith, c.in_default.ensures.cases.0) in
     let none : drop (length input) input ≡ [] = drop_all (length input) input (le_refl (length input)) in
-    let whole : take l.i input ≡ input = take_all l.i input (omega (arith, end)) in
-    let all : inv.modes ≡ follow_in Gs1 Start input rows = sym (append-nil inv.modes) ∙ (rw (end, none) at inv.led) in
-    let best = rw (← all) at (assignment-from-table Gs1 c.args.version c.args.rule input rows c.in_ok-table.ensures.1) in (
+    let whole : take i input ≡ input = take_all i input (omega (arith, end)) in
+    let all : inv.modes ≡ l.invariant.all = sym (append-nil inv.modes) ∙ (rw (end, none) at inv.led) in (
       inv.modes,
-      best,
-      c.in_ok-push_segment-2.ensures ∙ (rw whole at inv.runs),
+      rw all l.invariant.best,
+      c.in_ok-push_segment.ensures ∙ (rw whole at inv.runs),
       c.in_ok-extend_from_slice.ensures.items ∙ (rw (whole, end) at inv.characters),
     )

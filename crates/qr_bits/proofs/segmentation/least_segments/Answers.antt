@@ -1,8 +1,8 @@
-use Rattle.std.proofs.Common.{◌≡◌, [], length, reverse, inl, inr, refl, sym, ◌∙◌, arith}
+use Rattle.std.proofs.Common.{◌≡◌, [], length, reverse, refl, sym, ◌∙◌, arith}
 use Rattle.std.proofs.lemmas.List.{append-nil, length-reverse, nil_from_length}
 use Rattle.qr_bits.specs.{declared.run_state.RunState.TheVariants.Start, Segmentation.runs_of}
 use Rattle.qr_bits.specs.Steps.{RunState.state_after, RunState.state_on, BestModes.follow}
-use Rattle.qr_bits.proofs.lemmas.{segmentation.BackLemmas.{found-more, run-same, run-other, same-mode, other-mode}, best_modes.TableLemmas.follow-default, segmentation.AssignedLemmas.assignment-from-table}
+use Rattle.qr_bits.proofs.lemmas.{segmentation.BackLemmas.{found-more}, best_modes.TableLemmas.follow-default, segmentation.AssignedLemmas.assignment-from-table}
 use Rattle.qr_bits.specs.declared.interpretation.Interpretation.TheVariants.{Default}
 use Rattle.qr_bits.proofs.segmentation.least_segments.Goals as goal
 
@@ -17,19 +17,13 @@ loop-modes-init c = record {
   next = refl;
 }
 
-pub loop-modes-preserved-then-eq : goal.loop-modes-preserved-then-eq
-loop-modes-preserved-then-eq c =
-    let l = c.loop-modes in let i = l.invariant in
-    let is = sym (same-mode _ l.mode c.if-eq.ensures) ∙ c.mode_at-next.ensures in
-    rw (c.state_on-state.ensures ∙ i.next)
-    (found-more _ _ _ l.len _ _ i c.in-Some.ensures.items c.in-Some.ensures.len is (inr refl) (sym (run-same l.found.items l.mode l.len i.first)))
+pub next_run-requires-clause-short : goal.next_run-requires-clause-short
+next_run-requires-clause-short c = omega (arith, c.loop-modes.invariant.few, c.in-Some.ensures.len, c.in_ok-table.ensures.0, c.requires.short)
 
 pub loop-modes-preserved : goal.loop-modes-preserved
 loop-modes-preserved c =
-    let l = c.loop-modes in let i = l.invariant in let w = c.mode_at-next.result in
-    let run = sym (run-other l.found.items l.mode w l.len i.first (other-mode l.mode w c.if-eq.ensures)) in
-    rw (c.next_state-state.ensures, c.in_ok-push_segment.ensures)
-    (found-more _ _ _ 0 w _ i c.in-Some.ensures.items c.in-Some.ensures.len c.mode_at-next.ensures (inl refl) run)
+    let run = c.in_ok-run.ensures in
+    rw run.1 (found-more _ _ _ c.in_ok-run.run'.len c.mode_at.result _ _ c.loop-modes.invariant c.in-Some.ensures.items c.in-Some.ensures.len c.mode_at.ensures run.0 run.2 run.3 run.4)
 
 pub returns-clause-ok : goal.returns-clause-ok
 unfolding follow
@@ -41,4 +35,4 @@ returns-clause-ok c =
     let rows = reverse c.in_ok-table.table.items in
     let many : length rows ≡ length xs = length-reverse c.in_ok-table.table.items ∙ sym c.in_ok-table.table.ok.0 ∙ c.in_ok-table.ensures.0 in
     let best = assignment-from-table Default c.args.version c.args.rule xs rows c.in_ok-table.ensures.1 in
-    (i.modes, rw (whole, ← follow-default Start xs rows many) best, c.in_ok-push_segment-2.ensures ∙ i.runs, refl)
+    (i.modes, rw (whole, ← follow-default Start xs rows many) best, c.in_ok-push_segment.ensures ∙ i.runs, refl)
