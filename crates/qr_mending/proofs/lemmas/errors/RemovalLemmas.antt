@@ -1,6 +1,6 @@
 -- The errors are found one at a time. A polynomial that has a root for each later error, but none for this one, leaves
 -- of the products of all errors only that of this one.
-use Rattle.std.proofs.Common.{◌≡◌, ℕ, zero, suc, ◌+◌, ◌-◌, ◌*◌, ◌/◌, ◌%◌, ◌<◌, ◌≤◌, List, [], ◌∷◌, ◌++◌, length, take, drop, get_or, set, refl, sym, ap, ◌∙◌, inl, inr, length-drop, arith, bit_xor}
+use Rattle.std.proofs.Common.{◌≡◌, ℕ, zero, suc, ◌+◌, ◌-◌, ◌*◌, ◌<◌, ◌≤◌, List, [], ◌∷◌, ◌++◌, length, take, drop, get_or, set, refl, sym, ap, ◌∙◌, inl, inr, arith, bit_xor}
 use Rattle.std.proofs.Math.{Numerals.{suc-eq-add-one}, Seq.{take-append_seam, drop-append_seam}}
 use Rattle.std.proofs.lemmas.{Nat.xor_of_8, Nat.xor_comm, List.{length_push, length-take-le, take-append-drop, take_more, drop_all, append-nil, take_all}, Bool.cases_eq, List.Elements.{All-head, All-tail}}
 use Rattle.std.specs.{List.{All, refill}, Int.Bits.{xor_zero_r, xor_self}}
@@ -240,23 +240,6 @@ sum-last xs e items new k long l same rest =
     cc (first, last, rest, drop-plus k xs e (sym long), take-append-drop k (plus xs e))
 
 -- ---- the search
-
--- the values that are computed, by location
-pub values-at : (values p : List ℕ) (first m : ℕ) →
-    ((k : ℕ) → k < 16 → get_or values k 0 ≡ eval (power (first + k)) p) → first ≤ m → m < first + 16 →
-    get_or values (m - first) 0 ≡ eval (power m) p
-values-at values p first m h least most =
-    let whole : first + (m - first) ≡ m = omega (arith, least) in
-    h (m - first) (omega (arith, most)) ∙ ap (λ t. eval (power t) p) whole
-
--- the search after a codeword without an error
-pub removal-next : (left : ℕ) (r : Removal) → IsRemoval (left + 1) r → IsRemoval left r
-removal-next left r h = record {
-  leading = h.leading;
-  enough = h.enough;
-  near = omega (arith, h.near);
-  roots = λ m least l. h.roots m least (omega (arith, l));
-}
 
 -- the next codeword has no error, if a value shows it
 pub next-none : (left c : ℕ) (e : List ℕ) (r : Removal) → AreLeft (left + 1) (c ∷ e) r → r.first ≤ left →

@@ -1,4 +1,4 @@
-use Rattle.std.proofs.Common.{◌≡◌, ℕ, List, get_or, sym, subst, length, arith}
+use Rattle.std.proofs.Common.{ℕ, List, get_or, sym, subst, arith}
 use Rattle.qr_field.proofs.lemmas.logarithm.PowerLemmas.{powers-apart}
 use Rattle.qr_mending.specs.Steps.Errors.{IsLocated}
 use Rattle.qr_mending.proofs.lemmas.errors.RemovalLemmas.{last-none, last-sum, leading-alone, leading-two, none-left, power-some}
