@@ -1,7 +1,6 @@
 -- Rows of a sheet, whose modules are written as bytes.
 use Rattle.std.proofs.Common.{◌≡◌, ◌≤◌, ◌<◌, ◌+◌, ◌*◌, ◌%◌, ◌∙◌, ◌||◌, not, eqb, ℕ, Bool, true, false, cond, List, get_or, length, refl, sym, ap, subst, arith}
 use mir.Val.{bool_byte}
-use Rattle.std.proofs.Math.Nat.{mul-le-mul_right}
 use Rattle.qr_matrix.specs.Bytes.{byte_of}
 use Rattle.qr_drawing.specs.declared.drawing.Drawing.{Drawing}
 use Rattle.qr_drawing.specs.declared.drawing.Drawing.TheVariants.{Ascii, AsciiInverse, Utf8, Svg}

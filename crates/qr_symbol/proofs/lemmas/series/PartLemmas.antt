@@ -11,7 +11,7 @@ use Rattle.qr_layout.specs.Blocks.{block_count_of, correction_len_of, data_codew
 use Rattle.qr_symbol.specs.Series.{AreParts, FitParts, NeedsParts, IsSymbolOf, AreSymbolsFrom}
 use Rattle.qr_symbol.specs.{Steps.Series.{AreLengths, parts_of}, declared.symbol.Symbol.Symbol}
 use Rattle.std.proofs.Common.{◌≡◌, ℕ, suc, ◌+◌, ◌-◌, ◌*◌, ◌<◌, ◌≤◌, min, true, false, leb, ◌⊎◌, All, List, [], ◌∷◌, ◌++◌, take, drop, length, get_or, Some, refl, sym, ◌∙◌, ap, subst, append_assoc, inl, inr, arith}
-use Rattle.std.proofs.Math.Seq.{drop-cons, drop-nil, drop-append-add, drop-append_seam, take-append_seam, take-length}
+use Rattle.std.proofs.Math.Seq.{drop-cons, drop-nil, drop-append-add, take-append_seam, take-length}
 use Rattle.std.proofs.lemmas.{Bool.{cases_lt}, List.Elements.{All-nil, All-cons, All-head, All-tail}}
 use Rattle.std.proofs.lemmas.List.{length-take, length-drop, append-nil, take-append-drop, drop-append-le, length-append}
 use Rattle.std.specs.{List.{concat}}
