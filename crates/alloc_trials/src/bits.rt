@@ -2,11 +2,12 @@
 
 use crate::answer::Answer;
 use qr_bits::{
-    BitFault, Interpretation, Mode, ParseFault, Rule, Segment, codewords, covers, fold,
+    BitFault, Interpretation, Mode, ParseFault, Rule, Segment, Segmented, codewords, covers, fold,
     longest_fit, parse, segments,
 };
 use qr_layout::{Level, Version};
 use std::alloc::{AllocError, Global};
+use std::borrow::CowSlice;
 
 pub static HELLO_WORLD: [u8; 11] = *b"HELLO WORLD";
 
@@ -69,14 +70,17 @@ pub fn folded(alloc: Global) -> Result<Answer, AllocError> {
 
 pub fn encoded(alloc: Global) -> Result<Answer, AllocError> {
     let input = Vec::from_slice(alloc, &HELLO_WORLD)?;
-    let segs = Vec::from_slice(alloc, &[SEGMENT])?;
-    if !covers(&input, &segs) {
+    let segments = Vec::from_slice(alloc, &[SEGMENT])?;
+    if !covers(&input, &segments) {
         return Ok(Answer::Other);
     }
+    let segmented = Segmented {
+        segments,
+        characters: CowSlice::Borrowed(&input),
+    };
     let answer = match codewords(
         alloc,
-        &input,
-        &segs,
+        &segmented,
         None,
         Interpretation::Default,
         Version::FIRST,
@@ -87,7 +91,7 @@ pub fn encoded(alloc: Global) -> Result<Answer, AllocError> {
         Err(BitFault::TooLong) => Answer::Other,
     };
     let is_same = input.as_slice() == HELLO_WORLD.as_slice();
-    Ok(answer.given(is_same && segs.as_slice() == [SEGMENT].as_slice()))
+    Ok(answer.given(is_same && segmented.segments.as_slice() == [SEGMENT].as_slice()))
 }
 
 pub fn parsed(alloc: Global) -> Result<Answer, AllocError> {

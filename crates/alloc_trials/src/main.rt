@@ -1,6 +1,6 @@
 //! A program that calls the public functions that allocate memory, each in a trial of its own, and prints a line with
 //! the result of each trial. Its argument is the name of a trial. Without an argument it runs all of them.
-//! `tests/refused_growths` runs each trial many times, and refuses another request for memory each time.
+//! `tests/refused_growths` runs each trial many times, and each time refuses a different request for memory.
 //!
 //! A trial makes the arguments first, then calls the function, and then checks that the arguments are unchanged. 1-M
 //! stands for version 1 and level M.

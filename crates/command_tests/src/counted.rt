@@ -14,7 +14,7 @@ struct Rough<'a> {
 }
 
 impl Rough<'_> {
-    // Counts a call, and returns its error.
+    // Counts a call, and returns its error if it has one.
     fn error(&mut self) -> Option<io::Error> {
         *self.calls = self.calls.saturating_add(1);
         match *self.calls {

@@ -27,7 +27,7 @@ fn slow_devices_succeed(rt: HostRuntime) -> Result<(), Fail> {
     Ok(())
 }
 
-// The 1,000th interrupted call is a fault.
+// 999 interrupted calls are repeated, but the 1,000th is a fault.
 #[test]
 fn interrupted_too_often(rt: HostRuntime) -> Result<(), Fail> {
     let tired = Faults {

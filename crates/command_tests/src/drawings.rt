@@ -251,9 +251,9 @@ fn chessboard(alloc: Global) -> Result<Matrix, Fail> {
     Ok(square)
 }
 
-// Returns the sizes of the writes by which the chessboard is drawn. A writer that fails from call `call` on has
-// accepted what the calls before it wrote. So the size of one write is the difference between what two such writers
-// accept, whose numbers `call` follow each other.
+// Returns the sizes of the writes by which the chessboard is drawn. A writer that fails from call n on, counted from 0,
+// accepts the first n writes. The function draws with such writers for n = 1, 2 and so on. What each of them accepts
+// more than the one before is the size of one write.
 fn sizes_of_writes(alloc: Global, kind: Drawing, margin: u8) -> Result<Vec<usize>, Fail> {
     let symbols = [chessboard(alloc)?];
     let mut sizes = Vec::new(alloc);
@@ -275,8 +275,8 @@ fn sizes_of_writes(alloc: Global, kind: Drawing, margin: u8) -> Result<Vec<usize
     Ok(sizes)
 }
 
-// A drawing is made in parts. Before each part the pen is written if it might have no room for the part among its 1,200
-// bytes. A line of text has three parts. The first is the left margin. The second is the columns of the symbol, in
+// A drawing is made in parts. Before each part the pen, which has 1,200 bytes, is written if the part might not fit
+// into it. A line of text has three parts. The first is the left margin. The second is the columns of the symbol, in
 // groups of four. The third is the columns that are left, at most three, with the right margin and the newline. A cell
 // has two bytes in ASCII, and at most three in UTF-8. An SVG document has a part of at most 300 bytes, then one of at
 // most 32 for each dark run, and then one of 11.

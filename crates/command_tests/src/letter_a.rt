@@ -4,7 +4,7 @@ use crate::runs::{DRAW, Devices, run_with};
 use std::alloc::{AllocError, Global};
 use std::test::Fail;
 
-// The rows from the top; a dark module is 1.
+// The rows of modules, from the top down. A dark module is 1.
 static ROWS: [u32; 21] = [
     0b111111100101101111111,
     0b100000100111001000001,

@@ -6,9 +6,10 @@ ghost use Rattle.qr_bits.specs.declared.modes.TheConstants.{INPUT_MAX};
 
 use qr_bits::{
     BitFault, EciChange, Header, INPUT_MAX, Interpretation, Item, Mode, ParseFault, Segment,
-    codewords, covers, parity, parse,
+    Segmented, codewords, covers, parity, parse,
 };
 use qr_layout::{Level, Version};
+use std::borrow::CowSlice;
 use std::test::Fail;
 
 #[test]
@@ -28,14 +29,16 @@ fn encode(
     requires in_range { ForSome header (λ h. (h.position < 16) × (h.last < 16)) }
 {
     let version = Version::FIRST;
-    let segs = [segment];
-    if !covers(input, &segs) {
+    if !covers(input, &[segment]) {
         return Err("the segment is not the input".into());
     }
+    let segmented = Segmented {
+        segments: Vec::from_array(rt.alloc(), [segment])?,
+        characters: CowSlice::Borrowed(input),
+    };
     Ok(codewords(
         rt.alloc(),
-        input,
-        &segs,
+        &segmented,
         header,
         Interpretation::Default,
         version,
@@ -155,10 +158,13 @@ fn digits_that_fit(rt: HostRuntime) -> Result<(), Fail> {
     };
     let digits = [b'7'; 42];
     assert!(rt; covers(&digits, &[more]));
+    let segmented = Segmented {
+        segments: Vec::from_array(rt.alloc(), [more])?,
+        characters: CowSlice::Borrowed(&digits),
+    };
     let data = codewords(
         rt.alloc(),
-        &digits,
-        &[more],
+        &segmented,
         None,
         Interpretation::Default,
         version,
@@ -233,8 +239,8 @@ fn contents(rt: HostRuntime) -> Result<(), Fail> {
     Ok(())
 }
 
-// Says whether the data codewords mean these bytes and these ECI headers, each with the number of bytes before it. A
-// symbol of version 40 has 3,706 codewords in all, and no symbol has more.
+// Says whether the data codewords mean these bytes and ECI headers. Each header comes with the number of bytes before
+// it. A symbol of version 40 has 3,706 codewords in all, and no symbol has more.
 fn means(
     rt: &HostRuntime,
     codewords: &[u8],

@@ -98,8 +98,8 @@ fn fit(rt: &HostRuntime, input: &[u8], interpretation: Interpretation) -> Result
     )?)
 }
 
-// At 1-H a structured append header leaves 52 bits. After FNC1 there are 48 left, after ECI 26 there are 40, and after
-// ECI 999,999 there are 24.
+// At 1-H a structured append header leaves 52 bits for the segments. If FNC1 comes before them, 48 are left, after ECI
+// 26 there are 40, and after ECI 999,999 there are 24.
 #[test]
 fn prefixes_at_1_h(rt: HostRuntime) -> Result<(), Fail> {
     assert_eq!(rt;

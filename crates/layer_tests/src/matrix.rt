@@ -200,8 +200,8 @@ fn differences_are_counted(rt: HostRuntime) -> Result<(), Fail> {
 // than a word of 64 bits holds.
 static SIDES: [u8; 9] = [1, 15, 16, 17, 21, 33, 65, 128, 177];
 
-// Returns the byte of the module with the index `place`. In turn, a module is dark (any number from 3 on), light (0)
-// and not known (2).
+// Returns the byte of the module with the index `place`. Neighbouring modules are in turn dark (any number from 3 on),
+// light (0) and not known (2).
 fn byte_at(place: usize) -> u8 {
     match place % 3 {
         0 => (place % 251) as u8 + 3,

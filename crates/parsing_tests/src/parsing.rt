@@ -38,8 +38,8 @@ fn bytes_of(alloc: Global, squares: &[Matrix]) -> Result<Vec<u8>, Fail> {
     Ok(join(alloc, &contents)?)
 }
 
-// Says whether the drawing of `input` that the command makes with the arguments `words` shows this type, this margin,
-// and `count` squares that contain `input`.
+// Lets the command draw `input` with the arguments `words`, and parses the drawing. Says whether its type, its margin
+// and the number of its squares are those of `shown`, and whether reading the squares yields `input`.
 fn reads_back(
     alloc: Global,
     words: &[&str],

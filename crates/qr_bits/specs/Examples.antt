@@ -27,7 +27,7 @@ eight_digits = 0x10 ∷ 0x20 ∷ 0x0C ∷ 0x56 ∷ 0x61 ∷ 0x80 ∷ 0xEC ∷ 0x
 abbrev pub eleven_characters : List ℕ
 eleven_characters = 0x20 ∷ 0x5B ∷ 0x0B ∷ 0x78 ∷ 0xD1 ∷ 0x72 ∷ 0xDC ∷ 0x4D ∷ 0x43 ∷ 0x40 ∷ 0xEC ∷ 0x11 ∷ 0xEC ∷ 0x11 ∷ 0xEC ∷ 0x11 ∷ []
 
--- The two kanji characters that the standard encodes (ISO/IEC 18004:2015, 7.4.6)
+-- The two kanji characters that the standard encodes as examples (ISO/IEC 18004:2015, 7.4.6)
 abbrev pub two_kanji : List ℕ
 two_kanji = 0x93 ∷ 0x5F ∷ 0xE4 ∷ 0xAA ∷ []
 
@@ -45,7 +45,7 @@ abbrev pub middle_data : List ℕ
 middle_data = 0x31 ∷ 0x24 ∷ 0x84 ∷ 0x03 ∷ 0x46 ∷ 0x47 ∷ 0x48 ∷ 0x00 ∷ 0xEC ∷ []
 
 -- Codewords of five symbols with ECI headers or FNC1, each with its items, its ECIs and its bytes. The first has Greek
--- letters after ECI 9, which the standard encodes. The second has `A` and `B` among three ECI headers, whose
+-- letters after ECI 9, as in an example of the standard. The second has `A` and `B` among three ECI headers, whose
 -- designators have one, two and three codewords. The third has FNC1 in second position, with the application indicator
 -- 37, and `AA12`. The fourth has FNC1 in first position before ECI 3, as other encoders write it. The fifth has FNC1,
 -- the characters `A%B%%C`, which are two fields, and then two `%` in byte mode under ECI 26 [own]

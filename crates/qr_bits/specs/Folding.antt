@@ -16,8 +16,8 @@ folded_around_pairs (x ∷ []) = capital x ∷ []
 folded_around_pairs (x ∷ y ∷ xs) =
     if is_kanji_pair x y then x ∷ y ∷ folded_around_pairs xs else capital x ∷ folded_around_pairs (y ∷ xs)
 
--- The bytes with capitals in place of small letters: under `Auto` in place of all, under `BytesOnly` of none, and under
--- `WithKanji` of those outside kanji pairs [own]
+-- The bytes after folding. Under the rule `Auto` all small letters become capitals, and under `BytesOnly` none do.
+-- Under `WithKanji` those outside kanji pairs do [own]
 abbrev pub folded : Rule → List ℕ → List ℕ
 folded Auto xs = map capital xs
 folded BytesOnly xs = xs

@@ -84,8 +84,8 @@ percent = 37
 abbrev pub separator : ℕ
 separator = 0x1D
 
--- The bytes that characters of alphanumeric mode stand for after FNC1. Read from the left, `%%` is `%`, and any other
--- `%` is the separator (ISO/IEC 18004:2015, 7.4.8.2)
+-- The bytes that characters of alphanumeric mode stand for after FNC1. From left to right, each `%%` stands for `%`,
+-- and any other `%` for the separator (ISO/IEC 18004:2015, 7.4.8.2)
 unfoldable pub separated : List ℕ → List ℕ
 separated [] = []
 separated (x ∷ []) = if x == percent then separator ∷ [] else x ∷ []
@@ -111,21 +111,23 @@ abbrev pub is_doubled : Interpretation → ℕ → Mode → Bool
 is_doubled written.Gs1 x Alphanumeric = x == percent
 is_doubled _ x m = false
 
--- The character that is written for the byte `x` in this mode, once or twice. It is the byte itself, except that
--- alphanumeric mode after FNC1 writes `%` for the separator (ISO/IEC 18004:2015, 7.4.8.2)
+-- The character that is written for the byte `x` in this mode. `is_doubled` says whether it is written once or twice.
+-- The character is the byte itself, except that alphanumeric mode after FNC1 writes `%` for the separator (ISO/IEC
+-- 18004:2015, 7.4.8.2)
 abbrev pub character_for : Interpretation → ℕ → Mode → ℕ
 character_for written.Gs1 x Alphanumeric = if x == separator then percent else x
 character_for _ x m = x
 
--- The modes of the characters that are written for the bytes after FNC1 in first position, if the bytes have the given
--- modes. For a byte that becomes two characters, its mode is listed twice (ISO/IEC 18004:2015, 7.4.8.2)
+-- The modes of the characters that are written for bytes of GS1 data, which come after FNC1 in first position, if these
+-- bytes have the given modes. For a byte that becomes two characters, its mode is listed twice (ISO/IEC 18004:2015,
+-- 7.4.8.2)
 unfoldable pub doubled_gs1 : List ℕ → List Mode → List Mode
 doubled_gs1 [] ms = ms
 doubled_gs1 (x ∷ xs) [] = []
 doubled_gs1 (x ∷ xs) (m ∷ ms) = if is_doubled written.Gs1 x m then m ∷ m ∷ doubled_gs1 xs ms else m ∷ doubled_gs1 xs ms
 
--- The characters that are written for the bytes after FNC1 in first position, if the bytes have the given modes
--- (ISO/IEC 18004:2015, 7.4.8.2)
+-- The characters that are written for bytes of GS1 data, which come after FNC1 in first position, if these bytes have
+-- the given modes (ISO/IEC 18004:2015, 7.4.8.2)
 unfoldable pub characters_gs1 : List ℕ → List Mode → List ℕ
 characters_gs1 [] ms = []
 characters_gs1 (x ∷ xs) [] = x ∷ xs
@@ -153,8 +155,8 @@ abbrev pub MayWrite : Interpretation → List ℕ → Type 0
 MayWrite written.Gs1 xs = IsTrue (are_fields xs)
 MayWrite _ xs = Unit {0}
 
--- The bytes that the characters of a segment stand for, if the first argument says whether FNC1 came before the
--- segment. They differ from the characters only in alphanumeric mode after FNC1 (ISO/IEC 18004:2015, 7.4.8.2, 7.4.8.3)
+-- The bytes that the characters of a segment stand for. The first argument says whether FNC1 came before the segment.
+-- The bytes differ from the characters only in alphanumeric mode after FNC1 (ISO/IEC 18004:2015, 7.4.8.2, 7.4.8.3)
 abbrev pub meant : Bool → Mode → List ℕ → List ℕ
 meant true Alphanumeric xs = separated xs
 meant _ _ xs = xs
@@ -187,8 +189,8 @@ fnc1_of (Eci d ∷ is) = fnc1_of is
 fnc1_of (Fnc1First ∷ is) = Some First
 fnc1_of (Fnc1Second a ∷ is) = Some (Second a)
 
--- The ECI headers that are read from a symbol with this interpretation: the one of the interpretation, or none (ISO/IEC
--- 18004:2015, 7.4.2)
+-- The ECI headers that are read from a symbol with this interpretation: one if the interpretation is an ECI, and
+-- otherwise none (ISO/IEC 18004:2015, 7.4.2)
 abbrev pub ecis_in : Interpretation → List EciChange
 ecis_in (written.Eci n) = record { number = n; begin = 0 } ∷ []
 ecis_in _ = []

@@ -104,7 +104,7 @@ PiecesNeedNoMore =
     HasFit i v r (xs ++ (ys ++ zs)) n → HasFit i v r ys n
 
 -- Bit `k` of the codewords, which `codeword_bit` computes, is the item with the index `k` in the list of all their
--- bits. Both are counted from 0 (ISO/IEC 18004:2015, 7.7.3)
+-- bits. Bits and items are counted from 0 (ISO/IEC 18004:2015, 7.7.3)
 abbrev pub BitsAreCodewordBits : Type 0
 BitsAreCodewordBits =
     (cw : List ℕ) (k : ℕ) → k < 8 * length cw → slice_index_or (bits_of cw) k false ≡ codeword_bit cw k

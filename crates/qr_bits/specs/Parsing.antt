@@ -1,6 +1,6 @@
 -- How the bits of data codewords are read. The result is a header, if there is one, items and the characters of their
--- segments, or it is a fault. `bits` are the bits that have not been read yet. If the last part of a result is a list
--- of bits, these are the bits that remain.
+-- segments, or it is a fault. `bits` are the bits that have not been read yet. Some definitions
+-- return a tuple that ends with a list of bits. This list has the bits that are still to be read.
 use Rattle.std.specs.Prelude.{◌≡◌, ◌⊎◌, ℕ, zero, suc, ◌+◌, ◌-◌, ◌*◌, ◌/◌, ◌%◌, Bool, ◌&&◌, ◌||◌, ◌==◌, nat_lt, nat_le, true, false, if◌then◌else◌, List, [], ◌∷◌, ◌++◌, length, take, drop, Result, Ok, Err, Option, Some, None}
 use Rattle.std.specs.List.{slice_index_or}
 use Rattle.qr_bits.specs.declared.modes.Mode.{Mode}
@@ -34,7 +34,7 @@ abbrev pub digit : ℕ → ℕ
 digit n = 48 + n % 10
 
 -- The `n` digits that the bits begin with: each three are read from 10 bits, then two at the end from 7 bits, or one
--- from 4. A number that is too large for its digits is a `BadValue` (ISO/IEC 18004:2015, 7.4.3)
+-- from 4. If a number is too large for its digits, the fault is `BadValue` (ISO/IEC 18004:2015, 7.4.3)
 unfoldable pub digits_of : ℕ → List Bool → Result (List ℕ) ParseFault
 digits_of zero bits = Ok []
 digits_of (suc zero) bits =
@@ -52,7 +52,8 @@ unfoldable pub character : ℕ → ℕ
 character n = slice_index_or characters n 0
 
 -- The `n` characters of alphanumeric mode that the bits begin with: each two are read from 11 bits, then one at the end
--- from 6. A number from 2025 on for two, or from 45 on for one, is a `BadValue` (ISO/IEC 18004:2015, 7.4.4)
+-- from 6. If the number for two characters is 2025 or more, or that for one is 45 or more, the fault is `BadValue`
+-- (ISO/IEC 18004:2015, 7.4.4)
 unfoldable pub characters_of : ℕ → List Bool → Result (List ℕ) ParseFault
 characters_of zero bits = Ok []
 characters_of (suc zero) bits =
@@ -76,7 +77,7 @@ kanji_pair n =
     if nat_le (n / 0xC0) 0x1E then rest + 0x8140 else rest + 0xC140
 
 -- The bytes of the `n` kanji pairs that the bits begin with, each of which is read from 13 bits. If division of a value
--- by C0 leaves a remainder of more than BC, both hexadecimal, the value is a `BadValue` (ISO/IEC 18004:2015, 7.4.6)
+-- by C0 leaves a remainder of more than BC, both hexadecimal, the fault is `BadValue` (ISO/IEC 18004:2015, 7.4.6)
 unfoldable pub pairs_of : ℕ → List Bool → Result (List ℕ) ParseFault
 pairs_of zero bits = Ok []
 pairs_of (suc n) bits =

@@ -1,6 +1,6 @@
 -- How bits are written: the bit stream of segments, and of all items. The file `Parsing` says how bits are read, and
--- uses nothing of this file. So writing and reading are stated apart, and laws say that they agree. `v` is the version,
--- and `xs` are the bytes that are still to be written.
+-- uses nothing of this file. So writing and reading are defined separately, and laws say that they agree. `v` is the
+-- version, and `xs` are the bytes that are still to be written.
 use Rattle.std.specs.Prelude.{◌≡◌, ◌⊎◌, ℕ, ◌+◌, ◌*◌, ◌/◌, ◌%◌, ◌<◌, ◌≤◌, Bool, true, false, ◌==◌, if◌then◌else◌, List, [], ◌∷◌, length, take, drop, IsTrue, ◌-◌, ◌^◌, ◌++◌, All, Option}
 use Rattle.qr_bits.specs.declared.modes.Mode.{Mode}
 use Rattle.qr_bits.specs.declared.modes.Mode.TheVariants.{Numeric, Alphanumeric, Byte, Kanji}

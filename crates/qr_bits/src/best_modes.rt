@@ -1,17 +1,18 @@
 //! The best mode of each byte, by dynamic programming: a table is filled from the last byte to the first. In a given
-//! version, how many bits a byte and all later ones take depends only on their modes and on the state before that byte
-//! (`RunState`). So the table has a row for each byte, with the best mode for each state. A mode is judged by the sum
-//! of two numbers: the bits that the byte adds in this mode, and the fewest bits that the later bytes can then add. The
-//! best mode has the least sum.
+//! version, the number of bits that a byte and all later bytes add depends only on their modes and on the state before
+//! the first of them (`RunState`). So the table has a row for each byte, with the best mode of the byte for each state
+//! before it. A mode is judged by the sum of two numbers: the bits that the byte adds in this mode, and the fewest bits
+//! that the later bytes can then add. The best mode has the least sum.
 //!
-//! A row is a number with two bits for each state: the rank of the best mode for this state. In GS1 data a row also has
-//! a flag, if alphanumeric mode writes its byte as other characters. The code compares modes by their choices. A choice
-//! is a number, and the head of `run_state.rt` says how it is formed.
+//! A row is a number with two bits for each state: the rank of the best mode for this state. The row of a byte of GS1
+//! data also has a flag if alphanumeric mode writes this byte as other characters. The code compares modes by their
+//! choices. A choice is a number: 4 times the sum by which a mode is judged, plus the rank of the mode
+//! (`run_state.rt`).
 //!
 //! In all functions `kanji` says that the rule allows kanji mode, `pair` that the byte may begin a kanji pair, and
 //! `gs1` that the bytes are GS1 data. The functions are inlined in the loops that call them. Where `kanji` is the
 //! constant `false`, the compiler leaves out the tests for pairs, and where `gs1` is the constant `false`, those for
-//! `%` and the separator.
+//! `%` and for the byte that separates fields.
 
 ghost use Rattle.std.specs.Prelude.{◌≡◌, ◌&&◌, ◌+◌, ◌*◌, ◌/◌, ◌%◌, ◌<◌, ◌≤◌, ℕ, Bool, true, false, length, reverse, IfOk, vec_len};
 ghost use Rattle.qr_bits.specs.declared.modes.Mode.{Mode};
@@ -50,7 +51,7 @@ fn ranked(rank: u32) -> Mode
 }
 
 // Whether `byte` may be written in `mode`, if it is not the second byte of a kanji pair. The contract leaves out kanji
-// mode, whose rank is 3, since there the byte alone does not decide.
+// mode, whose rank is 3, because there the next byte matters too.
 #[tactic(auto, unfolding(crate::specs::Steps::RunState::may_begin))]
 #[inline(always)]
 fn may_begin(rule: Rule, byte: u8, mode: Mode) -> bool
@@ -65,11 +66,11 @@ fn may_begin(rule: Rule, byte: u8, mode: Mode) -> bool
     }
 }
 
-// The choice of a mode for a byte, or `NO_CHOICE` if `may` is false. `first` is the choice with the bits of the byte
-// alone, and `rest` is the best choice for the later bytes. The bits of the two are added: `rest / 4 * 4` is `rest`
-// without its mode. 155 is the sum of 135, the greatest choice of a first byte, and 4 times the 5 bits of a second
-// character. The best choices of an input of at most `INPUT_MAX` bytes stay below 40,000,000, so the sum does not
-// overflow.
+// The choice of a mode for a byte, or `NO_CHOICE` if `may` is false. `first` is the choice of this mode with the bits
+// of the byte alone, and `rest` is the best choice for the next byte. The bits of the two are added: `rest / 4 * 4` is
+// `rest` without the rank of its mode. `first` is at most 155, which is the sum of 135, the greatest choice in
+// `FirstChoices`, and 4 times the 5 bits of a second character. The best choices of an input of at most `INPUT_MAX`
+// bytes stay below 40,000,000, so the sum does not overflow.
 #[inline(always)]
 fn choice_if(may: bool, first: u32, rest: u32) -> u32
     requires { (first ≤ 155) × (rest < 40000000) }
@@ -87,7 +88,8 @@ fn next_if(may: bool, bits: u32, mode: Mode, rest: u32) -> u32
     choice_if(may, number(bits, mode), rest)
 }
 
-// The row with the modes of these choices, two bits for each. The mode for the state `Start` has the lowest two bits.
+// The row with the ranks of the modes of these choices, two bits for each state. The state `Start` has the lowest two
+// bits.
 #[tactic(auto, using(crate::proofs::lemmas::best_modes::TableLemmas::packed_mode))]
 #[inline(always)]
 fn row_for(numbers: &PerState) -> u32
@@ -146,8 +148,8 @@ fn character_choices(
     }
 }
 
-// The row of a byte, and the best choice for it in each state. `digit` says that the byte may be written in numeric
-// mode. `characters` are its choices of alphanumeric mode, and `rest` has the best choices of the next byte.
+// The row of a byte, and for each state before the byte the best choice. `digit` says that the byte may be written in
+// numeric mode. `characters` are its choices of alphanumeric mode, and `rest` has the best choices for the next byte.
 #[inline(always)]
 fn choices(
     first_choices: &FirstChoices,
@@ -169,10 +171,10 @@ fn choices(
     let no_digits = characters.first.min(others);
     let no_characters = digits.min(others);
     let start = digits.min(no_digits);
-    // `start` is the best of all choices that begin a segment. After a whole group (`Digit3`, `Character2`, `InBytes`,
-    // `WholePair`) one of them is needless: to begin a segment of the mode that the last segment has. This takes more
-    // bits than to continue the last segment, and leads to the same state. So it is never the best choice, and `start`
-    // need not leave it out.
+    // `start` is the best of all choices that begin a segment. One of these choices is needless after a whole group
+    // (`Digit3`, `Character2`, `InBytes`, `WholePair`): that of the mode of the last segment. Continuing the last
+    // segment takes fewer bits, and leads to the same state. So this choice is never the best, and `start` need not
+    // leave it out.
     let digit2 = next_if(digit, 3, Mode::Numeric, rest.digit2);
     let digit3 = next_if(digit, 3, Mode::Numeric, rest.digit3);
     let digit1 = next_if(digit, 4, Mode::Numeric, rest.digit1);
@@ -204,7 +206,7 @@ fn is_doubled(gs1: bool, byte: u8) -> bool
 }
 
 // Whether the rule allows alphanumeric mode, and this mode can write the byte. In GS1 data it writes `%` for the
-// separator of fields (ISO/IEC 18004:2015, 7.4.8.2). The separator is tested last, since it is rare.
+// separator of fields (ISO/IEC 18004:2015, 7.4.8.2). The separator is tested last, because it is rare.
 #[inline(always)]
 fn may_be_character(gs1: bool, rule: Rule, byte: u8) -> bool
     ensures { (i : Interpretation) (pair : Bool) → gs1 ≡ is_gs1 i
@@ -235,8 +237,8 @@ pub(crate) fn is_flagged(row: u32) -> bool
     row >= FLAG
 }
 
-// The row of a byte, and the best choice for it in each state. `rest` has the best choices of the next byte. The row has
-// its flag if alphanumeric mode writes this byte of GS1 data as other characters.
+// The row of a byte, and for each state before the byte the best choice. `rest` has the best choices for the next byte.
+// The row has its flag if the bytes are GS1 data and alphanumeric mode writes this byte as other characters.
 #[inline(always)]
 pub(crate) fn row_of(
     first_choices: &FirstChoices,
@@ -251,15 +253,15 @@ pub(crate) fn row_of(
     ensures row { (i : Interpretation) → gs1 ≡ is_gs1 i
         → IsRow i first_choices.now.version rule byte pair rest.now result.0 result.1 }
 {
-    // `choices` is compiled into each of the places that call it. Where an argument is a constant, the compiler leaves
-    // out the cases that the constant excludes. A byte that may be written in numeric mode may be written in alphanumeric
-    // mode too.
+    // `choices` is inlined into each of these calls. Where an argument is a constant, the compiler leaves out the cases
+    // that the constant excludes. A byte that may be written in numeric mode may be written in alphanumeric mode too,
+    // so the first case passes `true` for both.
     let digit = may_begin(rule, byte, Mode::Numeric);
     if digit && !pair {
         let characters = character_choices(first_choices, true, false, rest);
         return choices(first_choices, true, &characters, false, rest);
     }
-    // Bytes whose rows have a flag are rare, as pairs are, so the same code serves both.
+    // Bytes whose rows have a flag are rare, and so are bytes that may begin a pair. So the same code serves both.
     let escaped = gs1 && !is_itself(byte);
     if pair || escaped {
         let may = may_be_character(gs1, rule, byte);
@@ -288,7 +290,7 @@ pub(crate) fn begins_with_pair(rule: Rule, bytes: &[u8]) -> bool
     }
 }
 
-// As `begins_with_pair`. Where `kanji` is a constant, the compiler can leave out a test.
+// As `begins_with_pair`. Where `kanji` is the constant `false`, the compiler leaves out the call.
 #[tactic(auto, unfolding(crate::specs::Steps::RunState::begins_with_pair))]
 #[inline(always)]
 fn pair_at(kanji: bool, rule: Rule, bytes: &[u8]) -> bool
@@ -298,9 +300,9 @@ fn pair_at(kanji: bool, rule: Rule, bytes: &[u8]) -> bool
     kanji && begins_with_pair(rule, bytes)
 }
 
-// Returns the table: a row for each byte of `input`. The row of the last byte is first, so `pop` takes the rows in the
-// order of the bytes. The rule is one that allows more than byte mode. This function is not inlined, so that its loop
-// has all registers to itself.
+// Returns the table: a row for each byte of `input`. The row of the last byte comes first, so `pop` takes the rows in
+// the order of the bytes. The rule has to allow more than byte mode. This function is not inlined, so that its loop has
+// all registers to itself.
 #[inline(never)]
 pub(crate) fn best_modes(
     alloc: Global,
@@ -319,7 +321,7 @@ pub(crate) fn best_modes(
     }
 }
 
-// Returns the same table as `best_modes` would, but for GS1 data, and with the flags of rows.
+// As `best_modes`, but for GS1 data, so rows may have their flags.
 #[inline(never)]
 pub(crate) fn best_gs1_modes(
     alloc: Global,
@@ -339,7 +341,7 @@ pub(crate) fn best_gs1_modes(
     }
 }
 
-// As `best_modes`, but as `best_gs1_modes` if `gs1` is true.
+// Returns the table of `best_gs1_modes` if `gs1` is true, and otherwise that of `best_modes`.
 #[inline(always)]
 fn best_rows(
     alloc: Global,
@@ -367,7 +369,8 @@ fn best_rows(
     Ok(table)
 }
 
-// The index, in a row, of the lower of the two bits of a state.
+// A row of the table of best modes has two bits for each state. The result is the index of the lower one, counted from
+// the lowest bit of the row.
 #[inline(always)]
 fn shift_of(state: RunState) -> u32
     ensures value { result ≡ shift_of state }
@@ -386,7 +389,7 @@ fn shift_of(state: RunState) -> u32
     }
 }
 
-// The best mode for a state, from the row of a byte.
+// The best mode of a byte for a state before it, read from the row of this byte.
 #[tactic(auto, unfolding(crate::specs::Steps::BestModes::mode_at))]
 #[inline(always)]
 pub(crate) fn mode_at(row: u32, state: RunState) -> Mode

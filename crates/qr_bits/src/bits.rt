@@ -1,4 +1,4 @@
-//! Bits that are written into codewords, and read from them. The most significant bit of each codeword is its first
+//! Writes bits into codewords, and reads bits from codewords. The most significant bit of each codeword is its first
 //! (ISO/IEC 18004:2015, 7.4.10).
 
 ghost use Rattle.std.specs.Prelude.{Bool, IfOk, List, OnOk, [], drop, length, take, ◌%◌, ◌*◌, ◌++◌, ◌+◌, ◌<◌, ◌^◌, ◌≡◌, ◌≤◌};
@@ -29,7 +29,8 @@ impl Model for BitWriter {
 }
 
 impl BitWriter {
-    // Returns a writer with room for `len` codewords. No call allocates until there are more codewords than this.
+    // Returns a writer with room for `len` codewords. No later call allocates memory until there are more codewords
+    // than `len`.
     #[tactic(auto, unfolding(crate::specs::Bits::bits_of, crate::specs::Bits::field))]
     pub(crate) fn with_capacity(alloc: Global, len: usize) -> Result<Self, AllocError>
         requires { len < 2 ^ 16 }
@@ -84,8 +85,9 @@ impl BitWriter {
     }
 }
 
-// Appends the lowest `width` bits of `bits` to `whole`, as many as make whole bytes. Returns the number of bits that
-// are left. 23 is the sum of 7, the most bits that were left before, and 16, the most new ones.
+// Takes the lowest `width` bits of `bits`, the most significant first, and appends them to `whole` as far as they make
+// whole bytes. Returns the number of bits that are left. At most 23 bits are taken: 7 that were left before, and 16 new
+// ones.
 #[tactic(auto, using(crate::proofs::Named::writing_bits))]
 fn push_whole(whole: &mut Vec<u8>, bits: u32, width: u8) -> Result<u8, AllocError>
     requires { width ≤ 23 }
@@ -100,8 +102,8 @@ fn push_whole(whole: &mut Vec<u8>, bits: u32, width: u8) -> Result<u8, AllocErro
     Ok(left)
 }
 
-// Appends the `width` bits of `rest`, and then those of `bytes`, as many as make whole bytes. Returns the bits that are
-// left, as a number. There are again `width` of them, because each byte adds eight.
+// Appends the `width` bits of `rest`, and then those of `bytes`, as far as they make whole bytes. Returns the bits that
+// are left, as a number. There are again `width` bits left, because each byte adds eight.
 #[tactic(auto, unfolding(crate::specs::Bits::bits_of))]
 fn push_bytes(whole: &mut Vec<u8>, width: u8, mut rest: u8, bytes: &[u8]) -> Result<u8, AllocError>
     requires few { width < 8 }
@@ -145,8 +147,8 @@ fn three_bytes(bytes: &[u8], at: usize) -> u32
     65536 * byte_at(bytes, at) + 256 * byte_at(bytes, at + 1) + byte_at(bytes, at + 2)
 }
 
-// Appends `count` bytes that are cut out of `bytes` from bit `at` on. Each of them consists of the last bits of one
-// byte and the first bits of the next.
+// Appends `count` bytes that are cut out of `bytes` from the bit with the index `at` on. Each appended byte consists of
+// the last bits of one byte and the first bits of the next.
 fn push_bytes_at(out: &mut Vec<u8>, bytes: &[u8], at: usize, count: usize) -> Result<(), AllocError>
     requires { at + 8 * count ≤ 8 * length bytes.now }
     ensures { OnOk result (out.new.items ≡ out.old.items ++ bytes_of count (drop at (bits_of bytes.now))) }
@@ -238,7 +240,7 @@ impl<'a> BitReader<'a> {
         self.len() >= 4 && self.indicator() == STRUCTURED_APPEND
     }
 
-    // The next four bits as a number, which is a mode indicator or the terminator. They stay unread.
+    // The next four bits as a number, which is a mode indicator or the terminator. The reader does not move on.
     pub(crate) fn indicator(&self) -> u16
         requires { 4 ≤ length self.now }
         ensures { result ≡ value (take 4 self.now) }

@@ -8,8 +8,8 @@ use crate::modes::Rule;
 use std::alloc::{AllocError, Global};
 
 /// Returns `input` with capitals in the place of the letters `a` to `z`, so the number of bytes stays the same. Under
-/// `Rule::WithKanji` kanji pairs stay as they are. To find them, the bytes are read from first to last. Under
-/// `Rule::BytesOnly` all bytes stay as they are.
+/// `Rule::WithKanji` kanji pairs stay as they are. They are searched for from the first byte on, so the second byte of
+/// a pair never begins another pair. Under `Rule::BytesOnly` all bytes stay as they are.
 ///
 /// # Errors
 ///

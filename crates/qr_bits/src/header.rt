@@ -5,7 +5,7 @@
 ghost use Rattle.std.specs.Prelude.{◌≡◌, ◌≤◌};
 ghost use Rattle.qr_bits.specs.Header.{header_bits, parity_of};
 
-// The number of bits of a header. The mode indicator, `position` and `last` have 4 bits each, and `parity` has 8
+// The number of bits of a header. The mode indicator, `position` and `last` have 4 bits each, and `parity` has 8 bits
 // (ISO/IEC 18004:2015, 8.1 to 8.3).
 pub(crate) const HEADER_BITS: u64 = 20;
 

@@ -1,8 +1,8 @@
 //! How a symbol says what its bytes mean: by ECI headers, and by FNC1 in first or second position (ISO/IEC 18004:2015,
 //! 7.4.2, 7.4.8). ECI headers, FNC1 and segments are the items of a symbol.
 //!
-//! Segments contain characters, and these stand for the bytes of the symbol. With one exception, the characters are the
-//! bytes themselves. In alphanumeric mode after FNC1, `%%` stands for `%`, and any other `%` for the byte 1D
+//! Segments contain characters, and these stand for the bytes of the symbol. The characters are the bytes themselves,
+//! with one exception: in alphanumeric mode after FNC1, `%%` stands for `%`, and any other `%` for the byte 1D
 //! (hexadecimal), which separates fields.
 
 ghost use Rattle.std.specs.Prelude.{IfOk, IsTrue, ◌↔◌, List, OnOk, false, true, if◌then◌else◌, [], ◌∷◌, take, drop, length, ◌==◌, ◌≡◌, ◌≤◌, ◌++◌};
@@ -66,8 +66,8 @@ pub fn may_write(input: &[u8], interpretation: Interpretation) -> bool
     }
 }
 
-// Whether no separator comes directly before another separator or before `%`. One segment in alphanumeric mode could
-// not contain two such bytes: it would write `%%` or `%%%` for them, and the first two characters would be read as `%`.
+// Whether no separator comes directly before another separator or before `%`. Alphanumeric mode cannot write two such
+// bytes in one segment: it would write `%%` or `%%%`, of which the first two characters are read as the byte `%`.
 #[tactic(auto, unfolding(crate::specs::Interpretation::are_fields))]
 fn are_fields(bytes: &[u8]) -> bool
     ensures { result ≡ are_fields bytes.now }
@@ -78,8 +78,9 @@ fn are_fields(bytes: &[u8]) -> bool
     }
 }
 
-// As `are_fields`; `seconds` are the bytes after the first. The loop has no early exit, so that the compiled code takes
-// many bytes at once. It is out of line, since code that knows how the two slices lie takes the last bytes one by one.
+// As `are_fields` for the bytes `firsts`. `seconds` are the same bytes without the first one. The loop has no early
+// exit, so that the compiled code takes many bytes at once. The function is not inlined: if the compiler knew that
+// `seconds` is a part of `firsts`, it would make code that takes the last bytes one by one.
 #[inline(never)]
 fn may_all_precede(firsts: &[u8], seconds: &[u8]) -> bool
     requires { seconds.now ≡ drop 1 firsts.now }
@@ -104,7 +105,8 @@ fn may_precede(first: u8, second: u8) -> bool
 pub struct Designator {
     /// From 0 to 999,999.
     pub number: u32,
-    /// In how many codewords the number is written: 1, 2 or 3. A symbol that is read may use more than are needed.
+    /// In how many codewords the number is written: 1, 2 or 3. A symbol that is read may use more codewords than this
+    /// number needs.
     pub codewords: u8,
 }
 
@@ -136,7 +138,7 @@ pub enum Fnc1 {
 pub struct EciChange {
     /// The number of the ECI, from 0 to 999,999; that of UTF-8 is 26.
     pub number: u32,
-    /// How many bytes of the symbol come before the first that has this ECI.
+    /// How many bytes of the symbol come before the first byte that has this ECI.
     pub begin: usize,
 }
 
@@ -190,7 +192,8 @@ fn append_meant(
     }
 }
 
-// The first `len` characters, or all of them if there are fewer, and the characters after these.
+// Cuts the characters in two. The first part has `len` characters, or all if there are not so many, and the second has
+// the others.
 fn cut(characters: &[u8], len: usize) -> (&[u8], &[u8])
     ensures front { result.0.now ≡ take len characters.now }
     ensures back { result.1.now ≡ drop len characters.now }
@@ -198,7 +201,8 @@ fn cut(characters: &[u8], len: usize) -> (&[u8], &[u8])
     characters.split_at(len.min(characters.len()))
 }
 
-// Whether all items are segments, which together take all the characters. Then the bytes are these characters.
+// Whether all items are segments, and these take all the characters. If so, the bytes that the items stand for are the
+// characters themselves.
 fn is_plain(items: &[Item], characters: &[u8]) -> bool
     ensures bytes { result ≡ true → meant_bytes false items.now characters.now ≡ characters.now }
     ensures ecis { result ≡ true → eci_changes false 0 items.now characters.now ≡ [] }
@@ -220,10 +224,12 @@ pub(crate) struct Meaning {
     pub ecis: Vec<EciChange>,
 }
 
-// Appends what the item stands for to `meaning`. A segment takes the first of `characters`. Returns whether FNC1 comes
-// before the next item, and the characters that are left. The contract says that the meaning of all items together is
-// the same before and after the call. It is what `meaning` has, followed by what the items that are left stand for:
-// `item` and the later items `is` before the call, and `is` alone after it.
+// Appends what the item stands for to `meaning`. A segment takes its characters from the beginning of `characters`.
+// `fnc1` says whether FNC1 is among the earlier items. Returns whether FNC1 is among these and `item`, and the
+// characters that are left. Each clause of the contract says
+// that two lists are equal, whatever later items there are (`is`). One is what `meaning` has before the call, followed
+// by what `item` and the later items stand for. The other is what it has afterwards, followed by what the later items
+// alone stand for.
 #[tactic(auto, unfolding(crate::specs::Interpretation::meant_bytes, crate::specs::Interpretation::eci_changes))]
 fn take_item<'a>(
     item: Item,
@@ -290,7 +296,7 @@ pub(crate) fn interpreted(
     meaning_of(alloc, items, &characters)
 }
 
-// Returns FNC1 if it is among the items. Only ECI headers come before it, so the search ends at the first segment.
+// Returns FNC1 if it is among the items. Only ECI headers can come before it, so the search ends at the first segment.
 #[tactic(auto, unfolding(crate::specs::Interpretation::fnc1_of), using(crate::proofs::lemmas::interpretation::MeaningLemmas::fnc1_next, crate::proofs::lemmas::interpretation::MeaningLemmas::fnc1_end))]
 pub(crate) fn fnc1_of(items: &[Item]) -> Option<Fnc1>
     ensures { result ≡ fnc1_of items.now }

@@ -1,8 +1,8 @@
 //! Laws of this crate's definitions. A function with an empty body does nothing: its contract is the law. If its name
 //! ends in `compute`, the law has examples that the standard prints, or that were worked out by hand.
 //!
-//! The functions with a body are laws of the public types: which numbers the faults have, that `==` is true exactly for
-//! equal values, and that a clone is equal to its original.
+//! The functions with a body state laws of the public types: which numbers the faults have, that `==` is true exactly
+//! for equal values, and that a clone is equal to its original.
 
 ghost use Rattle.std.specs.Prelude.{◌≡◌, ◌-◌, ◌/◌, ◌%◌, ℕ, List, [], ◌∷◌, ◌++◌, true, false, length, map, codes, ◌↔◌, IsTrue, IfOk};
 ghost use Rattle.qr_layout.specs.declared.level.Level.{Level};
@@ -29,23 +29,23 @@ use crate::modes::{INPUT_MAX, Mode, Rule};
 use crate::segment::Segment;
 use std::alloc::AllocError;
 
-/// Bits are parsed as an optional structured append header and segments, and no other items, exactly if they are the
-/// bit stream of these and then an end. An end is fewer than four bits, or the terminator and anything after it.
-/// Segments may be empty, and need not take the fewest bits.
+/// Bits are parsed as an optional structured append header and segments, without other items, exactly if they are the
+/// bit stream of this header and these segments, followed by an end. An end is fewer than four bits, or the terminator
+/// and anything after it. Segments may be empty, and need not take the fewest bits.
 #[tactic(auto, using(crate::proofs::lemmas::parsing::StreamReadingLemmas::parse_plain, crate::proofs::lemmas::parsing::StreamReadingLemmas::parse_takes))]
 pub fn streams_are_parsed()
     ensures { StreamsAreParsed }
 {}
 
-/// Data codewords are parsed as the header, interpretation and segments that they were made from, and as the bytes too
-/// if they have no interpretation.
+/// Data codewords are parsed as the header, interpretation and segments that they were made from. If there is neither
+/// an ECI header nor FNC1, the bytes too are those that they were made from.
 pub fn data_are_parsed()
     ensures whole { DataAreParsed }
     ensures plain { PlainDataAreParsed }
 {}
 
-/// Bits are read as items exactly if they are the stream of these items, in an order that the standard allows, and then
-/// an end.
+/// Bits are read as items exactly if they are the bits of these items, in an order that the standard allows, followed
+/// by an end. An end is fewer than four bits, or the terminator and anything after it.
 pub fn items_are_parsed()
     ensures { ItemsAreParsed }
 {}
@@ -56,8 +56,8 @@ pub fn fields_are_read()
     ensures { FieldsAreRead }
 {}
 
-/// A bit stream that is not longer than the capacity has exactly one list of data codewords. There are as many of them
-/// as the standard requires for the version and the level.
+/// A bit stream that is not longer than the capacity of a symbol has exactly one list of data codewords. This list has
+/// as many codewords as the standard requires for the version and the level.
 pub fn data_are_one()
     ensures there { DataAreThere }
     ensures one { DataAreOne }
@@ -83,20 +83,20 @@ pub fn fitting_inputs_are_short()
     ensures { FittingInputsAreShort }
 {}
 
-/// The segments of the least segmentation cover its characters, and no valid assignment of modes takes fewer bits than
-/// these segments.
+/// The least segmentation of an input is what `segments` returns: segments, and the characters that they contain. The
+/// segments cover these characters, and no valid assignment of modes takes fewer bits.
 #[tactic(auto, using(crate::proofs::lemmas::segment::SegmentLemmas::least_fits))]
 pub fn least_segmentations_fit()
     ensures { LeastSegmentationsFit }
 {}
 
-/// For a given interpretation, version and rule, an input has at most one least segmentation.
+/// For a given interpretation, version and rule, an input has at most one least segmentation, which `segments` returns.
 pub fn segmentations_are_one()
     ensures { (i : Interpretation) (v : ℕ) (r : Rule) (xs ys zs : List ℕ) (ss ts : List Segment)
         → IsLeastSegmentation i v r xs ys ss → IsLeastSegmentation i v r xs zs ts → (ys ≡ zs) × (ss ≡ ts) }
 {}
 
-/// If an input can be written with an interpretation, the characters of its least segmentation stand for the input, and
+/// If an input can be written with an interpretation, the characters that `segments` returns stand for the input, and
 /// are read with this interpretation.
 pub fn segmentations_mean_their_input()
     ensures { SegmentationsMeanTheirInput }
@@ -216,8 +216,8 @@ pub fn foldings_compute()
         ≡ 0x41 ∷ 0x93 ∷ 0x61 ∷ 0x41 ∷ 0x93 ∷ [] }
 {}
 
-/// The lower bounds on the bits of five inputs. The inputs contain `/` and `0`, `9` and `:`, and `Z` and `[`. Between
-/// the two bytes of each pair the bound for a byte changes.
+/// The lower bounds on the bits of five inputs. The bound for a byte changes from `/` to `0`, from `9` to `:`, and from
+/// `Z` to `[`, and the inputs contain all of these bytes.
 #[tactic(auto, unfolding(crate::specs::Segmentation::least_bits))]
 pub fn least_bits_compute()
     ensures { map least_bits (codes "012" ∷ codes "/9:" ∷ codes "AZ" ∷ codes "[z" ∷ codes "1A[" ∷ [])
@@ -242,9 +242,9 @@ pub fn parse_fault_numbers(fault: ParseFault) -> u8
     fault as u8
 }
 
-/// The values of three kanji pairs, and the pairs that have these values: the two pairs that the standard encodes, and
-/// the greatest pair (ISO/IEC 18004:2015, 7.4.6). The last two clauses say which pairs of bytes are kanji pairs and
-/// which are not, at both ends of each range.
+/// The values of three kanji pairs, and the pairs that have these values. Two of the pairs are the examples of the
+/// standard, and the third is the greatest pair (ISO/IEC 18004:2015, 7.4.6). The last two clauses say which pairs of
+/// bytes are kanji pairs and which are not, at both ends of each range.
 #[tactic(auto, unfolding(crate::specs::Modes::is_kanji_pair, crate::specs::Modes::kanji_value, crate::specs::Parsing::kanji_pair))]
 pub fn kanji_compute()
     ensures first { kanji_value 0x93 0x5F ≡ 0xD9F }

@@ -1,6 +1,6 @@
-//! From an input to data codewords, and back. An input is cut into segments, each of which is written in one mode. The
-//! data codewords of a symbol contain these segments as bits. Parsing finds the segments in data codewords, and the
-//! bytes that they stand for.
+//! This crate makes the data codewords of an input, and parses data codewords. An input is cut into segments, each of
+//! which is written in one mode. The data codewords of a symbol contain these segments as bits. Parsing finds the
+//! segments again, and the bytes that they stand for.
 #![tactic(auto)]
 
 mod best_modes;

@@ -1,8 +1,9 @@
 //! The longest prefix of an input that fits one symbol of a series. Like the segments of an input, it is found by the
 //! best choices of `best_modes.rt`, but no table is kept.
 //!
-//! A prefix grows at its end, but `row_of` puts a byte before those that it has already taken. So each prefix is taken
-//! in reverse order, which needs equally many bits. In this order the second byte of a kanji pair comes first.
+//! A prefix grows at its end, but `row_of` (in `best_modes.rt`) puts each further byte before those that were taken
+//! already. So it gets each prefix in reverse order. Reversed bytes take equally many bits. Among them the second byte
+//! of a kanji pair comes before the first.
 
 ghost use Rattle.std.specs.Prelude.{IsOkAnd, length, reverse, true, ◌+◌, ◌*◌, ◌<◌, ◌≡◌, ◌≤◌};
 ghost use Rattle.qr_bits.specs.declared.modes.Mode.{Mode};
@@ -49,7 +50,8 @@ fn bytes_in(room: u64, version: Version) -> usize
     ((room - head) / 8) as usize
 }
 
-// The least choice of all states.
+// The least of the choices that `numbers` has for the nine states. A choice is 4 times a number of bits, plus the rank
+// of a mode (`run_state.rt`). So the least number also has the fewest bits.
 #[tactic(auto, unfolding(crate::specs::Steps::BestModes::in_state))]
 fn fewest(numbers: &PerState) -> u32
     ensures { (p : RunState) → result ≤ in_state numbers.now p }
@@ -62,10 +64,10 @@ fn fewest(numbers: &PerState) -> u32
 }
 
 // The length of the longest prefix of `input` that takes at most `room` bits. When the loop has taken `input[i]`,
-// `rest.start / 4` is the least number of bits of the prefix that ends with this byte. If it is more than `room`, a
-// longer prefix may still fit, because the first byte of a kanji pair may take more bits in byte mode than the pair in
-// kanji mode. The bits of a longer prefix are those that `rest` has for some state, plus those that the further bytes
-// add. So if `rest` has more than `room` bits for each state, no longer prefix fits.
+// `rest.start / 4` is the least number of bits of the prefix that ends with this byte. Even if this number is greater
+// than `room`, a longer prefix may fit, because the first byte of a kanji pair may take more bits in byte mode than the
+// pair takes in kanji mode. A longer prefix takes the bits that `rest` has for one of the states, plus those that its
+// further bytes add. So if `rest` has more than `room` bits for every state, nothing longer can fit, and the loop ends.
 //
 // As in `best_modes.rt`, `kanji` says whether the rule allows kanji mode, and `gs1` whether the input is GS1 data.
 #[inline(always)]
@@ -145,7 +147,7 @@ pub fn longest_fit(
 {
     let room = room(version, level, interpretation);
     let most = bytes_in(room, version);
-    // Each rule allows byte mode, so the whole input fits.
+    // Each rule allows byte mode, so the whole input fits in one segment.
     if input.len() <= most {
         return Ok(input.len());
     }

@@ -11,8 +11,9 @@ ghost use Rattle.qr_bits.specs.Parsing.{character, mode_of};
 use crate::fault::ParseFault;
 use qr_layout::Version;
 
-/// The greatest length of an input, in bytes. A series has at most 16 symbols of at most 7,089 bytes each, and this
-/// length is one byte more. So an input of this length fits no series, and no byte after it need be read.
+/// The greatest length of an input, in bytes. A series has at most 16 symbols, each with at most 7,089 bytes, and this
+/// length is one byte more than they hold together. So an input of this length fits no series, and no further byte need
+/// be read.
 pub const INPUT_MAX: usize = 113_425;
 
 /// How the bytes of a segment are written (ISO/IEC 18004:2015, 7.3.3 to 7.3.6).
@@ -25,7 +26,7 @@ pub enum Mode {
     /// Any bytes, of which each takes eight bits.
     Byte,
     /// Characters of Shift JIS, of which each takes thirteen bits. Each is a pair of bytes, from 8140 to 9FFC or from
-    /// E040 to EBBF, whose second byte is from 40 to FC (all hexadecimal).
+    /// E040 to EBBF. The second byte has to be from 40 to FC (all hexadecimal).
     Kanji,
 }
 
@@ -40,8 +41,8 @@ pub enum Rule {
     WithKanji,
 }
 
-// The mode indicators (ISO/IEC 18004:2015, 7.4.1, Table 2). Structured append, ECI and FNC1 have indicators as modes
-// have them. The terminator comes where the next mode indicator would be.
+// The mode indicators (ISO/IEC 18004:2015, 7.4.1, Table 2). The standard also counts structured append, ECI and FNC1 as
+// modes, so each of them has a mode indicator. The terminator stands where the next mode indicator would be.
 pub(crate) const TERMINATOR: u16 = 0b0000;
 
 const NUMERIC: u16 = 0b0001;
@@ -102,7 +103,7 @@ pub(crate) fn count_width(version: Version, mode: Mode) -> u8
     }
 }
 
-// The number in the character count indicator of a segment of `len` bytes, of which kanji mode counts two as one
+// The number in the character count indicator of a segment of `len` bytes. In kanji mode two bytes count as one
 // character (ISO/IEC 18004:2015, 7.4.1).
 pub(crate) fn character_count(mode: Mode, len: usize) -> usize
     ensures { result ≡ character_count mode len }
@@ -196,8 +197,8 @@ fn place_of(character: u8) -> Option<usize>
 }
 
 // The number of 13 bits that is written for a kanji pair (ISO/IEC 18004:2015, 7.4.6). The subtraction closes the gap
-// between the two ranges of pairs, and leaves a low byte of at most BC (hexadecimal). So it is enough to multiply the
-// high byte by C0 instead of 100 (both hexadecimal).
+// between the two ranges of pairs, and leaves a low byte of at most BC (hexadecimal). So the numbers of different pairs
+// differ even if the high byte is multiplied only by C0, and not by 100 (both hexadecimal).
 #[tactic(auto, unfolding(crate::specs::Modes::kanji_value), using(crate::proofs::lemmas::modes::KanjiLemmas::least_pair))]
 pub(crate) fn kanji_value(high: u8, low: u8) -> u16
     requires { IsTrue (is_kanji_pair high low) }

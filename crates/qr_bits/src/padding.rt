@@ -1,13 +1,12 @@
 //! The data codewords of a symbol: the bit stream, a terminator and padding (ISO/IEC 18004:2015, 7.4.9, 7.4.10). The
 //! padding fills the capacity, which is the number of bits of all data codewords.
 
-ghost use Rattle.std.specs.Prelude.{All, Err, IfOk, OnOk, length, min, vec_len, ◌++◌, ◌+◌, ◌*◌, ◌-◌, ◌<◌, ◌^◌, ◌↔◌, ◌≡◌, ◌≤◌};
+ghost use Rattle.std.specs.Prelude.{All, Err, IfOk, OnOk, length, vec_len, ◌++◌, ◌+◌, ◌*◌, ◌-◌, ◌<◌, ◌↔◌, ◌≡◌, ◌≤◌};
 ghost use Rattle.qr_bits.specs.Segmentation.{Covers, bits};
-ghost use Rattle.qr_bits.specs.Padding.{IsData, capacity_of, filled, pads};
-ghost use Rattle.qr_bits.specs.Header.{header_bits, header_stream};
-ghost use Rattle.qr_bits.specs.Interpretation.{interpretation_bits, interpretation_stream, InterpretationFits};
-ghost use Rattle.qr_bits.specs.Stream.{segments_stream};
-ghost use Rattle.qr_bits.specs.Bits.{field};
+ghost use Rattle.qr_bits.specs.Padding.{IsData, capacity_of, pads};
+ghost use Rattle.qr_bits.specs.Header.{header_bits};
+ghost use Rattle.qr_bits.specs.Interpretation.{interpretation_bits, InterpretationFits};
+ghost use Rattle.std.specs.Cow.{cow_slice_items};
 ghost use Rattle.std.specs.Option.{ForSome};
 
 use crate::bits::BitWriter;
@@ -15,7 +14,8 @@ use crate::fault::BitFault;
 use crate::header::{Header, header_bits};
 use crate::interpretation::{Interpretation, interpretation_bits};
 use crate::modes::INPUT_MAX;
-use crate::segment::{Segment, bit_len};
+use crate::segment::bit_len;
+use crate::segmentation::Segmented;
 use crate::stream::{put_header, put_interpretation, put_segments};
 use qr_layout::{Level, Version};
 use std::alloc::{AllocError, Global};
@@ -24,12 +24,12 @@ use std::alloc::{AllocError, Global};
 const TERMINATOR_BITS: u64 = 4;
 
 /// Returns the data codewords of a symbol of this version and level. They contain the header, if there is one, then the
-/// ECI header or FNC1 of the interpretation, and then `input` in the segments `segs`. As far as the capacity allows, a
-/// terminator, zeros up to the end of a codeword, and pad codewords follow (ISO/IEC 18004:2015, 7.4.9, 7.4.10).
+/// ECI header or FNC1 of the interpretation, and then the characters of `segmented` in its segments. As far as the
+/// capacity allows, a terminator, zeros up to the end of a codeword, and pad codewords follow (ISO/IEC 18004:2015,
+/// 7.4.9, 7.4.10).
 ///
-/// `input` and `segs` are the characters and the segments that `segments` returns (`Segmented`), or any others for
-/// which `covers` is true. `input` may have up to twice `INPUT_MAX` bytes, because a byte of GS1 data may be written as
-/// two characters.
+/// `segmented` is what `segments` returns, or any other segments and characters for which `covers` is true. There may
+/// be up to twice `INPUT_MAX` characters, because a byte of GS1 data may be written as two characters.
 ///
 /// # Errors
 ///
@@ -37,70 +37,49 @@ const TERMINATOR_BITS: u64 = 4;
 /// `Memory` if memory is refused.
 pub fn codewords(
     alloc: Global,
-    input: &[u8],
-    segs: &[Segment],
+    segmented: &Segmented<'_>,
     header: Option<Header>,
     interpretation: Interpretation,
     version: Version,
     level: Level,
 ) -> Result<Vec<u8>, BitFault>
-    requires short { length input.now ≤ 2 * INPUT_MAX }
-    requires covered { Covers input.now segs.now }
+    requires short { length (cow_slice_items segmented.now.characters) ≤ 2 * INPUT_MAX }
+    requires covered { Covers (cow_slice_items segmented.now.characters) segmented.now.segments.items }
     requires in_range { ForSome header (λ h. (h.position < 16) × (h.last < 16)) }
     requires number { InterpretationFits interpretation }
-    ensures ok { IfOk result (λ cw. IsData version level input.now segs.now header interpretation cw.items) }
+    ensures ok { IfOk result (λ cw. IsData version level (cow_slice_items segmented.now.characters) segmented.now.segments.items
+        header interpretation cw.items) }
     ensures too_long { (result ≡ Err BitFault.TooLong)
-        ↔ (capacity_of version level < header_bits header + interpretation_bits interpretation + bits version segs.now) }
+        ↔ (capacity_of version level < header_bits header + interpretation_bits interpretation
+        + bits version segmented.now.segments.items) }
 {
     let capacity = version.capacity(level);
-    let used = header_bits(header) + interpretation_bits(interpretation) + bit_len(segs, version);
+    let used = header_bits(header)
+        + interpretation_bits(interpretation)
+        + bit_len(&segmented.segments, version);
     if used > capacity {
         return Err(BitFault::TooLong);
     }
+    let left = capacity - used;
     let len = usize::from(version.data_codewords(level));
     let mut writer = BitWriter::with_capacity(alloc, len)?;
-    put_all(
+    put_header(&mut writer, header)?;
+    put_interpretation(&mut writer, interpretation)?;
+    put_segments(
         &mut writer,
-        input,
-        segs,
-        header,
-        interpretation,
+        &segmented.characters,
+        &segmented.segments,
         version,
-        capacity - used,
     )?;
+    writer.put(TERMINATOR_BITS.min(left) as u8, 0)?;
+    writer.fill()?;
     let mut codewords = writer.into_codewords();
     pad(&mut codewords, len)?;
     Ok(codewords)
 }
 
-// Writes the bit stream, a terminator, and zeros up to the end of a codeword. `left` is the number of bits that the bit
-// stream leaves of the capacity, so the terminator may not be longer. What the contract says of the parity is for the
-// prover.
-fn put_all(
-    writer: &mut BitWriter,
-    input: &[u8],
-    segs: &[Segment],
-    header: Option<Header>,
-    interpretation: Interpretation,
-    version: Version,
-    left: u64,
-) -> Result<(), AllocError>
-    requires short { length input.now < 2 ^ 16 }
-    requires covered { Covers input.now segs.now }
-    requires number { InterpretationFits interpretation }
-    ensures { OnOk result ((writer.new ≡ filled ((((writer.old ++ header_stream header) ++ interpretation_stream interpretation)
-        ++ segments_stream version input.now segs.now) ++ field (min 4 left) 0))
-        × ForSome header (λ h. h.parity < 256)) }
-{
-    put_header(writer, header)?;
-    put_interpretation(writer, interpretation)?;
-    put_segments(writer, input, segs, version)?;
-    writer.put(TERMINATOR_BITS.min(left) as u8, 0)?;
-    writer.fill()
-}
-
 // Appends pad codewords until there are `len` codewords in all (ISO/IEC 18004:2015, 7.4.10). The contract also says
-// that all codewords are bytes, which only the prover needs.
+// that all codewords are bytes; this is for the prover.
 #[tactic(auto, using(crate::proofs::Named::pad_codewords))]
 fn pad(codewords: &mut Vec<u8>, len: usize) -> Result<(), AllocError>
     ensures { OnOk result ((codewords.new.items ≡ codewords.old.items ++ pads (len - vec_len codewords.old))

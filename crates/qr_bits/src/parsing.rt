@@ -1,6 +1,6 @@
-//! How data codewords are parsed: as an optional structured append header, and then items. These are segments, ECI
-//! headers and FNC1 (ISO/IEC 18004:2015, 7.4.1 to 7.4.9, 8, 12). First all items are read, and the characters of all
-//! segments are appended to one list, `out`. Then `interpreted` returns the bytes that these characters stand for.
+//! How data codewords are parsed: as an optional structured append header, and then segments, ECI headers and FNC1,
+//! which are called items (ISO/IEC 18004:2015, 7.4.1 to 7.4.9, 8, 12). First all items are read, and the characters of
+//! all segments are appended to one list, `out`. Then `interpreted` returns the bytes that these characters stand for.
 
 ghost use Rattle.std.specs.Prelude.{Err, IfOk, List, MatchResult, drop, length, take, true, ℕ, ◌%◌, ◌*◌, ◌++◌, ◌+◌, ◌<◌, ◌^◌, ◌≡◌, ◌≤◌};
 ghost use Rattle.qr_bits.specs.Modes.{byte_count, payload_bits};
@@ -37,7 +37,7 @@ const SINGLES: u16 = 45;
 const LOW_MAX: u16 = 0xBC;
 
 // The number in an ECI designator has at most six digits, so it is below this limit (ISO/IEC 18004:2015, 7.4.2).
-const NUMBERS: u32 = 1_000_000;
+pub(crate) const NUMBERS: u32 = 1_000_000;
 
 /// What data codewords contain.
 #[derive(Debug, Drop)]
@@ -75,9 +75,9 @@ impl Parsed {
     }
 }
 
-/// Parses data codewords up to a terminator, or to where fewer than four bits are left (ISO/IEC 18004:2015, 7.4.9). The
-/// bits after this may have any values. Segments may be empty, and need not take the fewest bits. There may be at most
-/// 3,706 codewords, as many as the largest symbol has in all.
+/// Parses data codewords up to a terminator, or to where fewer than four bits are left (ISO/IEC 18004:2015, 7.4.9). All
+/// later bits may have any values. Segments may be empty, and need not take the fewest bits. There may be at most 3,706
+/// codewords, as many as the largest symbol has in all.
 ///
 /// # Errors
 ///
@@ -154,8 +154,8 @@ fn items(
     Ok((items, characters))
 }
 
-// Whether FNC1 may come after `item`. `may` says whether FNC1 was allowed in the place of `item`. Only ECI headers may
-// come before FNC1 (ISO/IEC 18004:2015, 7.4.8.2).
+// Whether FNC1 may come after `item`. `may` says whether FNC1 could have come in the place of `item`. Only ECI headers
+// may come before FNC1 (ISO/IEC 18004:2015, 7.4.8.2).
 fn may_follow(may: bool, item: Item) -> bool
     ensures { result ≡ may_follow may item }
 {
@@ -207,8 +207,8 @@ fn number(reader: &mut BitReader, width: usize) -> Result<u16, ParseFault>
     Ok(reader.take(width))
 }
 
-// Reads an ECI designator, whose mode indicator was already read. Its number has 7 bits after the bit 0, 14 bits after
-// the bits 10, or 21 bits after the bits 110 (ISO/IEC 18004:2015, 7.4.2, Table 4).
+// Reads the designator of an ECI header whose mode indicator was already read. The number of the ECI has 7 bits after
+// the bit 0, 14 bits after the bits 10, or 21 bits after the bits 110 (ISO/IEC 18004:2015, 7.4.2, Table 4).
 #[tactic(auto, unfolding(crate::specs::Parsing::designator_at))]
 fn designator(reader: &mut BitReader) -> Result<Designator, ParseFault>
     ensures { MatchResult result (λ d. designator_at reader.old ≡ Ok (d, reader.new)) (λ e. designator_at reader.old ≡ Err e) }
@@ -299,8 +299,8 @@ fn segment_head(reader: &mut BitReader, version: Version) -> Result<(Mode, u16),
     Ok((mode, count))
 }
 
-// Reads the data of a segment of `count` characters. The data are complete, as `segment_head` has checked, but a value
-// among them may be wrong.
+// Reads the data of a segment of `count` characters. `segment_head` has checked that the data are complete, but a value
+// among them may be too large.
 #[tactic(auto, unfolding(crate::specs::Parsing::values_of))]
 fn values(
     reader: &mut BitReader,

@@ -1,15 +1,15 @@
 //! Segments: whether they cover an input, and how many bits they take (ISO/IEC 18004:2015, 7.4.1). A segment has a mode
-//! and a number of bytes. It does not say which bytes these are, since each segment takes the bytes after those of the
-//! segment before.
+//! and a number of bytes. It need not say which bytes these are, because each segment takes the bytes that come after
+//! those of the segment before it.
 
 ghost use Rattle.std.specs.Prelude.{All, IsTrue, sum_by, ◌*◌, ◌+◌, ◌<◌, ◌↔◌, ◌≡◌, ◌≤◌};
-ghost use Rattle.qr_bits.specs.Segmentation.{Covers, bits, segment_bits};
+ghost use Rattle.qr_bits.specs.Segmentation.{Covers, bits};
 
 use crate::modes::{INPUT_MAX, Mode, count_width, payload_bits, suits};
 use qr_layout::Version;
 
-/// A mode, and the number of bytes that are written in it. Segments take the bytes of the input in turn, or the
-/// characters that are written for GS1 data (`Segmented`).
+/// A mode, and the number of bytes that are written in this mode. The segments of an input take its bytes one after the
+/// other. If the input is GS1 data, they take the characters that are written for it (`Segmented`).
 #[derive(Clone, Copy, Debug, PartialEq, Eq)]
 pub struct Segment {
     pub mode: Mode,
@@ -47,15 +47,8 @@ pub fn bit_len(segs: &[Segment], version: Version) -> u64
 {
     let mut bits = 0;
     for segment in segs {
-        bits += segment_bits(version, *segment);
+        let head = 4 + u64::from(count_width(version, segment.mode));
+        bits += head + payload_bits(segment.mode, segment.len) as u64;
     }
     bits
-}
-
-fn segment_bits(version: Version, segment: Segment) -> u64
-    requires { segment.len ≤ 2 * INPUT_MAX }
-    ensures { result ≡ segment_bits version segment }
-{
-    let head = 4 + u64::from(count_width(version, segment.mode));
-    head + payload_bits(segment.mode, segment.len) as u64
 }

@@ -2,14 +2,14 @@
 //! interpretation, and then the segments (ISO/IEC 18004:2015, 7.4.1 to 7.4.6, 7.4.8, 8.1). In contracts `writer.old`
 //! and `writer.new` are the bits that the writer has before and after the call.
 
-ghost use Rattle.std.specs.Prelude.{IsTrue, OnOk, length, ◌++◌, ◌+◌, ◌-◌, ◌<◌, ◌^◌, ◌≡◌, ◌≤◌};
+ghost use Rattle.std.specs.Prelude.{All, IsTrue, OnOk, length, ◌++◌, ◌+◌, ◌-◌, ◌<◌, ◌^◌, ◌≡◌, ◌≤◌};
 ghost use Rattle.qr_bits.specs.Modes.{characters, in_twos, is_alphanumeric, is_digit, is_kanji_pair, suits};
 ghost use Rattle.qr_bits.specs.Segmentation.{Covers};
 ghost use Rattle.qr_bits.specs.Header.{header_stream};
 ghost use Rattle.qr_bits.specs.Interpretation.{designator, interpretation_stream, InterpretationFits};
 ghost use Rattle.std.specs.List.{list_all};
 ghost use Rattle.std.specs.Option.{ForSome};
-ghost use Rattle.qr_bits.specs.Stream.{character_bits, digit_bits, kanji_bits, payload, segment_stream, segments_stream};
+ghost use Rattle.qr_bits.specs.Stream.{character_bits, digit_bits, kanji_bits, segment_stream, segments_stream};
 
 use crate::bits::BitWriter;
 use crate::header::Header;
@@ -18,11 +18,12 @@ use crate::modes::{
     ECI, FNC1_FIRST, Mode, STRUCTURED_APPEND, character_count, character_value, count_width,
     indicator, kanji_value,
 };
+use crate::parsing::NUMBERS;
 use crate::segment::Segment;
 use qr_layout::Version;
 use std::alloc::AllocError;
 
-// Writes the header. The contract also says that the parity is a byte, which only the prover needs.
+// Writes the header. The contract also says that the parity is a byte; this is for the prover.
 #[tactic(auto, unfolding(crate::specs::Header::header_stream))]
 pub(crate) fn put_header(writer: &mut BitWriter, header: Option<Header>) -> Result<(), AllocError>
     ensures { OnOk result ((writer.new ≡ writer.old ++ header_stream header) × ForSome header (λ h. h.parity < 256)) }
@@ -58,7 +59,7 @@ pub(crate) fn put_interpretation(
 // codewords there are: 0 for one, 10 for two, and 110 for three (ISO/IEC 18004:2015, 7.4.2, Table 4).
 #[tactic(auto, unfolding(crate::specs::Interpretation::designator))]
 fn put_designator(writer: &mut BitWriter, number: u32) -> Result<(), AllocError>
-    requires { number < 1000000 }
+    requires { number < NUMBERS }
     ensures { OnOk result (writer.new ≡ writer.old ++ designator number) }
 {
     if number < 128 {
@@ -72,7 +73,8 @@ fn put_designator(writer: &mut BitWriter, number: u32) -> Result<(), AllocError>
     writer.put(16, (number % 65536) as u16)
 }
 
-// Writes the segments, of which each takes the next bytes of `input`. No symbol has room for 2^16 bytes.
+// Writes the segments. Each of them takes the next bytes of `input`. No symbol has room for 2^16 bytes. The contract
+// also says that the input consists of bytes; this is for the prover.
 pub(crate) fn put_segments(
     writer: &mut BitWriter,
     input: &[u8],
@@ -81,8 +83,8 @@ pub(crate) fn put_segments(
 ) -> Result<(), AllocError>
     requires short { length input.now < 2 ^ 16 }
     requires covered { Covers input.now segs.now }
-    ensures { OnOk result (writer.new
-        ≡ writer.old ++ segments_stream version input.now segs.now) }
+    ensures { OnOk result ((writer.new ≡ writer.old ++ segments_stream version input.now segs.now)
+        × All (λ b. b < 256) input.now) }
 {
     let mut rest = input;
     for segment in segs {
@@ -94,7 +96,7 @@ pub(crate) fn put_segments(
 }
 
 // Writes a segment: its two indicators, and then its data (ISO/IEC 18004:2015, 7.4.1).
-#[tactic(auto, unfolding(crate::specs::Stream::segment_stream))]
+#[tactic(auto, unfolding(crate::specs::Stream::segment_stream, crate::specs::Stream::payload))]
 fn put_segment(
     writer: &mut BitWriter,
     version: Version,
@@ -110,14 +112,6 @@ fn put_segment(
         count_width(version, mode),
         character_count(mode, bytes.len()) as u16,
     )?;
-    put_payload(writer, mode, bytes)
-}
-
-#[tactic(auto, unfolding(crate::specs::Stream::payload))]
-fn put_payload(writer: &mut BitWriter, mode: Mode, bytes: &[u8]) -> Result<(), AllocError>
-    requires { IsTrue (suits mode bytes.now) }
-    ensures { OnOk result (writer.new ≡ writer.old ++ payload mode bytes.now) }
-{
     match mode {
         Mode::Numeric => put_digits(writer, bytes),
         Mode::Alphanumeric => put_characters(writer, bytes),
@@ -126,7 +120,7 @@ fn put_payload(writer: &mut BitWriter, mode: Mode, bytes: &[u8]) -> Result<(), A
     }
 }
 
-// Writes each group of three digits in ten bits. Two digits at the end take seven bits, and one digit takes four
+// Writes each group of three digits in ten bits. Two digits at the end take seven bits, and one digit takes four bits
 // (ISO/IEC 18004:2015, 7.4.3).
 #[tactic(auto, unfolding(crate::specs::Stream::digit_bits))]
 fn put_digits(writer: &mut BitWriter, digits: &[u8]) -> Result<(), AllocError>
@@ -154,7 +148,8 @@ fn digit_value(digit: u8) -> u16
     u16::from(digit - b'0')
 }
 
-// Writes each pair of characters in eleven bits. A single character at the end takes six (ISO/IEC 18004:2015, 7.4.4).
+// Writes each pair of characters in eleven bits. A single character at the end takes six bits (ISO/IEC 18004:2015,
+// 7.4.4).
 #[tactic(auto, unfolding(crate::specs::Stream::character_bits))]
 fn put_characters(writer: &mut BitWriter, characters: &[u8]) -> Result<(), AllocError>
     requires { IsTrue (list_all is_alphanumeric characters.now) }

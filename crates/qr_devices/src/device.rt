@@ -16,9 +16,9 @@ pub const INTERRUPTIONS_MAX: u16 = 999;
 /// How a read, a write or a flush fails.
 #[derive(Clone, Copy, Debug, PartialEq, Eq)]
 pub enum Trouble {
-    /// It was interrupted by a signal (EINTR); the call may be tried again.
+    /// The call was interrupted by a signal (EINTR), and may be tried again.
     Interrupted,
-    /// It failed for any other reason; the call is not tried again.
+    /// The call failed for any other reason, and is not tried again.
     Failed,
 }
 
@@ -35,7 +35,7 @@ pub struct ReadCounts {
     pub given: u64,
     /// Reads that reached the end of the input: they returned 0 though their buffer was not empty.
     pub ends: u64,
-    /// Reads after one that reached the end. Reads into an empty buffer count too.
+    /// Reads after a read that reached the end, also those into an empty buffer.
     pub past_end: u64,
 }
 
@@ -50,7 +50,7 @@ impl ReadCounts {
         past_end: 0,
     };
 
-    /// Counts a read into a buffer of `room` bytes that returned `answer`.
+    /// Counts a read that returned `answer`. Its buffer had `room` bytes.
     pub fn add(&mut self, room: usize, answer: Result<usize, Trouble>)
         ensures { self.new ≡ read_counted room answer self.old }
     {
@@ -124,7 +124,7 @@ impl WriteCounts {
         }
     }
 
-    /// Counts a flush that returned `answer`. An interrupted flush counts as failed, since it is not tried again.
+    /// Counts a flush that returned `answer`. An interrupted flush counts as failed, because it is not tried again.
     pub fn add_flush(&mut self, answer: Result<(), Trouble>)
         ensures { self.new ≡ flush_counted answer self.old }
     {

@@ -12,7 +12,7 @@ use crate::device::{ReadCounts, Trouble, WriteCounts};
 use crate::trial::Faults;
 use std::alloc::AllocError;
 
-/// Returns the `Faults` of a device without interruption or failure. It also never moves fewer bytes than it could.
+/// Returns the `Faults` of a device that is never interrupted, never fails, and always moves as many bytes as it can.
 pub fn no_faults() -> Faults
     ensures at_most { result.at_most ≡ 2 ^ 64 - 1 }
     ensures interruptions { result.interruptions ≡ 0 }

@@ -34,8 +34,8 @@ impl Faults {
 }
 
 /// A device with bytes in memory that are read, or with room for bytes that are written. A read or write moves as many
-/// bytes as three things allow: the `Faults`, the buffer, and what is left to read or to fill. It goes wrong exactly
-/// where the `Faults` say so. A write to a full device returns 0.
+/// bytes as three things allow: the `Faults`, the buffer, and what is left to read or to fill. A call goes wrong
+/// exactly where the `Faults` say so. A write to a full device returns 0.
 #[derive(Drop)]
 pub struct Trial {
     bytes: Vec<u8>,
@@ -79,7 +79,7 @@ impl Trial {
     ///
     /// # Errors
     ///
-    /// Returns an error if memory for `room` bytes, which is taken at once, is refused.
+    /// Returns an error if memory for `room` bytes is refused. It is requested when the device is made.
     pub fn writer(alloc: Global, room: usize, faults: Faults) -> Result<Trial, AllocError>
         ensures held { IfOk result (λ t. bytes_held t ≡ []) }
         ensures unwritten { IfOk result (λ t. t.writes ≡ no_writes) }
@@ -97,7 +97,7 @@ impl Trial {
         })
     }
 
-    /// Returns all bytes of a reader, read or not, or those that a writer accepted.
+    /// Returns all bytes of a reader, whether they were read or not, or those that a writer has accepted.
     pub fn bytes(&self) -> &[u8]
         ensures { result.now ≡ bytes_held self.now }
     {
@@ -132,8 +132,8 @@ impl Trial {
         self.position = end;
     }
 
-    // Returns what read or write number `call` returns, if the buffer and the device allow it to move at most `there`
-    // bytes.
+    // Returns what the read or write with the number `call` returns, if the buffer and the device allow it to move at
+    // most `there` bytes.
     fn moved(&self, call: u64, there: usize) -> Result<usize, Trouble>
         ensures value { result ≡ moved self.now.faults call there }
         ensures bound { IfOk result (λ n. n ≤ there) }

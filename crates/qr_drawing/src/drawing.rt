@@ -1,6 +1,6 @@
 //! The types of drawing, the values that can be drawn, and rasters. The raster of a symbol is its modules with a light
-//! margin around them. A margin has at most 255 modules, and a symbol at most 177 on a side. So a raster has fewer than
-//! 1,000 rows and columns.
+//! margin around them. A margin is at most 255 modules wide, and a symbol has at most 177 modules on a side. So a
+//! raster has fewer than 1,000 rows and columns.
 
 ghost use Rattle.std.specs.Prelude.{◌≡◌, ◌≤◌, ◌<◌, ◌+◌, max, is_err, length, map, OnOk, OnErr};
 ghost use Rattle.std.specs.Io.KnownBytes.{Appends};
@@ -90,7 +90,7 @@ impl Raster<'_> {
     }
 }
 
-// Writes the drawing through `pen`, which may still contain its last bytes afterwards.
+// Writes the drawing through `pen`. Afterwards the pen may still contain the last bytes of the drawing.
 fn put_drawing<S: HasSquare, W: Sink>(
     pen: &mut Pen,
     out: &mut W,

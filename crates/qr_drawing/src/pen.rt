@@ -4,6 +4,7 @@
 ghost use Rattle.std.specs.Prelude.{◌≡◌, ◌+◌, ◌<◌, ◌≤◌, [], max, is_err, length, MatchResult, OnOk, OnErr};
 ghost use Rattle.std.specs.Io.KnownBytes.{Appends};
 ghost use Rattle.qr_devices.specs.Device.{AppendsBeginning, IsWrittenWithin, counted, is_write_fault, no_writes};
+ghost use Rattle.qr_devices.specs.declared.device.TheConstants.{INTERRUPTIONS_MAX};
 ghost use Rattle.qr_drawing.specs.Steps.Writing.{Stops, Writes};
 
 use crate::piece::Piece;
@@ -13,6 +14,10 @@ use thiserror::Error;
 /// The greatest number of bytes that one write offers.
 pub const WRITE_MAX: usize = 1200;
 
+// The size of the pen's buffer. It is eight bytes more than the pen may contain, because `Piece::push_first` copies
+// eight bytes even if it appends fewer. The others may lie beyond `WRITE_MAX`.
+pub(crate) const PEN_SIZE: usize = WRITE_MAX + 8;
+
 /// Why a drawing was not written to its end.
 #[derive(Clone, Copy, Debug, PartialEq, Eq, Error)]
 pub enum DrawFault {
@@ -21,26 +26,25 @@ pub enum DrawFault {
     Write = 1,
 }
 
-/// A buffer for the bytes of `piece`, which are not written yet. `interrupted` is the number of writes that were
-/// interrupted so far. The pen contains at most 1,200 bytes. Its buffer is eight bytes larger. For `Piece::push_first`
-/// copies eight bytes even if it appends fewer, and the rest of the eight may lie beyond the 1,200 bytes.
+/// A buffer for bytes that are not written yet, which are those of `piece`. `interrupted` is the number of writes that
+/// were interrupted so far. The pen contains at most `WRITE_MAX` bytes.
 #[derive(Drop)]
 pub(crate) struct Pen {
-    pub(crate) piece: Piece<1208>,
+    pub(crate) piece: Piece<PEN_SIZE>,
     interrupted: u16,
-    ghost few: { interrupted < 1000 },
+    ghost few: { interrupted ≤ INTERRUPTIONS_MAX },
 }
 
 // Offers `bytes` to the writer until it has accepted all of them. `interrupted` is the number of interrupted writes
-// before this call, and the result is this number after it. The label of the loop is for the prover.
+// before this call, and the result is their number after it. The label of the loop is for the prover.
 fn send<W: Sink>(out: &mut W, bytes: &[u8], interrupted: u16) -> Result<u16, DrawFault>
-    requires { interrupted < 1000 }
+    requires { interrupted ≤ INTERRUPTIONS_MAX }
     ensures writes { MatchResult result
         (λ tries. Writes (W.device out.old) (W.device out.new)
         interrupted tries bytes.now [])
         (λ _. Stops (W.device out.old) (W.device out.new)
         interrupted bytes.now) }
-    ensures few { MatchResult result (λ tries. tries < 1000) (λ _. Unit {0}) }
+    ensures few { MatchResult result (λ tries. tries ≤ INTERRUPTIONS_MAX) (λ _. Unit {0}) }
 {
     let mut at: usize = 0;
     let mut tries = interrupted;
@@ -91,13 +95,13 @@ impl Pen {
         Ok(())
     }
 
-    /// Makes room for `room` bytes. If there is less room, writes all bytes in the pen.
+    /// Makes room for `room` bytes. If the pen has less room, all its bytes are written.
     #[inline(always)]
     pub(crate) fn reserve<W: Sink>(&mut self, out: &mut W, room: usize) -> Result<(), DrawFault>
-        requires { room ≤ 1200 }
+        requires { room ≤ WRITE_MAX }
         ensures writes { Reserves (W.device out.old) (W.device out.new)
             self.old self.new result }
-        ensures room { OnOk result (length self.new.piece + room ≤ 1200) }
+        ensures room { OnOk result (length self.new.piece + room ≤ WRITE_MAX) }
     {
         if self.piece.len() + room > WRITE_MAX {
             return self.empty(out);

@@ -5,7 +5,7 @@ ghost use Rattle.std.specs.Prelude.{◌≡◌, ◌≤◌, ◌<◌, ◌+◌, ◌+
 use std::marker::Model;
 
 /// A text of at most `CAP` bytes: the first `len` of `bytes`. The bytes after these mean nothing. So a short text may
-/// be appended by copying more bytes than it has, always the same number. Such a copy takes one or two instructions.
+/// be appended by copying a fixed number of bytes, even if it has fewer. Such a copy takes one or two instructions.
 #[derive(Drop)]
 pub(crate) struct Piece<const CAP: usize> {
     bytes: [u8; CAP],
@@ -90,7 +90,7 @@ impl<const CAP: usize> Piece<CAP> {
         self.len = start + count;
     }
 
-    /// Appends `short`, by copying as many bytes as it has room for.
+    /// Appends `short`, by copying all `N` bytes of its array.
     #[inline(always)]
     pub(crate) fn push_piece<const N: usize>(&mut self, short: &Piece<N>)
         requires { length self.old + N ≤ CAP }

@@ -1,7 +1,7 @@
 //! Draws symbols as a Scalable Vector Graphics document with one path, which has a box around each run of dark modules
-//! in a row. The box around seven modules from column 4 on in row 5 is `M4 5h7v1h-7z`: move there, go right by seven,
-//! down by one and left by seven, and close the path. `top` is the number of rows of the document above a symbol and
-//! its margin. At most 16 symbols are drawn, each with fewer than 1,000 rows.
+//! in a row. The box around seven modules in row 5, from column 4 on, is `M4 5h7v1h-7z`: move to column 4 and row 5, go
+//! right by seven, down by one and left by seven, and close the path. `top` is the number of rows of the document above
+//! a symbol and its margin. At most 16 symbols are drawn, each with fewer than 1,000 rows.
 
 ghost use Rattle.std.specs.Prelude.{◌≡◌, ◌≤◌, ◌<◌, ◌+◌, ◌*◌, ◌++◌, ◌∷◌, [], ℕ, ◌/◌, ◌%◌, codes, decimal, length, map};
 ghost use Rattle.qr_drawing.specs.Drawing.{HaveOneSide};
@@ -10,25 +10,25 @@ ghost use Rattle.qr_drawing.specs.Steps.Svg.{head, tail, width_path};
 ghost use Rattle.qr_drawing.specs.Svg.{background, box_path, numbered, opening, row_path, stack_path, svg_document, symbol_path};
 
 use crate::drawing::{HasSquare, Raster};
-use crate::pen::{DrawFault, Pen};
+use crate::pen::{DrawFault, PEN_SIZE, Pen, WRITE_MAX};
 use crate::piece::Piece;
 use itoa::Buffer;
 use qr_devices::Sink;
 
-// The room that is made for a box. A box has at most 22 bytes. The room stays 32, because it decides which bytes are in
-// one write (`sizes_of_single_writes` in `command_tests`).
+// How many bytes of room the pen has to have before a box is appended. A box has at most 22 bytes. With another number
+// than 32 the writes would have other sizes, and the test `sizes_of_single_writes` in `command_tests` would fail.
 const BOX_MAX: usize = 32;
 
-// The room that is made for all that comes before the first box.
+// How many bytes of room the pen has to have for all that comes before the first box.
 const HEAD_MAX: usize = 300;
 
 // The number of bytes after the last box.
 const TAIL: usize = 11;
 
-// `push_digit` and the three functions after it append numbers digit by digit. They append the row of a box, and also
-// its width if it has ten modules or more, because they take fewer instructions than the crate `itoa`. The digits of a
-// column come from the table `TWO_DIGITS`, and smaller widths from the table `SHORT_RUNS`. `itoa` formats the numbers
-// before the path.
+// `push_digit` and the three functions after it append numbers digit by digit, which takes fewer instructions than the
+// crate `itoa` does. They are used for the row of a box, and for its width if it has ten modules or more. Smaller
+// widths come from the table `SHORT_RUNS`, and the digits of a column from the table `TWO_DIGITS`. `itoa` formats the
+// numbers before the path.
 fn push_digit<const CAP: usize>(text: &mut Piece<CAP>, digit: u16)
     requires digit { digit < 10 }
     requires room { length text.old < CAP }
@@ -104,9 +104,9 @@ fn two_digits(number: u16) -> &'static [u8; 2]
 }
 
 // Appends the beginning of a box: `M` and its column.
-fn push_column(text: &mut Piece<1208>, x: u16)
+fn push_column(text: &mut Piece<PEN_SIZE>, x: u16)
     requires column { x < 1000 }
-    requires room { length text.old + 4 ≤ 1200 }
+    requires room { length text.old + 4 ≤ WRITE_MAX }
     ensures items { text.new ≡ text.old ++ numbered (codes "M") x }
     ensures len { length text.new ≤ length text.old + 4 }
 {
@@ -121,8 +121,8 @@ fn push_column(text: &mut Piece<1208>, x: u16)
     }
 }
 
-// The text after the row of a box. The index is the number of modules in the box, which is below ten in almost all
-// boxes.
+// The end of the text of a box, which follows the number of its row: `hNv1h-Nz` for N modules. The index is N, which is
+// below ten in almost all boxes.
 static SHORT_RUNS: [[u8; 8]; 10] = [
     *b"h0v1h-0z",
     *b"h1v1h-1z",
@@ -136,11 +136,11 @@ static SHORT_RUNS: [[u8; 8]; 10] = [
     *b"h9v1h-9z",
 ];
 
-// Appends the text after the row of a box around `modules` modules.
+// Appends what follows the row in the text of a box around `modules` modules.
 #[tactic(auto, unfolding(crate::specs::Svg::numbered, crate::specs::Steps::Svg::width_path))]
-fn push_width(text: &mut Piece<1208>, modules: u16)
+fn push_width(text: &mut Piece<PEN_SIZE>, modules: u16)
     requires modules { modules < 1000 }
-    requires room { length text.old + 12 ≤ 1200 }
+    requires room { length text.old + 12 ≤ WRITE_MAX }
     ensures { text.new ≡ text.old ++ width_path modules }
 {
     if modules < 10 {
@@ -159,10 +159,10 @@ fn push_width(text: &mut Piece<1208>, modules: u16)
 // as a text, which `text_of_row` made.
 #[inline(always)]
 #[tactic(auto, unfolding(crate::specs::Svg::box_path, crate::specs::Svg::numbered, crate::specs::Steps::Svg::width_path))]
-fn push_box(text: &mut Piece<1208>, x: u16, row: &Piece<8>, modules: u16)
+fn push_box(text: &mut Piece<PEN_SIZE>, x: u16, row: &Piece<8>, modules: u16)
     requires column { x < 1000 }
     requires modules { modules < 1000 }
-    requires room { length text.old + 32 ≤ 1200 }
+    requires room { length text.old + BOX_MAX ≤ WRITE_MAX }
     ensures { (y : ℕ) → row.now ≡ numbered (codes " ") y → text.new ≡ text.old ++ box_path x y modules }
 {
     push_column(text, x);
@@ -170,8 +170,8 @@ fn push_box(text: &mut Piece<1208>, x: u16, row: &Piece<8>, modules: u16)
     push_width(text, modules);
 }
 
-// Returns the text for row `y` of the document in a box: a space and the number of the row. It is the same in all boxes
-// of this row, so it is made once.
+// Returns the part of a box that states its row, `y`: a space and this number. It is the same in all boxes of the row,
+// so it is made once.
 #[tactic(auto, unfolding(crate::specs::Svg::numbered))]
 fn text_of_row(y: u16) -> Piece<8>
     ensures { result ≡ numbered (codes " ") y }
@@ -183,8 +183,8 @@ fn text_of_row(y: u16) -> Piece<8>
 }
 
 #[tactic(auto, unfolding(crate::specs::Svg::numbered))]
-fn push_numbered(text: &mut Piece<1208>, bytes: &[u8], number: u16)
-    requires room { length text.old + length bytes.now + 5 ≤ 1200 }
+fn push_numbered(text: &mut Piece<PEN_SIZE>, bytes: &[u8], number: u16)
+    requires room { length text.old + length bytes.now + 5 ≤ WRITE_MAX }
     ensures items { text.new ≡ text.old ++ numbered bytes.now number }
     ensures len { length text.new ≤ length text.old + length bytes.now + 5 }
 {
@@ -193,8 +193,8 @@ fn push_numbered(text: &mut Piece<1208>, bytes: &[u8], number: u16)
     text.push_all(digits.format(number).as_bytes());
 }
 
-fn push_opening(text: &mut Piece<1208>, width: u16, height: u16)
-    requires room { length text.old + 120 ≤ 1200 }
+fn push_opening(text: &mut Piece<PEN_SIZE>, width: u16, height: u16)
+    requires room { length text.old + 120 ≤ WRITE_MAX }
     ensures items { text.new ≡ text.old ++ opening width height }
     ensures len { length text.new ≤ length text.old + 120 }
 {
@@ -205,8 +205,8 @@ fn push_opening(text: &mut Piece<1208>, width: u16, height: u16)
 }
 
 #[tactic(auto, unfolding(crate::specs::Svg::background))]
-fn push_background(text: &mut Piece<1208>, width: u16, height: u16)
-    requires room { length text.old + 80 ≤ 1200 }
+fn push_background(text: &mut Piece<PEN_SIZE>, width: u16, height: u16)
+    requires room { length text.old + 80 ≤ WRITE_MAX }
     ensures items { text.new ≡ text.old ++ background width height }
     ensures len { length text.new ≤ length text.old + 80 }
 {
@@ -216,8 +216,8 @@ fn push_background(text: &mut Piece<1208>, width: u16, height: u16)
 }
 
 // Appends all that comes before the first box.
-fn push_head(text: &mut Piece<1208>, width: u16, height: u16)
-    requires room { length text.old + 300 ≤ 1200 }
+fn push_head(text: &mut Piece<PEN_SIZE>, width: u16, height: u16)
+    requires room { length text.old + HEAD_MAX ≤ WRITE_MAX }
     ensures { text.new ≡ text.old ++ head width height }
 {
     text.push_all(b"<?xml version=\"1.0\" encoding=\"UTF-8\"?>\n");
@@ -228,8 +228,8 @@ fn push_head(text: &mut Piece<1208>, width: u16, height: u16)
 
 // Appends all that comes after the last box.
 #[tactic(auto, unfolding(crate::specs::Steps::Svg::tail, crate::specs::Svg::closing))]
-fn push_tail(text: &mut Piece<1208>)
-    requires room { length text.old + 11 ≤ 1200 }
+fn push_tail(text: &mut Piece<PEN_SIZE>)
+    requires room { length text.old + TAIL ≤ WRITE_MAX }
     ensures { text.new ≡ text.old ++ tail }
 {
     text.push_all(b"\"/>\n</svg>\n");

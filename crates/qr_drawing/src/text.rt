@@ -6,8 +6,8 @@
 //! modules of a row, `quad` four and `pair` two. These modules are the bits of a number. Bit 0 is the leftmost module,
 //! and a bit that is 1 is dark.
 //!
-//! A raster has fewer than 1,000 rows (`drawing.rt` says why). So the number of a line, counted from 0, is below 1,000,
-//! and that of the first row that it shows is below 2,000.
+//! A raster has fewer than 1,000 rows (`drawing.rt` says why). So the number of a line, counted from 0, is below 1,000.
+//! The first row of modules that it shows has a number below 2,000.
 
 ghost use Rattle.std.specs.Prelude.{◌≡◌, ℕ, ◌≤◌, ◌<◌, ◌+◌, ◌-◌, ◌*◌, ◌/◌, ◌%◌, ◌++◌, ◌∷◌, [], false, length, map, IfSome};
 ghost use Rattle.std.specs.List.{flat_map};
@@ -18,7 +18,7 @@ ghost use Rattle.qr_drawing.specs.Steps.Pen.{Puts};
 ghost use Rattle.qr_drawing.specs.declared.text.TextStyle.TheVariants.{HalfBlocks, Plain};
 
 use crate::drawing::{HasSquare, Raster};
-use crate::pen::{DrawFault, Pen};
+use crate::pen::{DrawFault, PEN_SIZE, Pen, WRITE_MAX};
 use crate::piece::Piece;
 use qr_devices::Sink;
 use qr_symbol::Matrix;
@@ -34,11 +34,11 @@ pub(crate) enum TextStyle {
     HalfBlocks,
 }
 
-// Returns the greatest number of bytes of `count` cells. The pen has room for 399 cells of at most three bytes each.
+// Returns how many bytes `count` cells have at most. The pen has room for 399 cells of at most three bytes each.
 fn cells_room(style: TextStyle, count: u16) -> usize
     requires { count < 400 }
     ensures value { result ≡ count * cell_room style }
-    ensures most { result < 1200 }
+    ensures most { result < WRITE_MAX }
 {
     match style {
         TextStyle::Plain | TextStyle::Inverse => usize::from(count) * 2,
@@ -71,8 +71,8 @@ fn line_count(style: TextStyle, rows: u16) -> u16
     }
 }
 
-fn push_module(text: &mut Piece<1208>, dark: bool)
-    requires room { length text.old + 2 ≤ 1200 }
+fn push_module(text: &mut Piece<PEN_SIZE>, dark: bool)
+    requires room { length text.old + 2 ≤ WRITE_MAX }
     ensures { text.new ≡ text.old ++ ascii_module dark }
 {
     let character = if dark { b'#' } else { b' ' };
@@ -80,8 +80,8 @@ fn push_module(text: &mut Piece<1208>, dark: bool)
 }
 
 // Appends one character, whose filled parts are light modules.
-fn push_half_block(text: &mut Piece<1208>, upper: bool, lower: bool)
-    requires room { length text.old + 3 ≤ 1200 }
+fn push_half_block(text: &mut Piece<PEN_SIZE>, upper: bool, lower: bool)
+    requires room { length text.old + 3 ≤ WRITE_MAX }
     ensures items { text.new ≡ text.old ++ half_blocks upper lower }
     ensures len { length text.new ≤ length text.old + 3 }
 {
@@ -99,8 +99,8 @@ fn push_half_block(text: &mut Piece<1208>, upper: bool, lower: bool)
     text.push(last);
 }
 
-fn push_cell(text: &mut Piece<1208>, style: TextStyle, upper: bool, lower: bool)
-    requires room { length text.old + cell_room style ≤ 1200 }
+fn push_cell(text: &mut Piece<PEN_SIZE>, style: TextStyle, upper: bool, lower: bool)
+    requires room { length text.old + cell_room style ≤ WRITE_MAX }
     ensures { text.new ≡ text.old ++ cell_text style upper lower }
 {
     match style {
@@ -110,7 +110,8 @@ fn push_cell(text: &mut Piece<1208>, style: TextStyle, upper: bool, lower: bool)
     }
 }
 
-// Returns the row of the square that row `row` of the raster shows, or `None` in the margin and below the raster.
+// Returns which row of the square is in row `row` of the raster. It is `None` if that row is in the margin or below the
+// raster.
 #[tactic(auto, using(crate::proofs::lemmas::svg::PathLemmas::is_dark_at_above, crate::proofs::lemmas::svg::PathLemmas::is_dark_at_below))]
 fn square_row(raster: &Raster, row: u16) -> Option<u8>
     ensures { ShowsRow raster.now.margin raster.now.matrix.now row result }
@@ -191,9 +192,9 @@ static HALF_BLOCK_PAIRS: [([u8; 8], usize); 16] = [
 
 // Appends two characters. All eight bytes of the entry are copied, however many bytes the characters have.
 #[inline(always)]
-fn push_half_block_pair(text: &mut Piece<1208>, pair: u8)
+fn push_half_block_pair(text: &mut Piece<PEN_SIZE>, pair: u8)
     requires small { pair < 16 }
-    requires room { length text.old + 6 ≤ 1200 }
+    requires room { length text.old + 6 ≤ WRITE_MAX }
     ensures { text.new ≡ text.old ++ pair_text pair }
 {
     let (bytes, count) = HALF_BLOCK_PAIRS[usize::from(pair)];
@@ -203,8 +204,8 @@ fn push_half_block_pair(text: &mut Piece<1208>, pair: u8)
 // Appends four characters. Their upper modules are bits 0 to 3 of `upper`, and their lower modules bits 0 to 3 of
 // `lower`.
 #[inline(always)]
-fn push_half_block_quad(text: &mut Piece<1208>, upper: u8, lower: u8)
-    requires room { length text.old + 12 ≤ 1200 }
+fn push_half_block_quad(text: &mut Piece<PEN_SIZE>, upper: u8, lower: u8)
+    requires room { length text.old + 12 ≤ WRITE_MAX }
     ensures { text.new ≡ text.old ++ bits_text 4 HalfBlocks upper lower }
 {
     push_half_block_pair(text, upper % 4 + lower % 4 * 4);
@@ -213,8 +214,8 @@ fn push_half_block_quad(text: &mut Piece<1208>, upper: u8, lower: u8)
 
 // Appends four cells, whose modules are bits 0 to 3 of `upper` and `lower`.
 #[inline(always)]
-fn push_quad(text: &mut Piece<1208>, style: TextStyle, upper: u8, lower: u8)
-    requires room { length text.old + 4 * cell_room style ≤ 1200 }
+fn push_quad(text: &mut Piece<PEN_SIZE>, style: TextStyle, upper: u8, lower: u8)
+    requires room { length text.old + 4 * cell_room style ≤ WRITE_MAX }
     ensures { text.new ≡ text.old ++ bits_text 4 style upper lower }
 {
     match style {
@@ -235,8 +236,8 @@ fn ascii_eight(bits: u8) -> [u8; 16]
 
 // Appends eight cells, whose modules are bits 0 to 7 of `upper` and `lower`.
 #[inline(always)]
-fn push_eight(text: &mut Piece<1208>, style: TextStyle, upper: u8, lower: u8)
-    requires room { length text.old + 8 * cell_room style ≤ 1200 }
+fn push_eight(text: &mut Piece<PEN_SIZE>, style: TextStyle, upper: u8, lower: u8)
+    requires room { length text.old + 8 * cell_room style ≤ WRITE_MAX }
     ensures { text.new ≡ text.old ++ bits_text 8 style upper lower }
 {
     match style {
@@ -249,64 +250,28 @@ fn push_eight(text: &mut Piece<1208>, style: TextStyle, upper: u8, lower: u8)
     }
 }
 
-// Appends `count` times four light cells. The name `done` is for the prover.
+// Appends `count` light cells. The names of the loops' variables are for the prover.
 #[inline(always)]
-fn push_light_quads(text: &mut Piece<1208>, style: TextStyle, count: u16)
-    requires room { length text.old + count * 4 * cell_room style ≤ 1200 }
-    ensures items { text.new ≡ text.old ++ texts_below (count * 4) (λ _. cell_text style false false) }
-    ensures len { length text.new ≤ length text.old + count * 4 * cell_room style }
-{
-    for done in 0..count {
-        push_quad(text, style, 0, 0);
-    }
-}
-
-// Appends `count` light cells. The name `done` is for the prover.
-#[inline(always)]
-fn push_light(text: &mut Piece<1208>, style: TextStyle, count: u16)
-    requires room { length text.old + count * cell_room style ≤ 1200 }
+fn push_light(text: &mut Piece<PEN_SIZE>, style: TextStyle, count: u16)
+    requires room { length text.old + count * cell_room style ≤ WRITE_MAX }
     ensures items { text.new ≡ text.old ++ texts_below count (λ _. cell_text style false false) }
     ensures len { length text.new ≤ length text.old + count * cell_room style }
 {
-    push_light_quads(text, style, count / 4);
-    for done in 0..count % 4 {
+    for quads in 0..count / 4 {
+        push_quad(text, style, 0, 0);
+    }
+    for cells in 0..count % 4 {
         push_cell(text, style, false, false);
     }
 }
 
-// Appends `count` cells from column `first` of the raster on, one by one. They show the last columns of the square,
-// which are fewer than four.
-#[inline(always)]
-fn push_cells(
-    text: &mut Piece<1208>,
-    style: TextStyle,
-    raster: &Raster,
-    row: u16,
-    first: u16,
-    count: u16,
-)
-    requires row_in { row < 2000 }
-    requires first_in { first < 1000 }
-    requires room { length text.old + count * cell_room style ≤ 1200 }
-    ensures items { text.new
-        ≡ text.old ++ texts_below count (λ i. cell_at style raster.now.margin raster.now.matrix.now row (first + i)) }
-    ensures len { length text.new ≤ length text.old + count * cell_room style }
-{
-    for done in 0..count {
-        let x = first + done;
-        let upper = raster.is_dark_at(row, x);
-        let lower = raster.is_dark_at(row + 1, x);
-        push_cell(text, style, upper, lower);
-    }
-}
-
 // Appends the cells of row `row` of the raster, without the margin: eight columns at a time, and then four if at least
-// four are left. It leaves out the columns that then remain. They are fewer than four; in a symbol it is one column.
+// four are left. It leaves out the last columns, of which there are fewer than four. (In a symbol this is one column.)
 // The label of the loop is for the prover.
 #[inline(always)]
-fn push_columns(text: &mut Piece<1208>, style: TextStyle, raster: &Raster, row: u16)
+fn push_columns(text: &mut Piece<PEN_SIZE>, style: TextStyle, raster: &Raster, row: u16)
     requires row_in { row < 2000 }
-    requires room { length text.old + raster.now.matrix.now.side * cell_room style ≤ 1200 }
+    requires room { length text.old + raster.now.matrix.now.side * cell_room style ≤ WRITE_MAX }
     ensures { text.new ≡ text.old ++ texts_below (raster.now.matrix.now.side / 4 * 4)
         (λ i. cell_at style raster.now.margin raster.now.matrix.now row (raster.now.margin + i)) }
 {
@@ -327,32 +292,30 @@ fn push_columns(text: &mut Piece<1208>, style: TextStyle, raster: &Raster, row: 
     }
 }
 
-// Appends the cells of the columns that `push_columns` leaves out, and then the right margin and the newline.
+// Appends the cells of the columns that `push_columns` leaves out, one by one. Then it appends the right margin and the
+// newline.
 #[inline(always)]
-fn push_rest(text: &mut Piece<1208>, style: TextStyle, raster: &Raster, row: u16)
+fn push_rest(text: &mut Piece<PEN_SIZE>, style: TextStyle, raster: &Raster, row: u16)
     requires row_in { row < 2000 }
     requires room { length text.old
-        + (raster.now.matrix.now.side % 4 * cell_room style + raster.now.margin * cell_room style + 1) ≤ 1200 }
+        + (raster.now.matrix.now.side % 4 * cell_room style + raster.now.margin * cell_room style + 1) ≤ WRITE_MAX }
     ensures { text.new ≡ text.old ++ (texts_below (raster.now.matrix.now.side % 4)
         (λ i. cell_at style raster.now.margin raster.now.matrix.now row (raster.now.margin + raster.now.matrix.now.side / 4 * 4 + i))
         ++ (texts_below raster.now.margin (λ _. cell_text style false false) ++ 10 ∷ [])) }
 {
-    let first = u16::from(raster.margin);
-    let last = u16::from(raster.matrix.side() % 4);
-    push_cells(
-        text,
-        style,
-        raster,
-        row,
-        first + u16::from(raster.matrix.side() / 4 * 4),
-        last,
-    );
-    push_light(text, style, first);
+    let margin = u16::from(raster.margin);
+    let first = margin + u16::from(raster.matrix.side() / 4 * 4);
+    for done in 0..u16::from(raster.matrix.side() % 4) {
+        let upper = raster.is_dark_at(row, first + done);
+        let lower = raster.is_dark_at(row + 1, first + done);
+        push_cell(text, style, upper, lower);
+    }
+    push_light(text, style, margin);
     text.push(b'\n');
 }
 
-// Writes line `y` in three parts, because a whole line may be longer than the pen: the left margin, the columns that
-// `push_columns` appends, and what `push_rest` appends.
+// Writes line `y` in three parts: the left margin, the columns that `push_columns` appends, and what `push_rest`
+// appends. The pen may have too little room for a whole line at once.
 #[inline(always)]
 fn put_line<W: Sink>(
     pen: &mut Pen,
@@ -377,27 +340,9 @@ fn put_line<W: Sink>(
     Ok(())
 }
 
-#[inline(never)]
-fn put_lines<W: Sink>(
-    pen: &mut Pen,
-    out: &mut W,
-    style: TextStyle,
-    raster: &Raster,
-) -> Result<(), DrawFault>
-    ensures { Puts (W.device out.old) (W.device out.new)
-        pen.old pen.new (text_drawing style raster.now.margin raster.now.matrix.now) result }
-{
-    match style {
-        TextStyle::Plain => put_lines_of(pen, out, TextStyle::Plain, raster),
-        TextStyle::Inverse => put_lines_of(pen, out, TextStyle::Inverse, raster),
-        TextStyle::HalfBlocks => put_lines_of(pen, out, TextStyle::HalfBlocks, raster),
-    }
-}
-
-// Writes all lines of a square. It is inlined into each of its calls in `put_lines`, where the style is a constant, so
-// that no loop has to test the style.
+// Writes all lines of a square.
 #[inline(always)]
-fn put_lines_of<W: Sink>(
+fn put_lines<W: Sink>(
     pen: &mut Pen,
     out: &mut W,
     style: TextStyle,
@@ -412,7 +357,9 @@ fn put_lines_of<W: Sink>(
     Ok(())
 }
 
-/// Writes the texts of all symbols, and nothing between two of them.
+/// Writes the texts of all symbols, and nothing between two of them. It is inlined into each of its calls in
+/// `put_drawing`, where the style is a constant, so that no loop has to test the style.
+#[inline(always)]
 pub(crate) fn put_texts<S: HasSquare, W: Sink>(
     pen: &mut Pen,
     out: &mut W,

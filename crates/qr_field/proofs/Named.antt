@@ -1,7 +1,7 @@
 -- The lemmas that attributes of functions name.
 use Rattle.qr_field.proofs.lemmas.galois.ByteLemmas.{product-of_zero}
 use Rattle.qr_field.proofs.lemmas.laws.DistanceLemmas.{erasures-read, errors-read}
-use Rattle.qr_field.proofs.lemmas.logarithm.PowerLemmas.{powers-at, product-of_powers}
+use Rattle.qr_field.proofs.lemmas.galois.PowerLemmas.{powers-at, product-of_powers}
 use Rattle.qr_field.proofs.lemmas.polynomial.PolynomialLemmas.{generator-next, length-carried, power-next}
 use Rattle.qr_field.proofs.lemmas.register.RegisterLemmas.{halves-rest}
 

@@ -1,6 +1,5 @@
 -- Lemmas, in folders by the file of src that they serve, in the order in which they are read.
 pub mod galois
-pub mod logarithm
 pub mod polynomial
 pub mod register
 pub mod divisor

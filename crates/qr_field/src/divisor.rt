@@ -1,7 +1,7 @@
 //! The division by a generator polynomial, as a shift register does it, one codeword at a time (ISO/IEC 18004:2015,
 //! 7.5.2). Each step shifts the register by one coefficient, and adds a multiple of the polynomial. The factor of this
-//! multiple can be any element. An element is the sum of its low four bits and its high four bits, so two tables of 16
-//! multiples each are enough. The tables are computed once for all blocks.
+//! multiple can be any of the 256 elements of the field. But an element is the sum of its low four bits and its high
+//! four bits, so two tables of 16 multiples each are enough. The tables are computed once for all blocks.
 
 ghost use Rattle.std.specs.Prelude.{◌≡◌, ◌+◌, ◌<◌, ◌≤◌, ℕ, List, length, slice_index_or, take};
 ghost use Rattle.qr_field.specs.Steps.Register.{HasMultiples, IsHeld, divisor_of, packed, unpacked, value_of};
@@ -17,8 +17,8 @@ use std::marker::Model;
 #[derive(Drop)]
 pub struct Divisor {
     count: usize,
-    // At the index f, `low` has the product of f and the coefficients after the leading 1. At the same index, `high`
-    // has the product of these coefficients and f shifted left by four bits.
+    // At the index f, `low` has the products of f and each coefficient of the generator polynomial after its leading 1.
+    // At the same index, `high` has the products of these coefficients and f shifted left by four bits.
     low: [Register; 16],
     high: [Register; 16],
 }
@@ -35,8 +35,8 @@ impl Model for Divisor {
         × HasMultiples (divisor_of d.count) 4 16 d.high };
 }
 
-// Returns the multiples of `by_one` by the elements 0 to 15. Each of them is a sum of some of the multiples by 1, 2, 4
-// and 8.
+// Returns the products of `by_one` and each of the elements 0 to 15. Each product is a sum of some of the products with
+// 1, 2, 4 and 8.
 fn multiples(by_one: Register) -> [Register; 16]
     ensures { HasMultiples (unpacked 32 (value_of by_one)) 0 16 result }
 {
@@ -77,13 +77,6 @@ impl Divisor {
         self.count
     }
 
-    fn multiple(&self, factor: u8) -> Register
-        ensures { value_of result ≡ packed (scaled factor (divisor_of self.now)) }
-    {
-        let place = usize::from(factor);
-        self.low[place & 0xF].plus(self.high[place >> 4])
-    }
-
     // Returns the register after one more codeword. In the contract `m` are the data codewords of the block. If the
     // register held the remainder for the first `i` of them, the result holds the remainder for the first `i + 1`.
     #[inline(always)]
@@ -94,8 +87,9 @@ impl Divisor {
     {
         // Only for the prover.
         prove!(self.count >= 1);
-        let factor = codeword ^ register.first();
-        register.rest().plus(self.multiple(factor))
+        let factor = usize::from(codeword ^ register.first());
+        let multiple = self.low[factor & 0xF].plus(self.high[factor >> 4]);
+        register.rest().plus(multiple)
     }
 
     // Ends a division, and returns its remainder. `register` holds the remainder for the first `done` codewords of

@@ -8,7 +8,7 @@ ghost use Rattle.qr_field.specs.Polynomial.{IsByte, zeros, power, generator_of, 
 ghost use Rattle.qr_field.specs.Distance.{differences, erasures, errors, BlocksLieApart, ErasuresAreUnambiguous};
 ghost use Rattle.qr_field.specs.Laws.{lengths_in_use, printed_exponents, worked_data, worked_correction};
 
-use crate::logarithm::{LOGARITHMS, POWERS};
+use crate::galois::{LOGARITHMS, POWERS};
 
 /// Two elements have exactly one product.
 pub fn product_is_one()
@@ -31,28 +31,28 @@ pub fn tables_are_powers()
     ensures logarithms { (a : ℕ) → 1 ≤ a → IsByte a → power (slice_index LOGARITHMS (a - 1)) ≡ a }
 {}
 
-/// Two products as examples. The first needs nine bits as a product of polynomials, so it is reduced by the prime
-/// modulus polynomial; the second has a factor 0.
+/// Two products as examples. The first product of polynomials needs nine bits, so it is reduced by the prime modulus
+/// polynomial. The second product has a factor 0.
 #[tactic(auto, unfolding(crate::specs::Galois::remainder_of, crate::specs::Galois::carryless, crate::specs::Galois::product))]
 pub fn products_compute()
     ensures reduced { product 0x80 2 ≡ 0x1D }
     ensures zero { product 0 0xFF ≡ 0 }
 {}
 
-/// The generator polynomial of degree 7 with bytes as coefficients, and all generator polynomials that Annex A prints
-/// for QR Code, with powers of 2 as coefficients.
+/// `generator_of` yields the generator polynomial of degree 7, whose coefficients are given here as bytes. It also
+/// yields all those that Annex A prints for QR Code, with powers of 2 as coefficients.
 pub fn generators_compute()
     ensures seven { generator_of 7 ≡ 1 ∷ 0x7F ∷ 0x7A ∷ 0x9A ∷ 0xA4 ∷ 0x0B ∷ 0x44 ∷ 0x75 ∷ [] }
     ensures printed { map generator_of lengths_in_use ≡ map (map power) printed_exponents }
 {}
 
-/// The error correction codewords of the input `01234567` at version 1 and level M, as an example.
+/// An example of error correction codewords: those of the input `01234567` at version 1 and level M.
 pub fn correction_computes()
     ensures { IsCorrection worked_data 10 worked_correction }
 {}
 
 /// Suppose that two blocks have the same number of data codewords and the same number of error correction codewords,
-/// but that their data codewords are not the same. Then the blocks differ in more codewords than one of them has error
+/// but that their data codewords are not the same. Then the blocks differ in more codewords than each of them has error
 /// correction codewords. This holds for blocks of at most 255 codewords.
 pub fn blocks_lie_apart()
     ensures { BlocksLieApart }
@@ -65,8 +65,9 @@ pub fn erasures_are_unambiguous()
     ensures { ErasuresAreUnambiguous }
 {}
 
-/// If all codewords of a block were read, none is an erasure, and the misread ones are those that differ from the
-/// block. So `erasures_are_unambiguous` also speaks of blocks that were read whole.
+/// If every codeword of a block was read, none is erased, and the number of misread codewords is the number of those in
+/// which what was read differs from the undamaged block. So `erasures_are_unambiguous` also speaks of blocks that were
+/// read whole.
 #[tactic(auto, using(crate::proofs::Named::damage))]
 pub fn damage_is_unambiguous()
     ensures read { (xs : List ℕ) → erasures (map (λ x. Some x) xs) ≡ 0 }

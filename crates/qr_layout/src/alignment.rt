@@ -1,11 +1,10 @@
 //! The centres of the alignment patterns (ISO/IEC 18004:2015, 6.3.6 and Annex E). For each version the standard lists
-//! up to seven numbers, which are called `centres` below. Each place whose row and column are both among them is the
-//! centre of an alignment pattern, but for three of these places, which are in the corners with a finder pattern.
-//! `side` is the number of modules on a side.
+//! up to seven numbers, which are called `centres` below. If the row and the column of a place are both among these
+//! numbers, the place is the centre of an alignment pattern. Only three such places are no centres, because they are in
+//! the corners with a finder pattern. `side` is the number of modules on a side.
 
-ghost use Rattle.std.specs.Prelude.{◌≡◌, ◌≤◌, ◌-◌, ◌+◌, ◌&&◌, ◌++◌, ◌∷◌, [], if◌then◌else◌, not, length, nat_le, nat_lt};
-ghost use Rattle.std.specs.List.{list_any, flat_map};
-ghost use Rattle.arrayvec.specs.ArrayVec.{array_vec_len};
+ghost use Rattle.std.specs.Prelude.{◌≡◌, ◌≤◌, ◌-◌, ◌+◌, ◌&&◌, not, nat_le, nat_lt};
+ghost use Rattle.std.specs.List.{list_any};
 ghost use Rattle.qr_layout.specs.Version.{side_of};
 ghost use Rattle.qr_layout.specs.Alignment.{alignment_places, centres_of, is_corner_pair};
 ghost use Rattle.qr_layout.specs.Region.{is_alignment};
@@ -14,8 +13,9 @@ use crate::region::Place;
 use crate::version::Version;
 use arrayvec::ArrayVec;
 
-// The rows of centres for each of the versions 1 to 40, which are also the columns. Zeros fill up each entry to seven
-// numbers (ISO/IEC 18004:2015, Annex E, Table E.1).
+// For each of the versions 1 to 40, the rows that have centres of alignment patterns. The columns that have centres
+// have the same numbers. Zeros fill up each entry of the table to seven numbers (ISO/IEC 18004:2015, Annex E, Table
+// E.1).
 static CENTRES: [[u8; 7]; 40] = [
     [0, 0, 0, 0, 0, 0, 0],
     [6, 18, 0, 0, 0, 0, 0],
@@ -64,7 +64,8 @@ fn centre_list(version: Version) -> &'static [u8]
     ensures { result.now ≡ centres_of version }
 {
     let number = version.number();
-    // Versions 2 to 6 have two rows of centres, and each seventh version has one more than the version before it.
+    // Versions 2 to 6 have two rows of centres. Each of the versions 7, 14, 21, 28 and 35 has one row more than the
+    // version before it.
     let many = if number == 1 {
         0
     } else {
@@ -87,8 +88,8 @@ impl Version {
     }
 }
 
-// Whether a row crosses the alignment patterns whose centres are in row `centre`, or a column those with centres in
-// column `centre`. A pattern reaches two rows and two columns beyond its centre.
+// Whether row `at` crosses the alignment patterns whose centres are in row `centre`. The same holds for columns in
+// place of rows. A pattern reaches two rows and two columns beyond its centre.
 fn is_near(centre: u8, at: u8) -> bool
     ensures { result ≡ (nat_le (centre - 2) at && nat_lt at (centre + 3)) }
 {
@@ -141,22 +142,6 @@ pub(crate) fn is_in_alignment(version: Version, row: u8, col: u8) -> bool
     is_in_pattern(centres, side, row, col)
 }
 
-// Appends the centres in one row, from left to right. There are at most 49 in all, since no version has more than seven
-// rows of centres.
-fn push_centres(places: &mut ArrayVec<Place, 49>, centres: &[u8], side: u8, row: u8)
-    requires side_in { 21 ≤ side }
-    requires room { array_vec_len places.old + length centres.now ≤ 49 }
-    ensures items { places.new.items ≡ places.old.items
-        ++ flat_map (λ b. if is_corner_pair side row b then [] else record { row = row; col = b } ∷ []) centres.now }
-    ensures few { array_vec_len places.new ≤ array_vec_len places.old + length centres.now }
-{
-    for col in centres {
-        if !is_corner_pair(side, row, *col) {
-            places.push(Place { row, col: *col });
-        }
-    }
-}
-
 /// Returns the centres of the alignment patterns of a version, row by row from the top, and in each row from left to
 /// right. Version 1 has none, and version 40 has 46 (ISO/IEC 18004:2015, 6.3.6 and Annex E).
 pub fn alignment_centres(version: Version) -> ArrayVec<Place, 49>
@@ -164,9 +149,17 @@ pub fn alignment_centres(version: Version) -> ArrayVec<Place, 49>
 {
     let side = version.side();
     let centres = centre_list(version);
+    // There is room for all centres, since no version has more than seven rows of them.
     let mut places = ArrayVec::new();
     for row in centres {
-        push_centres(&mut places, centres, side, *row);
+        for col in centres {
+            if !is_corner_pair(side, *row, *col) {
+                places.push(Place {
+                    row: *row,
+                    col: *col,
+                });
+            }
+        }
     }
     places
 }

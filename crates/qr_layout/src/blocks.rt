@@ -8,8 +8,8 @@ ghost use Rattle.qr_layout.specs.Blocks.{correction_len_of, block_count_of, data
 use crate::level::Level;
 use crate::version::Version;
 
-// How many error correction codewords each block has. A row has the versions 1 to 40 of one level; the rows are those
-// of L, M, Q and H.
+// How many error correction codewords each block has. The table has a row for each level, in the order L, M, Q, H. A
+// row has a number for each of the versions 1 to 40.
 static CORRECTION_LENS: [[u8; 40]; 4] = [
     [
         7, 10, 15, 20, 26, 18, 20, 24, 30, 18, 20, 24, 26, 30, 22, 24, 28, 30, 28, 28, 28, 28, 30,
@@ -29,7 +29,7 @@ static CORRECTION_LENS: [[u8; 40]; 4] = [
     ],
 ];
 
-// How many blocks a symbol has. The rows are those of `CORRECTION_LENS`.
+// How many blocks a symbol has. The table has the same rows as `CORRECTION_LENS`.
 static BLOCK_COUNTS: [[u8; 40]; 4] = [
     [
         1, 1, 1, 1, 1, 2, 2, 2, 2, 4, 4, 4, 4, 4, 6, 6, 6, 6, 7, 8, 8, 9, 9, 10, 12, 12, 12, 13,
@@ -88,8 +88,8 @@ impl Version {
         counts[usize::from(self.number() - 1)]
     }
 
-    // How many error correction codewords of a block only detect errors, so that fewer damaged blocks are corrected to
-    // a wrong one. The standard calls this misdecode protection.
+    // How many error correction codewords of a block serve only to detect errors. With them it happens less often that
+    // a badly damaged block is corrected to a wrong block. The standard calls this misdecode protection.
     fn protection(self, level: Level) -> u8
         ensures { result ≡ protection_of self level }
     {
@@ -101,9 +101,9 @@ impl Version {
         }
     }
 
-    /// Returns how many error correction codewords of a block correct errors, from 4 to 30. From version 4 on these are
-    /// all that the block has. In some levels of the versions 1 to 3 they are one to three fewer, because these only
-    /// detect errors (ISO/IEC 18004:2015, 7.5.1, Table 9).
+    /// Returns how many error correction codewords of a block correct errors, from 4 to 30. From version 4 on, all
+    /// error correction codewords do. At some levels of the versions 1 to 3, one to three of them only detect errors,
+    /// and are not counted (ISO/IEC 18004:2015, 7.5.1, Table 9).
     pub fn spare(self, level: Level) -> u8
         ensures { result ≡ spare_of self level }
     {
@@ -112,8 +112,8 @@ impl Version {
     }
 
     /// Returns how many misread codewords of a block can be corrected, from 2 to 15, if no codeword of the block is
-    /// known to be unreadable. Each takes two of the `spare` error correction codewords (ISO/IEC 18004:2015, 7.5.1,
-    /// Table 9).
+    /// known to be unreadable. Each misread codeword uses up two of the error correction codewords that `spare` counts
+    /// (ISO/IEC 18004:2015, 7.5.1, Table 9).
     pub fn correctable(self, level: Level) -> u8
         ensures { result ≡ correctable_of self level }
     {

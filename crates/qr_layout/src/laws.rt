@@ -35,17 +35,17 @@ pub fn order_is_one(version: Version)
     ensures { (ms ns : List Place) → IsOrder version ms → IsOrder version ns → ms ≡ ns }
 {}
 
-/// The order has a module for each bit of the codewords and for each remainder bit. These are at most 29,648, in
+/// The order has a module for each bit of the codewords and for each remainder bit. At most it has 29,648 modules, in
 /// version 40.
 pub fn order_is_full(version: Version)
     ensures count { (ms : List Place) → IsOrder version ms → length ms ≡ module_count_of version }
     ensures most { module_count_of version ≤ 29648 }
 {}
 
-/// The number of modules of the encoding region is that of the symbol, less those of the three corners, the timing
-/// patterns, the alignment patterns and the version information. The corners have the finder patterns, the separators,
-/// the format information and the dark module. By Table 1 of the standard, codewords and remainder bits have as many
-/// bits.
+/// The encoding region has as many modules as the symbol without the three corners, the timing patterns, the alignment
+/// patterns and the version information. The corners have the finder patterns, the separators, the format information
+/// and the dark module. By Table 1 of the standard, codewords and remainder bits together have as many bits as the
+/// region has modules.
 pub fn region_is_counted(version: Version)
     ensures region { places_passing (side_of version) (is_in_region version) ≡ region_size version }
     ensures filled { module_count_of version ≡ region_size version }
@@ -87,8 +87,10 @@ pub fn nth_place(version: Version, index: usize) -> Option<Place>
     walk(version).nth(index)
 }
 
-/// For the versions 2 to 40, the centres of alignment patterns have the distances that follow from a rule. Version 32
-/// is an exception, for which the rule has another distance (`gap_between`).
+/// For the versions 2 to 40, the rows of the centres of alignment patterns are those that a rule gives. The first is
+/// row 6, and the last is the seventh row from the bottom. From the second to the last they lie at equal distances.
+/// This distance is the least even number for which the second row is no further away from row 6. Version 32 is an
+/// exception: it has 26, where the rule would give 28.
 #[tactic(auto, unfolding(crate::specs::Alignment::centres_of))]
 pub fn centres_are_spaced()
     ensures { map centres_of (range_with_len 2 39) ≡ map spaced_centres (range_with_len 2 39) }
@@ -113,8 +115,8 @@ pub fn correction_lens_compute()
     ensures h { map (λ v. correction_len_of v H) all_versions ≡ map (printed_correction H) all_versions }
 {}
 
-/// For every version and level, as many misread codewords of a block can be corrected as Table 9 of the standard
-/// prints.
+/// For every version and level, `correctable_of` is the number that Table 9 of the standard prints: how many misread
+/// codewords of a block can be corrected.
 #[tactic(auto, unfolding(crate::specs::Blocks::correction_len_of))]
 pub fn correctable_numbers_compute()
     ensures l { map (λ v. correctable_of v L) all_versions ≡ printed_errors L }
@@ -123,8 +125,8 @@ pub fn correctable_numbers_compute()
     ensures h { map (λ v. correctable_of v H) all_versions ≡ printed_errors H }
 {}
 
-/// In six pairs of version and level some error correction codewords of a block only detect errors. From version 4 on
-/// all of them correct errors, and in the versions 2 and 3 all of the levels M, Q and H.
+/// For six pairs of version and level, some error correction codewords of a block only detect errors. From version 4
+/// on, and at the levels M, Q and H of the versions 2 and 3, all of them correct errors.
 #[tactic(auto, unfolding(crate::specs::Blocks::correction_len_of))]
 pub fn protection_computes()
     ensures protection_one { protection_of 1 L ≡ 3 × protection_of 1 M ≡ 2 }

@@ -24,8 +24,8 @@ use crate::version::Version;
 use std::marker::Model;
 
 // Where the walk is: at the right or the left module of a row of a strip. `strips_left` is how many strips are still to
-// be visited, this one included. The walk goes from right to left, so this is also the number of the strip, counted
-// from 1 at the left. If it is 0, the walk is at its end.
+// be visited, this one included. The walk goes from right to left, so `strips_left` is also the number of the strip,
+// counted from 1 at the left. If it is 0, the walk is at its end.
 #[derive(Clone, Copy)]
 struct Cursor {
     strips_left: u8,
@@ -93,7 +93,7 @@ impl Cursor {
 ///
 /// # Notes
 ///
-/// It stores a version and where it is, but no list of places.
+/// The iterator stores the version and the place that it has reached, but no list of places.
 #[derive(Drop)]
 pub struct Places {
     version: Version,

@@ -1,5 +1,5 @@
-//! Rectangles that cover all modules outside the encoding region, but for the alignment patterns (ISO/IEC 18004:2015,
-//! 6.3).
+//! Rectangles that cover all modules outside the encoding region, except those of alignment patterns (ISO/IEC
+//! 18004:2015, 6.3).
 
 ghost use Rattle.std.specs.Prelude.{◌≡◌};
 ghost use Rattle.qr_layout.specs.Rectangles.{AreFixed};
@@ -8,8 +8,8 @@ use crate::version::Version;
 use arrayvec::ArrayVec;
 use std::ops::Range;
 
-/// A rectangle of modules. It has the rows from `top` on, up to that before `bottom`, and the columns from `left` on,
-/// up to that before `right`.
+/// A rectangle of modules. It has the rows from `top` to the one before `bottom`, and the columns from `left` to the
+/// one before `right`.
 #[derive(Clone, Copy, Default)]
 pub struct Rectangle {
     pub top: u8,
@@ -33,10 +33,11 @@ impl Rectangle {
     }
 }
 
-/// Returns rectangles that cover all modules of a version outside the encoding region, but for the alignment patterns.
-/// Three are the corners with a finder pattern, its separator and modules of the format information. Two are row 6 and
-/// column 6, which have the timing patterns. From version 7 on, two more are the copies of the version information.
-/// Some of the rectangles overlap (ISO/IEC 18004:2015, 6.3.3 to 6.3.5, 7.9 and 7.10).
+/// Returns rectangles that cover all modules of a version outside the encoding region, except those of alignment
+/// patterns. Three rectangles are the corners with a finder pattern, its separator and modules of the format
+/// information. Two are row 6 and column 6, which have the timing patterns. From version 7 on, there are two more for
+/// the copies of the version information. Some of the rectangles overlap (ISO/IEC 18004:2015, 6.3.3 to 6.3.5, 7.9 and
+/// 7.10).
 pub fn fixed_rectangles(version: Version) -> ArrayVec<Rectangle, 7>
     ensures { AreFixed version result.items }
 {

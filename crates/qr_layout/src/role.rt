@@ -26,15 +26,16 @@ pub enum Role {
     Region,
 }
 
-// The number of the square ring around the place (a, b) that contains the place (row, col). Ring 0 is (a, b) itself,
-// and ring 1 the eight places around it.
+// The number of the square ring in which the place (row, col) lies, if rings are counted around the place (a, b). Ring
+// 0 is (a, b) itself, and ring 1 is the eight places around it.
 fn ring(a: u8, b: u8, row: u8, col: u8) -> u8
     ensures { result ≡ ring_of a b row col }
 {
     a.abs_diff(row).max(b.abs_diff(col))
 }
 
-// The number of the ring around the nearest centre of a finder pattern.
+// The number of the ring in which the place (row, col) lies, if rings are counted around the nearest centre of a finder
+// pattern.
 fn finder_ring(side: u8, row: u8, col: u8) -> u8
     requires { 21 ≤ side }
     ensures { result ≡ finder_ring side row col }
@@ -43,7 +44,7 @@ fn finder_ring(side: u8, row: u8, col: u8) -> u8
     ring(3, 3, row, col).min(ring(3, far, row, col).min(ring(far, 3, row, col)))
 }
 
-// Whether a place is in a light ring of an alignment pattern.
+// Whether a place is in the light ring of an alignment pattern, which is ring 1 around its centre.
 #[tactic(auto, unfolding(crate::specs::Role::is_alignment_light))]
 fn is_alignment_light(version: Version, row: u8, col: u8) -> bool
     ensures { result ≡ is_alignment_light version row col }

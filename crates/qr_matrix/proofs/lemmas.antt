@@ -6,8 +6,7 @@ pub mod row_pair
 pub mod dark_runs
 pub mod transposition
 pub mod difference
-pub mod adders
+pub mod rows
 pub mod runs
-pub mod squares
 pub mod windows
 pub mod penalties

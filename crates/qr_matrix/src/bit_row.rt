@@ -1,18 +1,20 @@
 //! The rows of a `Matrix`, in words of 64 bits, so that one operation works on 64 modules. A bit that is 1 is called
 //! set.
 
+ghost use Rattle.std.proofs.Common.{rules};
 ghost use Rattle.std.specs.Prelude.{◌≡◌, ℕ, List, ◌+◌, ◌-◌, ◌*◌, ◌/◌, ◌%◌, ◌^◌, ◌<◌, ◌≤◌, ◌&&◌, ◌||◌, not, true, false, nat_le, nat_lt, ◌==◌, if◌then◌else◌};
 ghost use Rattle.std.specs.Iterator.{YieldsFirst};
 ghost use Rattle.qr_matrix.specs.Grid.{is_same};
 ghost use Rattle.qr_matrix.specs.BitRow.{has, has_bit};
 ghost use Rattle.qr_matrix.specs.Steps.{set_bits, size_of};
 
+use crate::rows::Rows;
 use std::marker::Model;
 use std::ops::{BitAnd, BitOr, BitXor, Not};
 
 /// A row of 192 bits in three words of 64 bits; bit 0 is the lowest bit of the first word.
 #[derive(Clone, Copy)]
-pub struct BitRow([u64; 3]);
+pub struct BitRow(pub(crate) [u64; 3]);
 
 impl Model for BitRow {
     ghost use Rattle.std.specs.Prelude.{ℕ, List};
@@ -74,48 +76,17 @@ impl Not for BitRow {
 impl BitRow {
     pub(crate) const EMPTY: BitRow = BitRow([0; 3]);
 
-    pub(crate) fn of(words: [u64; 3]) -> BitRow
-        ensures { result ≡ words }
-    {
-        BitRow(words)
-    }
-
-    pub(crate) fn words(self) -> [u64; 3]
-        ensures { result ≡ self }
-    {
-        self.0
-    }
-
     pub(crate) fn below(n: u8) -> BitRow
         requires { n ≤ 192 }
         ensures { (c : ℕ) → has result c ≡ nat_lt c n }
     {
-        let n = u32::from(n);
         if n < 64 {
-            return BitRow([low_bits(n), 0, 0]);
+            return BitRow::below_in(n, 1);
         }
         if n < 128 {
-            return BitRow([u64::MAX, low_bits(n - 64), 0]);
+            return BitRow::below_in(n, 2);
         }
-        BitRow([u64::MAX, u64::MAX, low_bits(n - 128)])
-    }
-
-    /// As `below`, for an `n` from `64 * (words - 1)` to `64 * words`. If `words` is a constant, only one word has to
-    /// be computed, as the other two are constants.
-    #[inline(always)]
-    pub(crate) fn below_in(n: u8, words: u8) -> BitRow
-        requires least { 64 * (words - 1) ≤ n }
-        requires most { n ≤ 64 * words }
-        requires some { 1 ≤ words }
-        requires three { words ≤ 3 }
-        ensures { (c : ℕ) → has result c ≡ nat_lt c n }
-    {
-        let n = u32::from(n);
-        match words {
-            1 => BitRow([low_bits(n), 0, 0]),
-            2 => BitRow([u64::MAX, low_bits(n - 64), 0]),
-            _ => BitRow([u64::MAX, u64::MAX, low_bits(n - 128)]),
-        }
+        BitRow::below_in(n, 3)
     }
 
     pub(crate) fn repeated(pattern: u8) -> BitRow
@@ -128,61 +99,12 @@ impl BitRow {
         BitRow([word, word << 2 | pattern >> 4, word << 4 | pattern >> 2])
     }
 
-    pub(crate) fn and_not(self, other: BitRow) -> BitRow
-        ensures { (c : ℕ) → has result c ≡ (has self c && not (has other c)) }
-    {
-        self ^ (self & other)
-    }
-
-    /// Moves each bit `steps` columns to the left. Bit 0 is the leftmost, so the words themselves are shifted to the
-    /// right.
-    pub(crate) fn shifted_left(self, steps: u32) -> BitRow
-        requires some { 0 < steps }
-        requires few { steps < 64 }
-        ensures { (c : ℕ) → has result c ≡ has self (c + steps) }
-    {
-        let a = self.0;
-        let rest = 64 - steps;
-        BitRow([
-            a[0] >> steps | a[1] << rest,
-            a[1] >> steps | a[2] << rest,
-            a[2] >> steps,
-        ])
-    }
-
-    pub(crate) fn shifted_right(self) -> BitRow
-        ensures { (c : ℕ) → c < 192 → has result c ≡ (nat_lt 0 c && has self (c - 1)) }
-    {
-        let a = self.0;
-        BitRow([a[0] << 1, a[1] << 1 | a[0] >> 63, a[2] << 1 | a[1] >> 63])
-    }
-
     pub(crate) fn count(self) -> u32
         ensures value { result ≡ size_of self }
         ensures bound { result ≤ 192 }
     {
         let a = self.0;
         a[0].count_ones() + a[1].count_ones() + a[2].count_ones()
-    }
-
-    /// As `count`, but faster if most of the rows that are counted have no set bit. Where testing for an empty row
-    /// takes longer than counting, the compiler leaves out the test.
-    #[inline(always)]
-    pub(crate) fn rare_count(self) -> u32
-        ensures value { result ≡ size_of self }
-        ensures bound { result ≤ 192 }
-    {
-        if self.is_empty() {
-            return 0;
-        }
-        self.count()
-    }
-
-    pub(crate) fn is_empty(self) -> bool
-        ensures { result ≡ true → (c : ℕ) → has self c ≡ false }
-    {
-        let a = self.0;
-        a[0] | a[1] | a[2] == 0
     }
 
     /// Returns the index of the first set bit, or 192 if no bit is set.
@@ -216,7 +138,8 @@ impl BitRow {
         Some(index)
     }
 
-    // Each branch names its word by a constant, so that the row of an iterator can stay in registers.
+    // In each branch the number of the word is a constant. So the compiler can keep the three words in registers while
+    // an iterator clears one bit after the other.
     #[inline(always)]
     fn clear(&mut self, index: u8)
         requires { index < 192 }
@@ -331,7 +254,8 @@ impl BitRow {
         word >> (index % 64)
     }
 
-    /// Returns the number of set bits from bit `index` up to the first bit that is not set, or to the end of the word.
+    /// Returns the number of set bits from bit `index` up to the first bit that is not set, or to the end of the word
+    /// that contains bit `index`.
     #[inline(always)]
     pub fn ones_from(&self, index: u8) -> u8
         requires { index < 192 }
@@ -343,7 +267,7 @@ impl BitRow {
     }
 
     /// Returns the number of set bits from bit `index` down to the first bit that is not set, or to the lowest bit of
-    /// the word.
+    /// the word that contains bit `index`.
     #[inline(always)]
     pub fn ones_down_from(&self, index: u8) -> u8
         requires { index < 192 }
@@ -353,6 +277,75 @@ impl BitRow {
     {
         (self.0[usize::from(index / 64)] << (63 - index % 64)).leading_ones() as u8
     }
+}
+
+impl Rows for BitRow {
+    type Counts = u32;
+
+    ghost bit = { λ row _. has row };
+
+    ghost number = { λ count _. count };
+
+    // If `words` is a constant, only one word has to be computed, as the other two are constants.
+    #[inline(always)]
+    fn below_in(n: u8, words: u8) -> BitRow {
+        let n = u32::from(n);
+        match words {
+            1 => BitRow([low_bits(n), 0, 0]),
+            2 => BitRow([u64::MAX, low_bits(n - 64), 0]),
+            _ => BitRow([u64::MAX, u64::MAX, low_bits(n - 128)]),
+        }
+    }
+
+    #[inline(always)]
+    fn shifted_left(self, steps: u32) -> BitRow {
+        let a = self.0;
+        let rest = 64 - steps;
+        BitRow([
+            a[0] >> steps | a[1] << rest,
+            a[1] >> steps | a[2] << rest,
+            a[2] >> steps,
+        ])
+    }
+
+    #[inline(always)]
+    fn shifted_right(self) -> BitRow {
+        let a = self.0;
+        BitRow([a[0] << 1, a[1] << 1 | a[0] >> 63, a[2] << 1 | a[1] >> 63])
+    }
+
+    #[inline(always)]
+    fn is_empty(self) -> bool {
+        let a = self.0;
+        a[0] | a[1] | a[2] == 0
+    }
+
+    #[inline(always)]
+    fn zeros() -> u32 {
+        0
+    }
+
+    #[inline(always)]
+    fn plus(counts: u32, others: u32) -> u32 {
+        counts + others
+    }
+
+    #[inline(always)]
+    fn add_to(self, counts: u32) -> u32 {
+        counts + self.count()
+    }
+
+    ghost can_bitand_law = { λ _ _. Prim.search rules };
+
+    ghost bitand_law = { λ a b r h _. h };
+
+    ghost can_bitor_law = { λ _ _. Prim.search rules };
+
+    ghost bitor_law = { λ a b r h _. h };
+
+    ghost can_bitxor_law = { λ _ _. Prim.search rules };
+
+    ghost bitxor_law = { λ a b r h _. h };
 }
 
 pub(crate) fn low_bits(n: u32) -> u64

@@ -1,9 +1,10 @@
 //! The modules of a square as bytes, row by row. A dark module is written as 1 and a light one as 0. When bytes are
 //! read, every byte but 0 means a dark module, and 2 means also that the module is not known.
 //!
-//! Eight modules are read or written at once, as one number of 64 bits, which every processor has. At the end of a row,
-//! bytes of the rows that follow are read or overwritten too. So the last rows, which have too few bytes after them,
-//! are read and written module by module. A row that has other bytes than 0 and 1 is also read module by module.
+//! Eight modules are read or written at once, by operations on numbers of 64 bits, which every processor has. At the
+//! end of a row, bytes of the rows that follow are read or overwritten too. So the last rows, which have too few bytes
+//! after them, are read and written module by module. A row that has other bytes than 0 and 1 is also read module by
+//! module.
 
 ghost use Rattle.std.specs.Prelude.{◌≡◌, ℕ, ◌+◌, ◌*◌, ◌<◌, ◌≤◌, ◌⊎◌, ◌&&◌, ◌==◌, not, false, nat_lt, length, slice_index_or, IfOk, IfSome};
 ghost use Rattle.qr_matrix.specs.Grid.{colour};
@@ -12,7 +13,7 @@ ghost use Rattle.qr_matrix.specs.Bytes.{byte_of, square_of_bytes, square_of_unkn
 
 use crate::bit_row::BitRow;
 use crate::matrix::Matrix;
-use crate::rows::words_for;
+use crate::rows::{Rows, words_for};
 use std::alloc::{AllocError, Global};
 
 const LIGHT: u8 = 0;
@@ -22,8 +23,8 @@ const NOT_KNOWN: u8 = 2;
 // All bits of eight bytes but the lowest of each. If each byte is 0 or 1, these bits are 0.
 const MORE: u64 = 0xFEFE_FEFE_FEFE_FEFE;
 
-// A product with it moves the lowest bit of byte `k` to bit `k` of the highest byte. If each byte is 0 or 1, nothing is
-// carried into the highest byte.
+// Multiplying eight bytes by this number moves the lowest bit of byte k to bit k of the highest byte. If each byte is 0
+// or 1, nothing is carried into the highest byte.
 const GATHER: u64 = 0x0102_0408_1020_4080;
 
 // The number whose bit k is byte `at + k`, for each k below 8; `None` if one of these bytes is not 0 or 1.
@@ -63,8 +64,8 @@ fn word_of(bytes: &[u8], start: usize) -> Option<u64>
     Some(word)
 }
 
-// The row of `side` modules from byte `start` on. It is read 64 bytes at a time, the last time beyond the end of the
-// row. `None` if byte `end` would be read too, or if a byte that is read is not 0 or 1.
+// Returns the row of `side` modules from byte `start` on. It is read 64 bytes at a time, so bytes after the row are
+// read too. Returns `None` if byte `end` would have to be read, or if a byte that is read is not 0 or 1.
 #[inline(always)]
 fn plain_row_of(bytes: &[u8], start: usize, end: usize, side: u8) -> Option<BitRow>
     requires least { 1 ≤ side }
@@ -86,8 +87,9 @@ fn plain_row_of(bytes: &[u8], start: usize, end: usize, side: u8) -> Option<BitR
     Some(row & BitRow::below(side))
 }
 
-// The columns of the row from byte `start` on whose byte is `byte`, read module by module. Not inlined, since few rows
-// need it, and the code for WebAssembly, which is sent over the network, is then shorter.
+// A row begins at index `start` of `bytes`, with a byte for each of its `side` modules. Returns the columns of this row
+// whose byte is `byte`, and looks at one module after the other. This function is not inlined, because few rows need
+// it. So the code for WebAssembly, which is sent over the network, is shorter.
 #[inline(never)]
 fn modules_of(bytes: &[u8], start: usize, side: u8, byte: u8) -> BitRow
     requires room { start + side ≤ length bytes.now }
@@ -144,8 +146,8 @@ pub fn matrix_of_bytes(alloc: Global, bytes: &[u8], side: u8) -> Result<Matrix, 
     Ok(matrix)
 }
 
-/// Returns the square that `bytes` begins with, as `matrix_of_bytes` does, and a second square, in which a module is
-/// dark exactly if its byte is 2, which means that it is not known.
+/// Returns the square that `bytes` begins with, as `matrix_of_bytes` does, and a second square. In the second square a
+/// module is dark exactly if its byte is 2, which means that the module is not known.
 ///
 /// # Errors
 ///
@@ -174,11 +176,12 @@ pub fn matrices_of_bytes(
     Ok((matrix, unknown))
 }
 
-// 1 in each byte; a product with it is eight copies of a byte.
+// A number in which each of the eight bytes is 1. Its product with a byte is eight copies of the byte.
 const ONES: u64 = 0x0101_0101_0101_0101;
 
 // Byte `k` of the result is bit `k` of `bits`. The product has eight copies of `bits`, and of copy `k` only bit `k` is
-// kept. If this bit is 1, adding 7F (hexadecimal) sets the highest bit of the byte.
+// kept. Then 7F (hexadecimal) is added to each byte, which sets the highest bit of the byte exactly if the kept bit is
+// 1.
 #[inline(always)]
 fn eight_bytes(bits: u64) -> [u8; 8]
     requires { bits < 256 }
@@ -190,7 +193,7 @@ fn eight_bytes(bits: u64) -> [u8; 8]
 }
 
 // Writes the lowest `count` bits of a word as bytes, from byte `at` on. Eight bytes are written at a time, so up to
-// seven bytes after these change too.
+// seven bytes after the last one may change too.
 #[inline(always)]
 fn write_word(word: u64, count: u8, at: usize, bytes: &mut [u8])
     requires most { count ≤ 64 }
@@ -208,7 +211,7 @@ fn write_word(word: u64, count: u8, at: usize, bytes: &mut [u8])
     }
 }
 
-// Writes a row as bytes, from byte `start` on. Up to seven bytes after the row change too.
+// Writes a row as bytes, from byte `start` on. Up to seven bytes after the row may change too.
 fn write_words(matrix: &Matrix, row: usize, start: usize, bytes: &mut [u8])
     requires row_in { row < matrix.now.side }
     requires room { start + matrix.now.side + 7 ≤ length bytes.old }
@@ -217,7 +220,7 @@ fn write_words(matrix: &Matrix, row: usize, start: usize, bytes: &mut [u8])
     ensures others { (i : ℕ) → (i < start) ⊎ (start + matrix.now.side + 7 ≤ i)
         → slice_index_or bytes.new i 0 ≡ slice_index_or bytes.old i 0 }
 {
-    for number in 0..matrix.words() {
+    for number in 0..words_for(matrix.side()) {
         let col = 64 * number;
         let count = (matrix.side() - col).min(64);
         let word = matrix.word(row, usize::from(number));
@@ -257,8 +260,8 @@ fn write_row(matrix: &Matrix, row: u8, start: usize, end: usize, bytes: &mut [u8
     }
 }
 
-/// Writes the modules to `bytes`, row by row from byte `start` on: 1 for a dark module, and 0 for a light one. The
-/// bytes before and after them stay the same.
+/// Writes the modules to `bytes`, row by row from byte `start` on: 1 for a dark module, and 0 for a light one. All
+/// other bytes stay the same.
 pub fn write_square(matrix: &Matrix, start: usize, bytes: &mut [u8])
     requires { start + matrix.now.side * matrix.now.side ≤ length bytes.old }
     ensures modules { (row col : ℕ) → row < matrix.now.side → col < matrix.now.side

@@ -15,10 +15,12 @@ pub struct Run {
     pub end: u8,
 }
 
-/// An iterator over the dark runs of a row, from left to right. Contracts see it as the list of the runs that are left.
+/// An iterator over the dark runs of a row, from left to right. Contracts see it as the list of the runs that are still
+/// to come.
 #[derive(Drop)]
 pub struct DarkRuns {
-    // The columns at which the runs that are left start or end; from left to right, starts and ends take turns.
+    // The columns at which the runs that are still to come start or end. From left to right, starts and ends take
+    // turns.
     changes: BitRow,
 }
 

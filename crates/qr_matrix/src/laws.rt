@@ -1,5 +1,5 @@
-//! Laws of the penalty (ISO/IEC 18004:2015, 7.8.3.1, Table 11), of differences, of bytes and of clones. A function without a
-//! parameter does nothing: its contract is the law.
+//! Laws of the penalty (ISO/IEC 18004:2015, 7.8.3.1, Table 11), of differences, of bytes and of clones. A function
+//! without a parameter does nothing: its contract is the law.
 
 ghost use Rattle.std.specs.Prelude.{◌≡◌, ◌↔◌, ◌<◌, ℕ, Bool, IfOk};
 ghost use Rattle.qr_matrix.specs.Penalty.{over_lines, run_cost, square_count, window_count, penalty_of};
@@ -11,8 +11,7 @@ ghost use Rattle.qr_matrix.specs.Laws.{all_dark, all_light, chequered, ratio_in_
 use crate::bit_row::BitRow;
 use crate::dark_runs::Run;
 use crate::matrix::Matrix;
-use crate::runs::runs_and_squares_of;
-use crate::windows::window_count_of;
+use crate::penalties::count_all;
 use std::alloc::AllocError;
 
 /// For some squares, the definition of the penalty gives the points that were counted by hand from Table 11. It finds
@@ -28,8 +27,8 @@ pub fn penalties_compute()
     ensures inside { over_lines 75 (ratio_in_a_row 60) (window_count 75) ≡ 2 }
 {}
 
-/// The points for the runs of a row or column can be counted module by module: 1 for each module at which five of one
-/// colour begin, and 2 more if their run begins there.
+/// The points for the runs of a row or column can be counted module by module: 1 point for each module at which five
+/// modules of one colour begin, and 2 more points if this module is also the first of its run.
 pub fn runs_cost_by_places()
     ensures { (side : ℕ) (line : ℕ → Bool) → run_cost side line ≡ place_cost side line }
 {}
@@ -39,7 +38,7 @@ pub fn runs_cost_by_places()
 pub fn runs_on_words(m: &Matrix) -> u32
     ensures { result ≡ over_lines m.now.side (colour m.now) (run_cost m.now.side) }
 {
-    runs_and_squares_of(m).0
+    count_all(m).runs
 }
 
 /// Returns the number of two by two squares of one colour. It is counted 64 modules at a time, and is the number that
@@ -47,7 +46,7 @@ pub fn runs_on_words(m: &Matrix) -> u32
 pub fn squares_on_words(m: &Matrix) -> u32
     ensures { result ≡ square_count m.now.side (colour m.now) }
 {
-    runs_and_squares_of(m).1
+    count_all(m).squares
 }
 
 /// Returns the number of windows in all rows and columns. It is counted 64 modules at a time, and is the number that
@@ -55,11 +54,11 @@ pub fn squares_on_words(m: &Matrix) -> u32
 pub fn windows_on_words(m: &Matrix) -> u32
     ensures { result ≡ over_lines m.now.side (colour m.now) (window_count m.now.side) }
 {
-    window_count_of(m)
+    count_all(m).windows
 }
 
-/// The number of differences, `difference_count`, is 0 exactly if two squares have the same colours in all places of
-/// the first.
+/// The number of differences, `difference_count`, is 0 exactly if two squares have the same colour in every place of
+/// the first square.
 pub fn differences_tell_squares_apart()
     ensures { (g h : Grid) → (difference_count g h ≡ 0)
         ↔ ((r c : ℕ) → r < g.side → c < g.side → colour g r c ≡ colour h r c) }

@@ -1,8 +1,7 @@
-//! The modules of a symbol as a square of bit rows, the same modules as bytes, the penalty of a square, and the number of
-//! modules in which two squares differ.
+//! The modules of a symbol as a square of bit rows, the same modules as bytes, the penalty of a square, and the number
+//! of modules in which two squares differ.
 #![tactic(auto)]
 
-mod adders;
 mod bit_row;
 mod bytes;
 mod dark_runs;
@@ -14,7 +13,6 @@ mod penalties;
 mod row_pair;
 mod rows;
 mod runs;
-mod squares;
 mod transposition;
 mod windows;
 

@@ -7,8 +7,8 @@ ghost use Rattle.qr_matrix.specs.Runs.{IsRunEnd};
 ghost use Rattle.qr_matrix.specs.Steps.{NeedsWords, is_change};
 
 use crate::bit_row::BitRow;
-use crate::rows::words_for;
-use crate::transposition::set_transposed_band;
+use crate::rows::{Rows, Squares, words_for};
+use crate::transposition::{set_tile, tile_of, transpose};
 use std::alloc::{AllocError, Global};
 use std::marker::Model;
 
@@ -16,7 +16,7 @@ use std::marker::Model;
 #[derive(Drop)]
 pub struct Matrix {
     side: u8,
-    // From the top down. No bit outside the square is set.
+    // The rows from the top down. No bit outside the square is set.
     rows: Vec<BitRow>,
 }
 
@@ -105,8 +105,8 @@ impl Matrix {
         later.first().min(side)
     }
 
-    // Returns the columns whose module has another colour than the one to its left. Outside the square every module is
-    // light. So column 0 is returned if its module is dark, and column `side` if the last module is dark.
+    // Returns the columns whose module has another colour than the module to its left. Modules outside the square count
+    // as light. So column 0 is returned if its module is dark, and column `side` if the last module is dark.
     #[tactic(auto, unfolding(crate::specs::Steps::is_change))]
     pub(crate) fn changes(&self, row: u8) -> BitRow
         requires { row < self.now.side }
@@ -137,24 +137,6 @@ impl Matrix {
         self.rows[row].word(number)
     }
 
-    pub(crate) fn words(&self) -> u8
-        ensures { NeedsWords self.now.side result }
-    {
-        words_for(self.side)
-    }
-
-    // As `bit_row`, but the compiler sees that the words after the first `words` are 0.
-    #[inline(always)]
-    pub(crate) fn bit_row_in(&self, row: usize, words: u8) -> BitRow
-        requires row_in { row < self.now.side }
-        requires width { NeedsWords self.now.side words }
-        ensures colours { (c : ℕ) → has result c ≡ colour self.now row c }
-        ensures past { (c : ℕ) → self.now.side ≤ c → has result c ≡ false }
-        ensures few { self.now.side ≤ 177 }
-    {
-        self.bit_row(row) & BitRow::below(64 * words)
-    }
-
     /// Makes the module in row `row` and column `col` dark if `dark` is true, and light otherwise.
     pub fn set(&mut self, row: u8, col: u8, dark: bool)
         requires row_in { row < self.old.side }
@@ -183,8 +165,8 @@ impl Matrix {
         self.rows[row].put_word(number, word);
     }
 
-    /// Copies row `row` of `plain` into this square. The module in column `col` is inverted if this place is dark in
-    /// `within` and bit `col % 6` of `pattern` is 1; bit 0 is the lowest bit.
+    /// Copies row `row` of `plain` into this square. The module in column c is inverted if `within` is dark in this row
+    /// and column, and bit `c % 6` of `pattern` is 1. Bit 0 is the lowest bit.
     #[tactic(auto, using(crate::proofs::Named::replaced_facts))]
     pub fn set_row_masked(&mut self, row: u8, plain: &Matrix, within: &Matrix, pattern: u8)
         requires row_in { row < self.old.side }
@@ -200,20 +182,6 @@ impl Matrix {
         self.set_bit_row(row, plain.bit_row(index) ^ inverted);
     }
 
-    #[tactic(auto, using(crate::proofs::Named::replaced_facts))]
-    fn fill_row(&mut self, row: u8, columns: BitRow, dark: bool)
-        requires row_in { row < self.old.side }
-        requires past { (c : ℕ) → self.old.side ≤ c → has columns c ≡ false }
-        ensures { self.new ≡ with_row self.old row (λ c. if has columns c then dark else colour self.old row c) }
-    {
-        let bits = self.bit_row(usize::from(row));
-        if dark {
-            self.set_bit_row(row, bits | columns);
-        } else {
-            self.set_bit_row(row, bits.and_not(columns));
-        }
-    }
-
     /// Makes a rectangle dark if `dark` is true, and light otherwise: the rows `top..bottom` and the columns
     /// `left..right`.
     pub fn fill(&mut self, top: u8, bottom: u8, left: u8, right: u8, dark: bool)
@@ -227,7 +195,13 @@ impl Matrix {
         prove!(self.side <= 177);
         let columns = BitRow::below(right).and_not(BitRow::below(left));
         for row in top..bottom {
-            self.fill_row(row, columns, dark);
+            let bits = self.bit_row(usize::from(row));
+            let filled = if dark {
+                bits | columns
+            } else {
+                bits.and_not(columns)
+            };
+            self.set_bit_row(row, filled);
         }
     }
 
@@ -237,8 +211,31 @@ impl Matrix {
         ensures { self.new ≡ transposed other.now }
     {
         prove!(self.side <= 177);
-        for band in 0..usize::from(self.words()) {
-            set_transposed_band(self, other, band);
+        let words = usize::from(words_for(self.side));
+        for band in 0..words {
+            for word in 0..words {
+                let mut tile = tile_of(other, word, band);
+                transpose(&mut tile);
+                set_tile(self, band, word, &tile);
+            }
         }
+    }
+}
+
+impl Squares for Matrix {
+    type Row = BitRow;
+
+    ghost size = { λ matrix. matrix.side };
+
+    ghost dark = { λ matrix _. colour matrix };
+
+    #[inline(always)]
+    fn side(&self) -> u8 {
+        Matrix::side(self)
+    }
+
+    #[inline(always)]
+    fn row_in(&self, row: usize, words: u8) -> BitRow {
+        self.bit_row(row) & BitRow::below_in(64 * words, words)
     }
 }

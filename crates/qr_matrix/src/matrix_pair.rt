@@ -16,7 +16,7 @@ use std::marker::Model;
 #[derive(Drop)]
 pub struct MatrixPair {
     side: u8,
-    // From the top down. No bit outside the squares is set.
+    // The rows from the top down. No bit outside the squares is set.
     rows: Vec<RowPair>,
 }
 
@@ -62,31 +62,20 @@ impl MatrixPair {
         self.side
     }
 
-    // Replaces row `row` of both squares. The words after the first `words` stay empty.
-    #[inline(always)]
-    fn set_row(&mut self, row: usize, bits: RowPair, words: u8)
-        requires row_in { row < self.old.first.side }
-        requires past { (second : Bool) (c : ℕ) → self.old.first.side ≤ c → has (lane bits second) c ≡ false }
-        requires width { NeedsWords self.old.first.side words }
-        ensures { (second : Bool) → one_of self.new second
-            ≡ with_row (one_of self.old second) row (has (lane bits second)) }
-    {
-        self.rows[row].put_words(words, bits);
-    }
-
-    /// Makes the module in row `row` and column `col` of each square dark if the square's part of `dark` is true, and
-    /// light otherwise.
+    /// Sets the module in row `row` and column `col` of both squares. In the first square it becomes dark if `dark.0`
+    /// is true, and in the second if `dark.1` is true. Otherwise it becomes light.
     pub fn set(&mut self, row: u8, col: u8, dark: (bool, bool))
         requires row_in { row < self.old.first.side }
         requires col_in { col < self.old.first.side }
         ensures { (second : Bool) → one_of self.new second
             ≡ painted (one_of self.old second) row col (if second then dark.1 else dark.0) }
     {
-        self.rows[usize::from(row)].put(col, dark);
+        self.set_columns(row, col, 1, (u64::from(dark.0), u64::from(dark.1)));
     }
 
-    /// Sets the `count` modules of row `row` from column `col` on: in each square the module in column `col + k`
-    /// becomes dark if bit `k` of the square's part of `bits` is 1, and light otherwise.
+    /// Sets the `count` modules of row `row` from column `col` on. The module in column `col + k` becomes dark if bit k
+    /// is 1, and light otherwise. The first square takes its bits from `bits.0`, and the second from `bits.1`. Bit 0 is
+    /// the lowest bit.
     #[inline(always)]
     pub fn set_columns(&mut self, row: u8, col: u8, count: u8, bits: (u64, u64))
         requires row_in { row < self.old.first.side }
@@ -116,10 +105,10 @@ impl MatrixPair {
             (λ c. if colour within.now row c && has (lane pattern second) c
             then not (colour plain.now row c) else colour plain.now row c) }
     {
-        let plain = plain.bit_row_in(row, words);
-        let within = within.bit_row_in(row, words);
-        let inverted = RowPair::of(within, within).and(pattern);
-        self.set_row(row, RowPair::of(plain, plain).xor(inverted), words);
+        let plain = plain.row_in(row, words);
+        let within = within.row_in(row, words);
+        let inverted = RowPair::of(within, within) & pattern;
+        self.rows[row].put_words(words, RowPair::of(plain, plain) ^ inverted);
     }
 
     #[inline(always)]
@@ -151,9 +140,9 @@ impl MatrixPair {
         }
     }
 
-    /// Copies every twelfth row of `plain`, from row `first` on, into both squares. In a square, the module in column
-    /// `col` is inverted if its place is dark in `within` and bit `col % 6` of the square's part of `patterns` is 1;
-    /// bit 0 is the lowest bit.
+    /// Copies every twelfth row of `plain`, from row `first` on, into both squares. The module in column c is inverted
+    /// if `within` is dark at its place, and bit `c % 6` of a pattern is 1. This is `patterns.0` for the first square,
+    /// and `patterns.1` for the second. Bit 0 is the lowest bit.
     pub fn set_rows_masked(
         &mut self,
         first: u8,
@@ -193,6 +182,6 @@ impl Squares for MatrixPair {
 
     #[inline(always)]
     fn row_in(&self, row: usize, words: u8) -> RowPair {
-        self.rows[row].in_words(words)
+        self.rows[row] & RowPair::below_in(64 * words, words)
     }
 }

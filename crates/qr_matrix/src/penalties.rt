@@ -7,10 +7,9 @@ ghost use Rattle.qr_matrix.specs.Sums.{places_passing};
 ghost use Rattle.qr_matrix.specs.Penalty.{penalty_of};
 ghost use Rattle.qr_matrix.specs.Steps.{IsCounted, NeedsWords};
 
-use crate::adders::added;
 use crate::matrix::Matrix;
 use crate::matrix_pair::MatrixPair;
-use crate::rows::{Rows, Squares, words_for};
+use crate::rows::{Rows, Squares, added, words_for};
 use crate::runs::runs_and_squares;
 use crate::windows::window_count;
 
@@ -22,8 +21,8 @@ const WINDOW_POINTS: u32 = 40;
 // The points for each whole 5 % by which the share of dark modules differs from a half.
 const BALANCE_POINTS: u32 = 10;
 
-// The number of dark modules. Four rows at a time are added before they are counted; up to three rows that are left are
-// counted one by one.
+// The number of dark modules. Four rows at a time are added column by column before bits are counted. The last rows, at
+// most three, are counted one by one.
 #[inline(never)]
 fn dark_count<S: Squares, const WORDS: u8>(squares: &S) -> <S::Row as Rows>::Counts
     requires width { NeedsWords (S.size squares.now) WORDS }
@@ -56,26 +55,13 @@ fn dark_count<S: Squares, const WORDS: u8>(squares: &S) -> <S::Row as Rows>::Cou
     total
 }
 
-// The points for the share of dark modules, in twentieths (5 %) of all modules: `20 * dark / modules` twentieths are
-// dark, and 10 twentieths are a half.
-fn balance_cost(modules: u32, dark: u32) -> u32
-    requires some { 0 < modules }
-    requires most { modules ≤ 31329 }
-    requires fits { dark ≤ 33984 }
-    ensures value { result ≡ 10 * (abs_diff (20 * dark) (10 * modules) / modules) }
-    ensures bound { result ≤ 7000000 }
-{
-    let excess = (20 * dark).abs_diff(10 * modules);
-    BALANCE_POINTS * (excess / modules)
-}
-
 // What is counted in each square.
 #[derive(Drop)]
-struct Counted<N> {
-    runs: N,
-    squares: N,
-    windows: N,
-    dark: N,
+pub(crate) struct Counted<N> {
+    pub runs: N,
+    pub squares: N,
+    pub windows: N,
+    pub dark: N,
 }
 
 fn count_in<S: Squares, const WORDS: u8>(squares: &S) -> Counted<<S::Row as Rows>::Counts>
@@ -93,7 +79,7 @@ fn count_in<S: Squares, const WORDS: u8>(squares: &S) -> Counted<<S::Row as Rows
     }
 }
 
-fn count_all<S: Squares>(squares: &S) -> Counted<<S::Row as Rows>::Counts>
+pub(crate) fn count_all<S: Squares>(squares: &S) -> Counted<<S::Row as Rows>::Counts>
     ensures { (second : Bool) → IsCounted (S.size squares.now) (S.dark squares.now second)
         (S.Row.number result.runs second) (S.Row.number result.squares second)
         (S.Row.number result.windows second) (S.Row.number result.dark second) }
@@ -116,10 +102,12 @@ fn points(side: u8, counted: Counted<u32>) -> u32
         → result ≡ penalty_of side dark }
 {
     let modules = u32::from(side) * u32::from(side);
+    // A twentieth of all modules is 5 %. `20 * dark / modules` twentieths are dark, and a half is 10 twentieths.
+    let excess = (20 * counted.dark).abs_diff(10 * modules);
     counted.runs
         + SQUARE_POINTS * counted.squares
         + WINDOW_POINTS * counted.windows
-        + balance_cost(modules, counted.dark)
+        + BALANCE_POINTS * (excess / modules)
 }
 
 /// Returns the penalty of a square: the points for runs of five or more modules of one colour, for two by two squares

@@ -1,5 +1,6 @@
 //! The bit rows of two squares, side by side in vectors, so that one operation works on 64 modules of each square.
 
+ghost use Rattle.std.proofs.Common.{rules};
 ghost use Rattle.std.specs.Prelude.{◌≡◌, ℕ, Bool, List, ◌+◌, ◌-◌, ◌*◌, ◌/◌, ◌%◌, ◌<◌, ◌≤◌, ◌&&◌, ◌||◌, ◌==◌, not, true, false, nat_le, nat_lt, if◌then◌else◌};
 ghost use Rattle.qr_matrix.specs.Grid.{is_same};
 ghost use Rattle.qr_matrix.specs.BitRow.{has, has_bit};
@@ -8,10 +9,11 @@ ghost use Rattle.qr_matrix.specs.Steps.{lane, word_of, IsPair};
 use crate::bit_row::{BitRow, low_bits};
 use crate::rows::Rows;
 use std::marker::Model;
+use std::ops::{BitAnd, BitOr, BitXor};
 use std::simd::prelude::*;
 
-// A row of each of two squares. Each row has 192 bits, in three words of 64 bits. A vector has one word of each row;
-// `low` has the words with the lowest bits.
+// A pair of rows, one of each of two squares. Each row has 192 bits, in three words of 64 bits. A vector has one word
+// of each row; `low` has the words with the lowest bits.
 #[derive(Clone, Copy)]
 pub(crate) struct RowPair {
     low: u64x2,
@@ -36,41 +38,65 @@ impl Model for RowPair {
     } };
 }
 
+impl BitAnd for RowPair {
+    type Output = RowPair;
+
+    ghost bitand_gives = { λ a b r. (second : Bool) (c : ℕ) → has (lane r second) c
+        ≡ (has (lane a second) c && has (lane b second) c) };
+
+    #[inline(always)]
+    fn bitand(self, rhs: RowPair) -> RowPair {
+        RowPair {
+            low: self.low & rhs.low,
+            middle: self.middle & rhs.middle,
+            high: self.high & rhs.high,
+        }
+    }
+}
+
+impl BitOr for RowPair {
+    type Output = RowPair;
+
+    ghost bitor_gives = { λ a b r. (second : Bool) (c : ℕ) → has (lane r second) c
+        ≡ (has (lane a second) c || has (lane b second) c) };
+
+    #[inline(always)]
+    fn bitor(self, rhs: RowPair) -> RowPair {
+        RowPair {
+            low: self.low | rhs.low,
+            middle: self.middle | rhs.middle,
+            high: self.high | rhs.high,
+        }
+    }
+}
+
+impl BitXor for RowPair {
+    type Output = RowPair;
+
+    ghost bitxor_gives = { λ a b r. (second : Bool) (c : ℕ) → has (lane r second) c
+        ≡ not (is_same (has (lane a second) c) (has (lane b second) c)) };
+
+    #[inline(always)]
+    fn bitxor(self, rhs: RowPair) -> RowPair {
+        RowPair {
+            low: self.low ^ rhs.low,
+            middle: self.middle ^ rhs.middle,
+            high: self.high ^ rhs.high,
+        }
+    }
+}
+
 impl RowPair {
     #[inline(always)]
     pub(crate) fn of(first: BitRow, second: BitRow) -> RowPair
         ensures first { (c : ℕ) → has (lane result false) c ≡ has first c }
         ensures second { (c : ℕ) → has (lane result true) c ≡ has second c }
     {
-        let (a, b) = (first.words(), second.words());
+        let (a, b) = (first.0, second.0);
         RowPair {
             low: u64x2::from_array([a[0], b[0]]),
             middle: u64x2::from_array([a[1], b[1]]),
             high: u64x2::from_array([a[2], b[2]]),
-        }
-    }
-
-    // Keeps the first `words` words of each row, and clears the others.
-    #[inline(always)]
-    pub(crate) fn in_words(self, words: u8) -> RowPair
-        requires some { 1 ≤ words }
-        requires three { words ≤ 3 }
-        ensures { (second : Bool) (c : ℕ) → has (lane result second) c
-            ≡ (has (lane self second) c && nat_lt c (64 * words)) }
-    {
-        let none = u64x2::splat(0);
-        match words {
-            1 => RowPair {
-                low: self.low,
-                middle: none,
-                high: none,
-            },
-            2 => RowPair {
-                low: self.low,
-                middle: self.middle,
-                high: none,
-            },
-            _ => self,
         }
     }
 
@@ -100,29 +126,11 @@ impl RowPair {
         let a = self.low.to_array();
         let b = self.middle.to_array();
         let c = self.high.to_array();
-        (
-            BitRow::of([a[0], b[0], c[0]]),
-            BitRow::of([a[1], b[1], c[1]]),
-        )
+        (BitRow([a[0], b[0], c[0]]), BitRow([a[1], b[1], c[1]]))
     }
 
-    // Sets bit `index` of each row if the row's part of `dark` is true, and clears it otherwise.
-    #[inline(always)]
-    pub(crate) fn put(&mut self, index: u8, dark: (bool, bool))
-        requires { index < 192 }
-        ensures { (second : Bool) (i : ℕ) → has (lane self.new second) i
-            ≡ (if i == index then (if second then dark.1 else dark.0) else has (lane self.old second) i) }
-    {
-        if index < 64 {
-            self.low = with_bit(self.low, index, dark);
-        } else if index < 128 {
-            self.middle = with_bit(self.middle, index - 64, dark);
-        } else {
-            self.high = with_bit(self.high, index - 128, dark);
-        }
-    }
-
-    // In word `number` of each row, replaces the bits at which `mask` has a 1 by those of the row's part of `bits`.
+    // Replaces the bits of word `number` at which `mask` has a 1: in the first row by the bits of `bits.0`, and in the
+    // second row by those of `bits.1`.
     #[inline(always)]
     fn put_in(&mut self, number: u8, mask: u64, bits: (u64, u64))
         requires { number < 3 }
@@ -137,8 +145,8 @@ impl RowPair {
         }
     }
 
-    // In each row, replaces the `count` bits from bit `index` on by the lowest bits of the row's part of `bits`. The
-    // bits that are replaced may be in two words.
+    // Replaces the `count` bits from bit `index` on: in the first row by the lowest bits of `bits.0`, and in the second
+    // row by those of `bits.1`. The bits that are replaced may be in two words.
     #[inline(always)]
     pub(crate) fn put_bits(&mut self, index: u8, count: u8, bits: (u64, u64))
         requires few { count ≤ 64 }
@@ -159,20 +167,8 @@ impl RowPair {
     }
 }
 
-// Sets bit `at` of each word if the word's part of `dark` is true, and clears it otherwise.
-#[inline(always)]
-fn with_bit(words: u64x2, at: u8, dark: (bool, bool)) -> u64x2
-    requires in_word { at < 64 }
-    requires pair { IsPair words }
-    ensures pair { IsPair result }
-    ensures bits { (second : Bool) (i : ℕ) → i < 64 → has_bit (word_of result second) i
-        ≡ (if i == at then (if second then dark.1 else dark.0) else has_bit (word_of words second) i) }
-{
-    let bits = u64x2::from_array([u64::from(dark.0) << at, u64::from(dark.1) << at]);
-    words & u64x2::splat(!(1u64 << at)) | bits
-}
-
-// Replaces the bits of each word at which `mask` has a 1 by those of the word's part of `bits`.
+// Where `mask` has a 1, replaces the bit of the first word by that of `bits.0`, and the bit of the second word by that
+// of `bits.1`.
 #[inline(always)]
 fn with_bits(words: u64x2, mask: u64, bits: (u64, u64)) -> u64x2
     requires { IsPair words }
@@ -191,46 +187,9 @@ impl Rows for RowPair {
     ghost number = { λ counts second. if second then counts.1 else counts.0 };
 
     #[inline(always)]
-    fn empty() -> RowPair {
-        RowPair::of(BitRow::EMPTY, BitRow::EMPTY)
-    }
-
-    #[inline(always)]
     fn below_in(n: u8, words: u8) -> RowPair {
         let row = BitRow::below_in(n, words);
         RowPair::of(row, row)
-    }
-
-    #[inline(always)]
-    fn and(self, other: RowPair) -> RowPair {
-        RowPair {
-            low: self.low & other.low,
-            middle: self.middle & other.middle,
-            high: self.high & other.high,
-        }
-    }
-
-    #[inline(always)]
-    fn or(self, other: RowPair) -> RowPair {
-        RowPair {
-            low: self.low | other.low,
-            middle: self.middle | other.middle,
-            high: self.high | other.high,
-        }
-    }
-
-    #[inline(always)]
-    fn xor(self, other: RowPair) -> RowPair {
-        RowPair {
-            low: self.low ^ other.low,
-            middle: self.middle ^ other.middle,
-            high: self.high ^ other.high,
-        }
-    }
-
-    #[inline(always)]
-    fn and_not(self, other: RowPair) -> RowPair {
-        self.xor(self.and(other))
     }
 
     #[inline(always)]
@@ -265,11 +224,6 @@ impl Rows for RowPair {
     }
 
     #[inline(always)]
-    fn doubled(counts: (u32, u32)) -> (u32, u32) {
-        (2 * counts.0, 2 * counts.1)
-    }
-
-    #[inline(always)]
     fn plus(counts: (u32, u32), others: (u32, u32)) -> (u32, u32) {
         (counts.0 + others.0, counts.1 + others.1)
     }
@@ -280,12 +234,15 @@ impl Rows for RowPair {
         (counts.0 + first.count(), counts.1 + second.count())
     }
 
-    #[inline(always)]
-    fn add_rare_to(self, counts: (u32, u32)) -> (u32, u32) {
-        let (first, second) = self.parts();
-        (
-            counts.0 + first.rare_count(),
-            counts.1 + second.rare_count(),
-        )
-    }
+    ghost can_bitand_law = { λ _ _. Prim.search rules };
+
+    ghost bitand_law = { λ a b r h. h };
+
+    ghost can_bitor_law = { λ _ _. Prim.search rules };
+
+    ghost bitor_law = { λ a b r h. h };
+
+    ghost can_bitxor_law = { λ _ _. Prim.search rules };
+
+    ghost bitxor_law = { λ a b r h. h };
 }

@@ -1,26 +1,28 @@
-//! What the penalty needs of squares: `Squares` is one square, or two squares on which one operation works at once;
-//! `Rows` is a row of each of them. In contracts `second` says which of the two squares is meant; for one square it has
-//! no meaning.
+//! The operations by which the penalty is computed, as two traits. `Squares` stands for one square, or for two squares
+//! on which one operation works at once. `Rows` stands for a row of each of them. In contracts `second` says which of
+//! the two squares is meant. If there is only one square, `second` has no meaning.
+//!
+//! To count the bits of many rows, the code first adds the rows column by column, as full adders do: three rows become
+//! two, a row of sums and a row of carries. This leaves fewer bits to count.
 
 ghost use Rattle.std.specs.Prelude.{◌≡◌, ℕ, Bool, ◌+◌, ◌-◌, ◌*◌, ◌<◌, ◌≤◌, ◌&&◌, ◌||◌, not, true, false, nat_lt};
-ghost use Rattle.qr_matrix.specs.Grid.{colour, is_same};
-ghost use Rattle.qr_matrix.specs.BitRow.{has};
+ghost use Rattle.qr_matrix.specs.Grid.{is_same};
 ghost use Rattle.qr_matrix.specs.Steps.{set_count, NeedsWords};
 
-use crate::bit_row::BitRow;
-use crate::matrix::Matrix;
+use std::ops::{BitAnd, BitOr, BitXor};
 
-pub(crate) trait Rows: Copy {
-    // A number for each square.
+pub(crate) trait Rows: Copy
+    + BitAnd<Self, Output = Self>
+    + BitOr<Self, Output = Self>
+    + BitXor<Self, Output = Self> {
+    // A number for each square. Numbers that are added are at most a million, so that their sum fits in a `u32`.
     type Counts: Copy;
 
-    // Bit `c` of the row of a square.
+    // Whether the row of a square has a 1 in a column. `second` says which square is meant, and the number is that of
+    // the column.
     ghost bit: { Self → (second : Bool) → ℕ → Bool };
 
     ghost number: { Self.Counts → (second : Bool) → ℕ };
-
-    fn empty() -> Self
-        ensures { (second : Bool) (c : ℕ) → bit result second c ≡ false };
 
     fn below_in(n: u8, words: u8) -> Self
         requires least { 64 * (words - 1) ≤ n }
@@ -29,19 +31,22 @@ pub(crate) trait Rows: Copy {
         requires three { words ≤ 3 }
         ensures { (second : Bool) (c : ℕ) → bit result second c ≡ nat_lt c n };
 
-    fn and(self, other: Self) -> Self
-        ensures { (second : Bool) (c : ℕ) → bit result second c ≡ (bit self second c && bit other second c) };
+    #[inline(always)]
+    fn empty() -> Self
+        ensures { (second : Bool) (c : ℕ) → bit result second c ≡ false }
+    {
+        Self::below_in(0, 1)
+    }
 
-    fn or(self, other: Self) -> Self
-        ensures { (second : Bool) (c : ℕ) → bit result second c ≡ (bit self second c || bit other second c) };
-
-    fn xor(self, other: Self) -> Self
-        ensures { (second : Bool) (c : ℕ) → bit result second c
-            ≡ not (is_same (bit self second c) (bit other second c)) };
-
+    #[inline(always)]
     fn and_not(self, other: Self) -> Self
-        ensures { (second : Bool) (c : ℕ) → bit result second c ≡ (bit self second c && not (bit other second c)) };
+        ensures { (second : Bool) (c : ℕ) → bit result second c ≡ (bit self second c && not (bit other second c)) }
+    {
+        self ^ (self & other)
+    }
 
+    // Moves each bit `steps` columns to the left. Bit 0 is the leftmost, so the words themselves are shifted to the
+    // right.
     fn shifted_left(self, steps: u32) -> Self
         requires some { 0 < steps }
         requires few { steps < 64 }
@@ -57,26 +62,55 @@ pub(crate) trait Rows: Copy {
     fn zeros() -> Self::Counts
         ensures { (second : Bool) → number result second ≡ 0 };
 
-    fn doubled(counts: Self::Counts) -> Self::Counts
-        requires { (second : Bool) → number counts second ≤ 1000000 }
-        ensures { (second : Bool) → number result second ≡ 2 * number counts second };
-
     fn plus(counts: Self::Counts, others: Self::Counts) -> Self::Counts
         requires first { (second : Bool) → number counts second ≤ 1000000 }
         requires others { (second : Bool) → number others second ≤ 1000000 }
         ensures { (second : Bool) → number result second ≡ number counts second + number others second };
 
-    // Adds to the number of each square in `counts` how many bits are set in its row.
+    // `counts` has a number for each square, and `self` has a row of each. To each number, adds how many bits are set
+    // in the row of the same square.
     fn add_to(self, counts: Self::Counts) -> Self::Counts
         requires { (second : Bool) → number counts second ≤ 1000000 }
         ensures value { (second : Bool) → number result second
             ≡ number counts second + set_count (bit self second) }
         ensures bound { (second : Bool) → number result second ≤ number counts second + 192 };
 
+    #[inline(always)]
+    fn doubled(counts: Self::Counts) -> Self::Counts
+        requires { (second : Bool) → number counts second ≤ 1000000 }
+        ensures { (second : Bool) → number result second ≡ 2 * number counts second }
+    {
+        Self::plus(counts, counts)
+    }
+
     // As `add_to`, but faster if most of the rows that are counted have no set bit.
+    #[inline(always)]
     fn add_rare_to(self, counts: Self::Counts) -> Self::Counts
         requires { (second : Bool) → number counts second ≤ 1000000 }
-        ensures { (second : Bool) → number result second ≡ number counts second + set_count (bit self second) };
+        ensures { (second : Bool) → number result second ≡ number counts second + set_count (bit self second) }
+    {
+        if self.is_empty() {
+            return counts;
+        }
+        self.add_to(counts)
+    }
+
+    // These laws say that the operators `&`, `|` and `^` may always be used, and that they work on each column by
+    // itself.
+    ghost can_bitand_law: { (a b : Self) → Self.can_bitand a b };
+
+    ghost bitand_law: { (a b r : Self) → Self.bitand_gives a b r → (second : Bool) (c : ℕ)
+        → bit r second c ≡ (bit a second c && bit b second c) };
+
+    ghost can_bitor_law: { (a b : Self) → Self.can_bitor a b };
+
+    ghost bitor_law: { (a b r : Self) → Self.bitor_gives a b r → (second : Bool) (c : ℕ)
+        → bit r second c ≡ (bit a second c || bit b second c) };
+
+    ghost can_bitxor_law: { (a b : Self) → Self.can_bitxor a b };
+
+    ghost bitxor_law: { (a b r : Self) → Self.bitxor_gives a b r → (second : Bool) (c : ℕ)
+        → bit r second c ≡ not (is_same (bit a second c) (bit b second c)) };
 }
 
 pub(crate) trait Squares {
@@ -91,7 +125,7 @@ pub(crate) trait Squares {
         ensures least { 1 ≤ result }
         ensures most { result ≤ 177 };
 
-    // Returns row `row`. The compiler sees that its words after the first `words` are 0.
+    // Returns row `row`, computed in such a way that the compiler sees that all words after the first `words` are 0.
     fn row_in(&self, row: usize, words: u8) -> Self::Row
         requires row_in { row < size self.now }
         requires width { NeedsWords (size self.now) words }
@@ -109,98 +143,13 @@ pub(crate) fn words_for(side: u8) -> u8
     (side - 1) / 64 + 1
 }
 
-impl Rows for BitRow {
-    type Counts = u32;
-
-    ghost bit = { λ row _. has row };
-
-    ghost number = { λ count _. count };
-
-    #[inline(always)]
-    fn empty() -> BitRow {
-        BitRow::EMPTY
-    }
-
-    #[inline(always)]
-    fn below_in(n: u8, words: u8) -> BitRow {
-        BitRow::below_in(n, words)
-    }
-
-    #[inline(always)]
-    fn and(self, other: BitRow) -> BitRow {
-        self & other
-    }
-
-    #[inline(always)]
-    fn or(self, other: BitRow) -> BitRow {
-        self | other
-    }
-
-    #[inline(always)]
-    fn xor(self, other: BitRow) -> BitRow {
-        self ^ other
-    }
-
-    #[inline(always)]
-    fn and_not(self, other: BitRow) -> BitRow {
-        BitRow::and_not(self, other)
-    }
-
-    #[inline(always)]
-    fn shifted_left(self, steps: u32) -> BitRow {
-        BitRow::shifted_left(self, steps)
-    }
-
-    #[inline(always)]
-    fn shifted_right(self) -> BitRow {
-        BitRow::shifted_right(self)
-    }
-
-    #[inline(always)]
-    fn is_empty(self) -> bool {
-        BitRow::is_empty(self)
-    }
-
-    #[inline(always)]
-    fn zeros() -> u32 {
-        0
-    }
-
-    #[inline(always)]
-    fn doubled(counts: u32) -> u32 {
-        2 * counts
-    }
-
-    #[inline(always)]
-    fn plus(counts: u32, others: u32) -> u32 {
-        counts + others
-    }
-
-    #[inline(always)]
-    fn add_to(self, counts: u32) -> u32 {
-        counts + self.count()
-    }
-
-    #[inline(always)]
-    fn add_rare_to(self, counts: u32) -> u32 {
-        counts + self.rare_count()
-    }
-}
-
-impl Squares for Matrix {
-    type Row = BitRow;
-
-    ghost size = { λ matrix. matrix.side };
-
-    ghost dark = { λ matrix _. colour matrix };
-
-    #[inline(always)]
-    fn side(&self) -> u8 {
-        Matrix::side(self)
-    }
-
-    #[inline(always)]
-    fn row_in(&self, row: usize, words: u8) -> BitRow {
-        self.bit_row_in(row, words)
-    }
+// A full adder for each column: returns a row of sums and a row of carries. A carry stands for two set bits of the
+// three rows. In a column the carry is the bit of `a`, unless the bits of `b` and of `c` both differ from it.
+#[inline(always)]
+pub(crate) fn added<R: Rows>(a: R, b: R, c: R) -> (R, R)
+    ensures { (second : Bool) → set_count (R.bit a second) + set_count (R.bit b second) + set_count (R.bit c second)
+        ≡ set_count (R.bit result.0 second) + 2 * set_count (R.bit result.1 second) }
+{
+    let either = a ^ b;
+    (either ^ c, either & (a ^ c) ^ a)
 }

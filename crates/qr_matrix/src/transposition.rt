@@ -1,21 +1,22 @@
-//! Transposes a square in tiles of 64 by 64 modules, each 64 words of 64 bits.
+//! Transposes a square in tiles of 64 by 64 modules. A tile is stored as 64 words of 64 bits.
 //!
-//! A tile is transposed in six stages. The first divides it into two by two parts of 32 by 32 bits, and exchanges the
-//! upper right part with the lower left. The second does the same in each of the four parts, and so on down to single
-//! bits. In a stage, `steps` is the side of a part, and `mask` has the columns of the left parts.
+//! A tile is transposed in six stages. The first stage divides the tile into two by two parts of 32 by 32 bits, and
+//! exchanges the upper right part with the lower left part. The second stage does the same in each of the four parts,
+//! and so on down to single bits. In a stage, `steps` is the side of a part, and `mask` has a 1 in the columns of the
+//! left parts.
 //!
-//! A band is up to 64 rows, and has a tile for each word of a row. Band `band` begins at row `64 * band`, and its tile
-//! `word` at column `64 * word`.
+//! A band is 64 neighbouring rows, or fewer at the lower edge of the square. It has a tile for each word of a row. Band
+//! `band` begins at row `64 * band`, and its tile `word` begins at column `64 * word`.
 
-ghost use Rattle.std.specs.Prelude.{◌≡◌, ℕ, ◌+◌, ◌-◌, ◌*◌, ◌/◌, ◌%◌, ◌<◌, ◌≤◌, ◌&&◌, ◌==◌, ◌⊎◌, nat_lt, if◌then◌else◌, false, slice_index};
+ghost use Rattle.std.specs.Prelude.{◌≡◌, ℕ, ◌+◌, ◌-◌, ◌*◌, ◌/◌, ◌%◌, ◌<◌, ◌≤◌, ◌&&◌, ◌==◌, nat_lt, if◌then◌else◌, false};
 ghost use Rattle.qr_matrix.specs.Grid.{square, colour, IsSquare};
 ghost use Rattle.qr_matrix.specs.BitRow.{has_bit};
 ghost use Rattle.qr_matrix.specs.Steps.{bit_in, exchanged};
 
 use crate::matrix::Matrix;
 
-// Exchanges the right parts of `upper` with the left parts of `lower`. In both words it inverts the bits in which these
-// parts differ.
+// A word is divided into parts of `steps` columns, by turns a left one and a right one. This function exchanges the
+// right parts of `upper` with the left parts of `lower`: in both words it inverts the bits in which these parts differ.
 #[inline(always)]
 #[tactic(auto, using(crate::proofs::Named::exchange_facts))]
 fn exchange_words(upper: u64, lower: u64, steps: usize, mask: u64) -> (u64, u64)
@@ -31,27 +32,8 @@ fn exchange_words(upper: u64, lower: u64, steps: usize, mask: u64) -> (u64, u64)
     (upper ^ difference << steps, lower ^ difference)
 }
 
-// One stage, in the `2 * steps` rows from `first` on.
-#[inline(always)]
-fn exchange_rows(tile: &mut [u64; 64], first: usize, steps: usize, mask: u64)
-    requires some { 1 ≤ steps }
-    requires few { steps ≤ 32 }
-    requires whole { first % (2 * steps) ≡ 0 }
-    requires rows_in { first + 2 * steps ≤ 64 }
-    requires masks { (c : ℕ) → c < 64 → has_bit mask c ≡ nat_lt (c % (2 * steps)) steps }
-    ensures these { (r c : ℕ) → first ≤ r → r < first + 2 * steps → c < 64
-        → bit_in tile.new r c ≡ exchanged steps (bit_in tile.old) r c }
-    ensures others { (r : ℕ) → (r < first) ⊎ (first + 2 * steps ≤ r)
-        → slice_index tile.new r ≡ slice_index tile.old r }
-{
-    for row in first..first + steps {
-        let (upper, lower) = exchange_words(tile[row], tile[row + steps], steps, mask);
-        tile[row] = upper;
-        tile[row + steps] = lower;
-    }
-}
-
-// One stage, on the whole tile.
+// One stage of the transposition. In each group of `2 * steps` rows, the right parts of the upper half are exchanged
+// with the left parts of the lower half.
 #[inline(always)]
 fn exchange(tile: &mut [u64; 64], steps: usize, mask: u64)
     requires some { 1 ≤ steps }
@@ -61,11 +43,16 @@ fn exchange(tile: &mut [u64; 64], steps: usize, mask: u64)
     ensures { (r c : ℕ) → r < 64 → c < 64 → bit_in tile.new r c ≡ exchanged steps (bit_in tile.old) r c }
 {
     for group in 0..32 / steps {
-        exchange_rows(tile, 2 * steps * group, steps, mask);
+        let first = 2 * steps * group;
+        for row in first..first + steps {
+            let (upper, lower) = exchange_words(tile[row], tile[row + steps], steps, mask);
+            tile[row] = upper;
+            tile[row + steps] = lower;
+        }
     }
 }
 
-fn transpose(tile: &mut [u64; 64])
+pub(crate) fn transpose(tile: &mut [u64; 64])
     ensures { (r c : ℕ) → r < 64 → c < 64 → bit_in tile.new r c ≡ bit_in tile.old c r }
 {
     exchange(tile, 32, 0x0000_0000_FFFF_FFFF);
@@ -76,7 +63,9 @@ fn transpose(tile: &mut [u64; 64])
     exchange(tile, 1, 0x5555_5555_5555_5555);
 }
 
-fn tile_of(matrix: &Matrix, band: usize, word: usize) -> [u64; 64]
+// Returns the tile that begins at row `64 * band` and column `64 * word`. If the tile has rows below the last row of
+// the square, these are light.
+pub(crate) fn tile_of(matrix: &Matrix, band: usize, word: usize) -> [u64; 64]
     requires band_in { 64 * band ≤ matrix.now.side }
     requires word_in { word < 3 }
     ensures { (r c : ℕ) → r < 64 → c < 64 → bit_in result r c
@@ -91,8 +80,9 @@ fn tile_of(matrix: &Matrix, band: usize, word: usize) -> [u64; 64]
     tile
 }
 
-// Writes a tile into the square. The rows of the tile that are below the square are left out.
-fn set_tile(matrix: &mut Matrix, band: usize, word: usize, tile: &[u64; 64])
+// Writes a tile into the square, from row `64 * band` and column `64 * word` on. If the tile has rows below the last
+// row of the square, these are left out.
+pub(crate) fn set_tile(matrix: &mut Matrix, band: usize, word: usize, tile: &[u64; 64])
     requires whole { IsSquare matrix.old.side matrix.old }
     requires band_in { 64 * band ≤ matrix.old.side }
     requires word_in { word < 3 }
@@ -105,34 +95,5 @@ fn set_tile(matrix: &mut Matrix, band: usize, word: usize, tile: &[u64; 64])
     let top = 64 * band;
     for row in 0..(side - top).min(64) {
         matrix.set_word(top + row, word, tile[row]);
-    }
-}
-
-// Sets tile `word` of band `band` to tile `band` of band `word` of `other`, transposed.
-fn set_transposed_tile(matrix: &mut Matrix, other: &Matrix, band: usize, word: usize)
-    requires whole { IsSquare matrix.old.side matrix.old }
-    requires sides { other.now.side ≡ matrix.old.side }
-    requires band_in { 64 * band ≤ matrix.old.side }
-    requires bands { band < 3 }
-    requires word_in { 64 * word ≤ matrix.old.side }
-    requires words { word < 3 }
-    ensures { matrix.new ≡ square matrix.old.side (λ r c. if r / 64 == band && c / 64 == word
-        then colour other.now c r else colour matrix.old r c) }
-{
-    let mut tile = tile_of(other, word, band);
-    transpose(&mut tile);
-    set_tile(matrix, band, word, &tile);
-}
-
-pub(crate) fn set_transposed_band(matrix: &mut Matrix, other: &Matrix, band: usize)
-    requires whole { IsSquare matrix.old.side matrix.old }
-    requires sides { other.now.side ≡ matrix.old.side }
-    requires band_in { 64 * band ≤ matrix.old.side }
-    requires bands { band < 3 }
-    ensures { matrix.new ≡ square matrix.old.side
-        (λ r c. if r / 64 == band then colour other.now c r else colour matrix.old r c) }
-{
-    for word in 0..usize::from(matrix.words()) {
-        set_transposed_tile(matrix, other, band, word);
     }
 }

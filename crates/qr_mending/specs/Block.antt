@@ -17,4 +17,4 @@ pub record IsBlock (n : ℕ) (codewords : List ℕ) : Type 0 where
 pub record IsMended (n t : ℕ) (damaged mended : List ℕ) : Type 0 where
   pub block : IsBlock n mended
   pub long : length mended ≡ length damaged
-  pub near : differences damaged mended ≤ t
+  pub few : differences damaged mended ≤ t

@@ -13,9 +13,9 @@ read_of (x ∷ xs) (true ∷ erased) = None ∷ read_of xs erased
 read_of (x ∷ xs) (false ∷ erased) = Some x ∷ read_of xs erased
 
 -- `read`, which is what was read of a block, is mended to the block `mended` by at most `spare` of its `n` error
--- correction codewords. An erased codeword takes one of them. A misread codeword takes two, since its index is not
+-- correction codewords. An erased codeword uses up one of them. A misread codeword uses up two, since its index is not
 -- known (ISO/IEC 18004:2015, 7.5.1)
 pub record IsMendedWithErasures (n spare : ℕ) (read : List (Option ℕ)) (mended : List ℕ) : Type 0 where
   pub block : IsBlock n mended
   pub long : length mended ≡ length read
-  pub near : erasures read + 2 * errors read mended ≤ spare
+  pub few : erasures read + 2 * errors read mended ≤ spare

@@ -1,7 +1,7 @@
 -- How the message of a damaged symbol is mended block by block. `unknown` is a square that is dark where a module of
 -- the symbol was not read; a codeword with such a module is erased. `b` has the sizes of the blocks, `cw` lists the
--- interleaved codewords as they were read, and `places` is the order. An erased codeword takes one error correction
--- codeword, and a misread one two.
+-- interleaved codewords as they were read, and `places` is the order. An erased codeword uses up one error correction
+-- codeword, and a misread one uses up two.
 use Rattle.std.specs.Prelude.{◌≡◌, ℕ, ◌+◌, ◌*◌, ◌<◌, ◌≤◌, if◌then◌else◌, Option, None, Some, List, ◌++◌, map, take, drop, length, slice_index}
 use Rattle.std.specs.List.{list_any, range_with_len}
 use Rattle.qr_field.specs.Polynomial.{IsCorrection}
@@ -49,7 +49,7 @@ AreIndices v l indices checks = AreInBlocks (blocks_of v l) (range_with_len 0 (t
 pub record IsMendedBlock (b : Blocks) (spare : ℕ) (read : List (Option ℕ)) (message : List ℕ) (misread i : ℕ) : Type 0 where
   pub correction : List ℕ
   pub corrects : IsCorrection (part_of (data_sizes b) message i) b.ec_len correction
-  pub near : erasures read + 2 * misread ≤ spare
+  pub few : erasures read + 2 * misread ≤ spare
   pub count : misread ≡ errors read (part_of (data_sizes b) message i ++ correction)
 
 -- The codewords `cw` of a symbol of version `v` and level `l`, as they were read, can be mended to the data codewords

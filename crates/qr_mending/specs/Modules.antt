@@ -1,5 +1,4 @@
--- Two squares `g` and `h` of which few modules differ, such as a damaged and an undamaged symbol. `places` is the
--- order.
+-- Two squares `g` and `h` that differ in few modules, such as a damaged and an undamaged symbol. `places` is the order.
 use Rattle.std.specs.Prelude.{ℕ, ◌+◌, ◌<◌, ◌≤◌, List}
 use Rattle.std.specs.List.{count_by, sum_by}
 use Rattle.qr_layout.specs.declared.level.Level.{Level}

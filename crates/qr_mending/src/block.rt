@@ -1,8 +1,9 @@
 //! Mends damaged blocks (ISO/IEC 18004:2015, 7.5.1 and Annex B). The codewords of a block are the coefficients of a
-//! polynomial, that of the highest power first. They are a block of the code exactly if the generator polynomial
-//! divides this polynomial. The syndromes of the block are the values of this polynomial at 2^0, 2^1 and so on, as many
-//! as there are error correction codewords. The remainder of the division by the generator polynomial has the same
-//! syndromes, and is shorter. So the syndromes are computed from the remainder, and only as they are needed.
+//! polynomial, that of the highest power first. If the block is undamaged, the generator polynomial divides this
+//! polynomial. Codewords of which this is true are called a block of the code. The syndromes of a damaged block are the
+//! values of its polynomial at 2^0, 2^1 and so on, as many as there are error correction codewords. If the polynomial
+//! is divided by the generator polynomial, the remainder has the same syndromes, and fewer coefficients. So the
+//! syndromes are computed from the remainder, and only as many as are needed.
 //!
 //! A candidate for the mended block is computed from the syndromes. It is taken only if it is a block of the code, and
 //! differs in few enough codewords from what was read.
@@ -45,6 +46,7 @@ pub(crate) fn is_block(divisor: &Divisor, codewords: &[u8]) -> bool
     correction.as_slice() == &codewords[start..]
 }
 
+#[tactic(auto, using(crate::proofs::Named::sum_facts))]
 fn sum(xs: &[u8], ys: &[u8]) -> ArrayVec<u8, 30>
     requires long { length xs.now ≡ length ys.now }
     requires fits { length xs.now ≤ 30 }
@@ -59,7 +61,7 @@ fn sum(xs: &[u8], ys: &[u8]) -> ArrayVec<u8, 30>
 }
 
 // Divides the polynomial of the codewords by the generator polynomial, and returns the remainder. Returns `None` if the
-// codewords are a block.
+// remainder is 0, so that the codewords are a block of the code.
 pub(crate) fn remainder(divisor: &Divisor, codewords: &[u8]) -> Option<ArrayVec<u8, 30>>
     requires { divisor.now ≤ length codewords.now }
     ensures block { IfNone result (IsBlock divisor.now codewords.now) }
@@ -83,9 +85,10 @@ fn is_mended(divisor: &Divisor, t: usize, damaged: &[u8], mended: &[u8]) -> bool
     count_differences(damaged, mended) <= t && is_block(divisor, mended)
 }
 
-// Mends codewords that are no block. Most damaged blocks have few wrong codewords, and then the first syndromes
-// suffice. So a first candidate is computed as soon as the locator seems to be found. If it is no solution, the search
-// takes in the syndromes that are left, and then a second candidate is computed.
+// Mends codewords that are no block of the code. Most damaged blocks have few misread codewords, and the first
+// syndromes suffice to find these. So a first candidate is computed as soon as the locator, whose roots say which
+// codewords are misread, seems to be found. If this candidate is refused, the search for the locator goes on with the
+// syndromes that are left, and a second candidate is computed.
 fn mended_block(
     divisor: &Divisor,
     t: usize,

@@ -1,5 +1,5 @@
 //! Mends damaged blocks of which some codewords are erased, that is, known to be unreadable. The errors of the erased
-//! codewords are first taken out of the syndromes, so that the locator has to find only the misread codewords.
+//! codewords are first taken out of the syndromes, so that only the misread codewords are still to be found.
 //!
 //! The erasure locator is a polynomial with a root for each erased codeword, and the error locator one with a root for
 //! each misread codeword. The root of a codeword is 2^location.
@@ -21,9 +21,10 @@ use crate::sums::{dot, syndromes};
 use arrayvec::ArrayVec;
 use qr_field::Divisor;
 
-// The modified syndromes, which are also called Forney's syndromes. They are the syndromes of another error polynomial,
-// in which each coefficient of x^m is multiplied by the value of `polynomial` at 2^m. If `polynomial` is the erasure
-// locator, this value is 0 for each erased codeword, so the errors of the erased codewords are gone.
+// The modified syndromes, which are also called Forney's syndromes. They are the syndromes of another error polynomial.
+// It is made from that of the block: for each m, the coefficient of x^m is multiplied by the value of `polynomial` at
+// 2^m. If `polynomial` is the erasure locator, this value is 0 for each erased codeword, so the errors of the erased
+// codewords are gone.
 #[tactic(auto, using(crate::proofs::Named::erasure_facts))]
 fn modified_syndromes(polynomial: &[u8], syndromes: &[u8]) -> ArrayVec<u8, 30>
     requires least { 1 ≤ length polynomial.now }
@@ -41,10 +42,10 @@ fn modified_syndromes(polynomial: &[u8], syndromes: &[u8]) -> ArrayVec<u8, 30>
 }
 
 // Returns the mended block. If `damaged` cannot be mended, returns some list of codewords, which the caller has to
-// refuse. The product of the erasure locator and the error locator has a root for each wrong codeword, erased or
+// refuse. The product of the erasure locator and the error locator has a root for each codeword that is erased or
 // misread.
 //
-// It is not inlined, so that its lists are on the stack only while it runs, and not while `mend` runs.
+// The function is not inlined, so that its lists are on the stack only while it runs, and not while `mend` runs.
 #[inline(never)]
 fn candidate(remainder: &[u8], spare: usize, erased: &[bool], damaged: &[u8]) -> ArrayVec<u8, 255>
     requires most { length remainder.now ≤ 30 }
@@ -87,7 +88,7 @@ fn count_misread(codewords: &[u8], erased: &[bool], mended: &[u8]) -> usize
 /// erased if `erased` is true at its index, and its value then has no effect. Returns how many of the other codewords
 /// were misread (ISO/IEC 18004:2015, 7.5.1 and Annex B).
 ///
-/// An erased codeword takes one error correction codeword, and a misread one takes two. If more than `spare` are
+/// An erased codeword uses up one error correction codeword, and a misread one uses up two. If more than `spare` are
 /// needed, returns `None` and changes nothing. `divisor` determines the number of error correction codewords of the
 /// block. In a symbol, `spare` is the number that `Version::spare` returns.
 #[tactic(auto, using(crate::proofs::Named::mend_with_erasures_facts))]

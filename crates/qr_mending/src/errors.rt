@@ -5,10 +5,10 @@
 //!
 //! The codewords are tried one by one, from the first of the block on, until all roots are found. This is Chien's
 //! search. When 2^location is found to be a root, the locator is divided by x + 2^location. The divided locator still
-//! has a root for each error that is to come. Now each of its coefficients is multiplied by the syndrome at the same
-//! index, and these products are added up. The errors to come contribute 0 to this sum, so it is the error at this
-//! location, multiplied by the value of the divided locator at 2^location. This is a form of Forney's formula. Last,
-//! the error that was found is taken out of the syndromes.
+//! has a root for each error that is yet to be found. Now each of its coefficients is multiplied by the syndrome at the
+//! same index, and these products are added up. The errors that are yet to be found contribute 0 to this sum. So the
+//! sum is the error at this location, multiplied by the value of the divided locator at 2^location. This is a form of
+//! Forney's formula. Last, the error that was found is taken out of the syndromes.
 
 ghost use Rattle.std.specs.Prelude.{◌≡◌, ◌≢◌, ℕ, ◌+◌, ◌*◌, ◌<◌, ◌≤◌, List, ◌∷◌, length, bit_xor, slice_index};
 ghost use Rattle.std.specs.List.{All};
@@ -23,8 +23,9 @@ use crate::sums::{add_multiples, dot, sixteen_values};
 use arrayvec::ArrayVec;
 use qr_field::{div, exponent_of, mul, power_of};
 
-// Divides a polynomial by x + `root` by Horner's rule, and returns the value of the quotient at `root`. The quotient
-// has one coefficient less, so the last of `terms` becomes 0. The remainder is not computed.
+// Divides a polynomial by x + `root` by Horner's rule, and returns the value of the quotient at `root`. `terms` lists
+// the coefficients of the polynomial, that of the lowest power first. They are replaced by those of the quotient, which
+// has one coefficient less, so the last of `terms` becomes 0. The remainder is not returned.
 #[tactic(auto, using(crate::proofs::Named::division_facts))]
 fn divide(terms: &mut [u8], root: u8) -> u8
     ensures quotient { terms.new ≡ quotient root terms.old }
@@ -62,6 +63,7 @@ fn divide_out(locator: &mut ArrayVec<u8, 31>, root: u8) -> u8
 }
 
 // Takes the error of the codeword at `location` out of the syndromes.
+#[tactic(auto, using(crate::proofs::Named::no_error_facts))]
 fn remove(syndromes: &mut [u8], error: u8, location: u8)
     requires { location < 255 }
     ensures long { length syndromes.new ≡ length syndromes.old }
@@ -73,10 +75,10 @@ fn remove(syndromes: &mut [u8], error: u8, location: u8)
     }
 }
 
-// The search for the errors of a block. It tries the codewords one by one, and `locator` and `syndromes` are those of
-// the errors of the codewords that it has still to try. The locator's values are computed at sixteen locations at once:
-// `values` are those from `first` on. They need not be computed again after a division, since at the locations that are
-// still to come the divided locator is 0 where the locator was.
+// The search for the errors of a block. It tries the codewords one by one. `locator` and `syndromes` belong to the
+// errors of those codewords that it has still to try. The values of the locator are computed for sixteen locations at
+// once, and `values` has them for the locations from `first` on. After a division of the locator they need not be
+// computed again. If the locator was 0 for a location that is still to be tried, the divided locator is 0 for it too.
 #[derive(Drop)]
 pub(crate) struct Removal {
     locator: ArrayVec<u8, 31>,
@@ -86,7 +88,7 @@ pub(crate) struct Removal {
 }
 
 impl Removal {
-    // Computes the values at `location` and at the fifteen locations below it, if they are not there yet.
+    // Computes the locator's values for `location` and for up to fifteen locations below it, if they are not there yet.
     fn prepare(&mut self, location: u8)
         requires { IsRemoval (location + 1) self.old }
         ensures removal { IsRemoval (location + 1) self.new }
@@ -121,7 +123,8 @@ impl Removal {
         error
     }
 
-    // Tries the next codeword, that at `location`, and returns its error. It is 0 if the locator has no root there.
+    // Tries the next codeword, that at `location`, and returns its error. The error is 0 if the locator has no root
+    // there.
     fn next_error(&mut self, location: u8) -> u8
         requires small { location < 255 }
         requires removal { IsRemoval (location + 1) self.old }
@@ -137,8 +140,8 @@ impl Removal {
         self.error_at_root(location)
     }
 
-    // Removes the last error from the codewords that were not tried yet. If the locator is 1, no error is left. If it is
-    // x + r, one error is left: its location is the logarithm of r, and its value is the first syndrome.
+    // Removes the last error from the codewords that were not tried yet. If the locator is 1, no error is left. If it
+    // is x + r, one error is left: its location is the logarithm of r, and its value is the first syndrome.
     fn finish(&self, codewords: &mut [u8])
         requires removal { IsRemoval (length codewords.old) self.now }
         requires few { array_vec_len self.now.locator ≤ 2 }
@@ -157,12 +160,13 @@ impl Removal {
     }
 }
 
-// Returns the codewords without their errors. Adding an error to its codeword removes it, since equal elements of the
-// field add up to 0. The search ends before the last codeword if it can. Before the first codeword no values are
-// computed, so `first` is above all locations.
+// Returns the codewords without their errors. Adding an error to its codeword removes the error, since equal elements
+// of the field add up to 0. The search ends as soon as at most one error is left. When the search starts,
+// no value of the locator has been computed yet. So `removal.first` is above all locations, and the first `next_error`
+// computes values.
 //
-// The lists have room for what is copied into them, so `try_extend_from_slice` cannot fail. `removal` is made in place,
-// since a function that returned it would have a second one on the stack.
+// The lists have room for what is copied into them, so `try_extend_from_slice` cannot fail. `removal` is made here, and
+// not by a function that returns it, because the stack would then have it twice.
 pub(crate) fn without_errors(locator: &[u8], syndromes: &[u8], damaged: &[u8]) -> ArrayVec<u8, 255>
     requires leading { HasLeadingOne locator.now }
     requires most { length syndromes.now ≤ 30 }

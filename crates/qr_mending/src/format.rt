@@ -17,7 +17,7 @@ use qr_layout::{
     FORMAT_BITS, Level, Place, Version, format_place, format_word, second_format_place,
 };
 
-// The number of which the 15 lowest bits are 1, and all others 0.
+// The number whose 15 lowest bits are 1 and whose other bits are 0.
 const ALL_BITS: u16 = 0x7FFF;
 
 // The highest cost at which a level and a mask are near to a copy: that of three misread modules, or of six that were
@@ -96,8 +96,8 @@ impl CopyBits {
         CopyBits { dark, unread }
     }
 
-    // Counts the wrong modules of the copy, if it should show the format information `word`. A module that was not read
-    // does not count as misread.
+    // Compares the copy with `word`, the format information that it should show, and counts its wrong modules. A module
+    // that was not read does not count as misread.
     fn damage(self, word: u16) -> CopyDamage
         ensures unread { (u g : Grid) (copy : FormatCopy) → AreBitsOf u copy g self → result.unread ≡ unread_bits u copy }
         ensures misread { (u g : Grid) (copy : FormatCopy) → AreBitsOf u copy g self
@@ -110,8 +110,8 @@ impl CopyBits {
         }
     }
 
-    // The cost of the copy, if it should show the format information `word`. The bound 45 is loose, and only for the
-    // prover: it counts each of the 15 modules as unread and as misread.
+    // The cost of the copy if `word` is the format information that it should show. The bound 45 is for the prover, and
+    // is never reached: it counts each of the 15 modules both as unread and as misread.
     fn cost(self, word: u16) -> u8
         ensures value { (u g : Grid) (copy : FormatCopy) → AreBitsOf u copy g self
             → result ≡ unread_bits u copy + 2 * misread_bits u copy g word }
@@ -122,21 +122,14 @@ impl CopyBits {
     }
 }
 
-// How many modules of a copy were not read or are misread. The bound 30 also counts each of the 15 modules as unread
-// and as misread.
+// How many modules of a copy were not read or are misread. The bound 30 is for the prover, and is never reached: it
+// counts each of the 15 modules twice, as unread and as misread.
 fn wrong_bits(scan: &Scan, copy: FormatCopy, word: u16) -> u8
     ensures value { result ≡ unread_bits scan.now.unknown.now copy + misread_bits scan.now.unknown.now copy scan.now.matrix.now word }
     ensures most { result ≤ 30 }
 {
     let damage = CopyBits::read(scan, copy).damage(word);
     damage.unread + damage.misread
-}
-
-fn copy_cost(scan: &Scan, copy: FormatCopy, word: u16) -> u8
-    ensures value { result ≡ unread_bits scan.now.unknown.now copy + 2 * misread_bits scan.now.unknown.now copy scan.now.matrix.now word }
-    ensures most { result ≤ 45 }
-{
-    CopyBits::read(scan, copy).cost(word)
 }
 
 // How many of the 30 modules of both copies were not read or are misread.
@@ -155,8 +148,8 @@ pub(crate) fn format_cost(scan: &Scan, level: Level, mask: u8) -> u8
     ensures { result ≡ format_cost scan.now.unknown.now scan.now.matrix.now level mask }
 {
     let word = format_word(level, mask);
-    let first = copy_cost(scan, FormatCopy::First, word);
-    first + copy_cost(scan, FormatCopy::Second, word)
+    let first = CopyBits::read(scan, FormatCopy::First).cost(word);
+    first + CopyBits::read(scan, FormatCopy::Second).cost(word)
 }
 
 fn near_mask_of(bits: CopyBits, level: Level) -> Option<u8>
@@ -186,17 +179,4 @@ pub(crate) fn near_format_of(scan: &Scan, copy: FormatCopy) -> Option<(Level, u8
         }
     }
     None
-}
-
-// Returns the level and the mask that are near to the first copy. If none are, it returns those that are near to the
-// second copy, and if none are near to that either, `None`.
-pub(crate) fn near_format_of_either(scan: &Scan) -> Option<(Level, u8)>
-    ensures { MatchOption result
-        ((copy : FormatCopy) (l : Level) (mask : ℕ) → IsNearFormat scan.now.unknown.now copy scan.now.matrix.now l mask → ⊥)
-        (λ f. (copy : FormatCopy) × IsNearFormat scan.now.unknown.now copy scan.now.matrix.now f.0 f.1) }
-{
-    match near_format_of(scan, FormatCopy::First) {
-        Some(format) => Some(format),
-        None => near_format_of(scan, FormatCopy::Second),
-    }
 }

@@ -57,24 +57,24 @@ pub fn blocks_mended_with_erasures_are_one()
         → IsMendedWithErasures n spare read b → IsMendedWithErasures n spare read c → b ≡ c }
 {}
 
-/// If no codeword is erased, mending that takes at most `spare` error correction codewords has the same results as
-/// mending at most `spare` / 2 misread codewords, rounded down.
+/// If no codeword is erased, mending by at most `spare` error correction codewords has the same results as mending of
+/// at most half as many misread codewords, rounded down.
 pub fn blocks_without_erasures_are_mended_alike()
     ensures { (n spare k : ℕ) (damaged mended : List ℕ)
         → IsMendedWithErasures n spare (read_of damaged (replicate k false)) mended ↔ IsMended n (spare / 2) damaged mended }
 {}
 
-/// A block of at most 255 codewords is also a block with fewer error correction codewords, as long as there is at least
-/// one: the generator polynomial of the lower degree divides that of the higher degree. So if two levels of a version
-/// have the same number of blocks, only the format information says which level is meant.
+/// A block of at most 255 codewords is also a block if fewer of its last codewords, but at least one, count as error
+/// correction codewords: the generator polynomial of the lower degree divides that of the higher degree. For example, a
+/// symbol of version 1 has one block at every level, so only the format information says which level is meant.
 #[tactic(auto, using(crate::proofs::Named::law_facts))]
 pub fn blocks_are_those_of_weaker_levels()
     ensures { (n m : ℕ) (block : List ℕ) → 1 ≤ n → n ≤ m → length block ≤ 255 → IsBlock m block → IsBlock n block }
 {}
 
 /// The format information of two different pairs of level and mask differs in at least seven of 15 bits, and for some
-/// pairs in just seven. So whatever the two copies show, the costs of two pairs over both copies add up to at least 28:
-/// if one costs at most 13, the other costs at least 15.
+/// pairs in just seven. Take what both copies together cost with one pair, and what they cost with another. Whatever
+/// the copies show, these two costs add up to at least 28: if one is at most 13, the other is at least 15.
 pub fn format_words_lie_apart()
     ensures words { (l k : Level) (m n : ℕ) → m < 8 → n < 8 → ((l ≡ k) × (m ≡ n) → ⊥)
         → 7 ≤ bit_differences 15 (has_bit (format_word_of l m)) (has_bit (format_word_of k n)) }
@@ -84,7 +84,7 @@ pub fn format_words_lie_apart()
 {}
 
 /// At most one pair of level and mask is near to a copy of the format information, that is, the copy costs at most 6
-/// with it. So at most two pairs are near to one of the two copies, and mending tries at most two.
+/// with it. So the two copies together have at most two near pairs, and mending tries no others.
 #[tactic(auto, using(crate::proofs::Named::law_facts))]
 pub fn near_format_is_one()
     ensures one { (unknown : Grid) (copy : FormatCopy) (g : Grid) (l k : Level) (m n : ℕ) → IsNearFormat unknown copy g l m
@@ -95,9 +95,9 @@ pub fn near_format_is_one()
 {}
 
 /// In the cost of a copy, a module that was not read counts once, and a misread one twice. In the number of wrong
-/// modules each of them counts once. The numbers of both copies are added. The example is a light square, compared with
-/// level M and mask 0; one module of its first copy was not read. A level and a mask are near to a copy at a cost of 6,
-/// and not at 7.
+/// modules each of them counts once. `format_cost` and `wrong_format_modules` add up the numbers of both copies. The
+/// example is a light square that is compared with the format information of level M and mask 0. One module of its
+/// first copy was not read. A level and a mask are near to a copy at a cost of 6, and not at 7.
 pub fn format_costs_compute()
     ensures near { (unknown g : Grid) (copy : FormatCopy) (l : Level) (mask : ℕ) → mask < 8
         → copy_cost unknown copy g l mask ≡ 6 → IsNearFormat unknown copy g l mask }
@@ -113,8 +113,8 @@ pub fn format_costs_compute()
         ∷ record { row = 20; col = 8 } ∷ [] }
 {}
 
-/// With one version and one level, the codewords of a damaged symbol are mended to at most one message, with one number
-/// of misread codewords for each block.
+/// With a given version and level, the codewords of a damaged symbol are mended to at most one message, and each block
+/// has at most one number of misread codewords.
 pub fn mended_messages_are_one(version: Version, level: Level)
     ensures { (unknown : Grid) (cw m n x y : List ℕ) → IsMendedIn unknown version level cw m x
         → IsMendedIn unknown version level cw n y
@@ -172,8 +172,8 @@ pub fn mending_refusals_are_one()
         → (e ≡ ReadFault.Memory) ⊎ (f ≡ ReadFault.Memory) ⊎ (e ≡ f) }
 {}
 
-/// `IsUnmended` states the reason for each fault: `mend_symbol_with_unknown` returns a fault other than `Memory` exactly if
-/// its reason holds and no allocation is refused.
+/// `IsUnmended` states the reason for each fault. `mend_symbol_with_unknown` returns a fault other than `Memory`
+/// exactly if the reason for this fault holds and no allocation is refused.
 pub fn mendings_are_refused_exactly(
     alloc: Global,
     damaged: &Matrix,
@@ -188,7 +188,7 @@ pub fn mendings_are_refused_exactly(
 
 /// Take two symbols of one version with different data codewords or levels. They differ in at least seven modules of
 /// each copy of the format information, or they differ in more than 2t codewords of some block, where t is the number
-/// of misread codewords that can be corrected in it.
+/// of misread codewords that can be corrected in this block.
 #[tactic(auto, using(crate::proofs::Named::distance_facts))]
 pub fn symbols_lie_apart(version: Version)
     ensures { SymbolsLieApart version }
@@ -242,8 +242,8 @@ pub fn few_wrong_modules_are_mended(alloc: Global, damaged: &Matrix) -> Result<M
     mend_symbol(alloc, damaged)
 }
 
-/// `IsUnmendedSeries` states the reason for each fault: `mend_series` returns a fault other than `Memory` exactly if
-/// its reason holds and no allocation is refused.
+/// `IsUnmendedSeries` states the reason for each fault. `mend_series` returns a fault other than `Memory` exactly if
+/// the reason for this fault holds and no allocation is refused.
 pub fn series_mendings_are_refused_exactly(
     alloc: Global,
     damaged: &[Matrix],
@@ -255,8 +255,8 @@ pub fn series_mendings_are_refused_exactly(
 }
 
 /// If the symbols of a series are damaged, each within what can be mended, mending yields exactly the input, or memory
-/// is refused. The symbols may also be those of another encoder. Then mending yields the bytes to which the undamaged
-/// symbols are joined, or memory is refused.
+/// is refused. The symbols may also be those of another encoder. Then mending yields the bytes that joining the
+/// undamaged symbols would yield, or memory is refused.
 pub fn damaged_series_are_mended(alloc: Global, damaged: &[Matrix]) -> Result<Vec<u8>, ReadFault>
     ensures series { (v : ℕ) (l : Level) (rule : Rule) (i : Interpretation) (x : List ℕ) (ss : List Symbol) → 1 ≤ v → v ≤ 40
         → MayWrite i x → IsSeries v l rule i x ss → AreDamagedSquares damaged.now (squares_of ss)

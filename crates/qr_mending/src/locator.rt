@@ -3,11 +3,11 @@
 //!
 //! Its coefficients solve equations, which the syndromes yield. For equation i the coefficient of x^k is multiplied by
 //! the syndrome at index i + k, for each k, and these products are added up. The polynomial solves the equation if this
-//! sum, the discrepancy, is 0. The window of equation i is the list of syndromes from index i on.
+//! sum, the discrepancy, is 0.
 //!
-//! The syndromes are taken in one by one. With each syndrome one more equation can be tested: the one whose window now
-//! has as many items as the polynomial has coefficients. If the polynomial does not solve this equation, a multiple of
-//! an earlier polynomial is added to it, and its degree may rise. The degree is never higher than the number of misread
+//! The syndromes are taken in one by one. With each syndrome one more equation can be tested: the one in which this
+//! syndrome is multiplied by the leading coefficient. If the polynomial does not solve this equation, a multiple of an
+//! earlier polynomial is added to it, and its degree may rise. The degree is never higher than the number of misread
 //! codewords.
 
 ghost use Rattle.std.specs.Prelude.{◌≡◌, ℕ, ◌+◌, ◌*◌, ◌<◌, ◌≤◌, List, false, length};
@@ -18,7 +18,7 @@ ghost use Rattle.qr_mending.specs.Steps.Polynomial.{all_of, IsMonic, IsSearch, I
 ghost use Rattle.qr_mending.specs.Steps.Errors.{AreFewErrors, AreFewErrorsOf, IsLocated};
 
 use crate::polynomial::Polynomial;
-use crate::sums::push_syndromes;
+use crate::sums::{dot, push_syndromes};
 use arrayvec::ArrayVec;
 use qr_field::div;
 
@@ -33,6 +33,7 @@ pub(crate) struct Search {
 
 impl Search {
     // The search before the first syndrome is taken in.
+    #[tactic(auto, using(crate::proofs::Named::search_facts))]
     fn new() -> Search
         ensures search { (syndromes : List ℕ) → IsSearch 0 syndromes result }
         ensures degree { result.best.degree ≡ 0 }
@@ -50,9 +51,10 @@ impl Search {
     //
     // The new equation has the index `i - degree`. The first equation that `earlier` does not solve has the index
     // `degree - 1`. If a polynomial is multiplied by x^s, its sum for equation j becomes the one that it had for
-    // equation j + s. So a multiplication by a power of x brings the two discrepancies to one equation, where a
-    // multiple of one cancels the other. If the equation of `earlier` is the new one or comes after it, `earlier` is
-    // multiplied. Otherwise `best` is multiplied, and its degree rises.
+    // equation j + s. So one of the two polynomials is multiplied by a power of x that brings both discrepancies to the
+    // same equation. There a multiple of one discrepancy cancels the other. If the equation that `earlier` does not
+    // solve is the new one or a later one, `earlier` is multiplied. Otherwise `best` is multiplied, and its degree
+    // rises.
     fn take_in(&mut self, syndromes: &[u8], i: usize, t: usize) -> bool
         requires search { IsSearch i syndromes.now self.old }
         requires degree { self.old.best.degree ≤ t }
@@ -64,7 +66,7 @@ impl Search {
         ensures same { OnFalse result (self.new ≡ self.old) }
     {
         let degree = self.best.degree;
-        let discrepancy = self.best.discrepancy(&syndromes[i - degree..]);
+        let discrepancy = dot(self.best.coefficients(), &syndromes[i - degree..]);
         if discrepancy == 0 {
             return true;
         }
@@ -102,7 +104,7 @@ pub(crate) fn locator(syndromes: &[u8], t: usize) -> Polynomial
     search.best
 }
 
-// The first syndromes of a block, and the search after it took in `taken` of them.
+// The first syndromes of a block, and the state of the search when `taken` of them have been taken in.
 #[derive(Drop)]
 pub(crate) struct Progress {
     pub(crate) syndromes: ArrayVec<u8, 30>,
@@ -137,8 +139,8 @@ impl Progress {
     }
 
     // Takes in further syndromes, until `2 * t` of them were taken in. If `early` is true, it stops as soon as `best`
-    // solves `degree + 2` equations, since `best` then seldom changes any more. If the degree would rise above `t`,
-    // returns false; then more than `t` codewords are misread.
+    // solves two equations more than its degree, since `best` then seldom changes any more. If the degree would rise
+    // above `t`, returns false; then more than `t` codewords are misread.
     pub(crate) fn advance(&mut self, remainder: &[u8], t: usize, early: bool) -> bool
         requires progress { IsProgress t remainder.now self.old }
         requires small { t ≤ 15 }

@@ -16,9 +16,7 @@ ghost use Rattle.qr_mending.specs.Format.{format_cost};
 ghost use Rattle.qr_mending.specs.Steps.{Mending.{IsMendedBy, IsMendedByEither, IsMendedWith}, Message.{list_of}};
 ghost use Rattle.qr_mending.specs.Mending.{wrong_format_modules, wrong_modules, HasWrongModules, IsMendedReading, IsOfNoUse, IsUnmended};
 
-use crate::format::{
-    FormatCopy, format_cost, near_format_of, near_format_of_either, wrong_format_modules,
-};
+use crate::format::{FormatCopy, format_cost, near_format_of, wrong_format_modules};
 use crate::message::{Marks, MendedBlocks, interleaved, mend_blocks, read_marks};
 use crate::scan::Scan;
 use qr_bits::{Parsed, parse};
@@ -29,19 +27,16 @@ use std::alloc::{AllocError, Global};
 
 // If both copies together cost at most this with one pair of level and mask, they cost more with every other pair. For
 // the format information of two pairs differs in at least seven bits of each copy. Take the cost with one pair and the
-// cost with the other. Each of these bits adds 2 to their sum: 2 to one of them if its module was read, and otherwise
-// 1 to each. So over both copies this sum is at least 28.
+// cost with the other. Each bit that differs adds 2 to the sum of these costs: 2 to one cost if the module of the bit
+// was read, and otherwise 1 to each cost. Both copies have at least 14 such bits, so the sum is at least 28.
 const COST_CERTAIN: u8 = 13;
 
-// A symbol whose blocks were mended: its data codewords and error correction codewords, block after block, and how many
-// codewords of each block were misread.
+// A symbol whose blocks were mended with this level and mask.
 #[derive(Drop)]
 pub(crate) struct MendedSquare {
     pub(crate) level: Level,
     pub(crate) mask: u8,
-    pub(crate) message: Vec<u8>,
-    pub(crate) corrections: Vec<u8>,
-    pub(crate) changed: Vec<usize>,
+    pub(crate) blocks: MendedBlocks,
 }
 
 // Mends all blocks with the level and the mask `near`. Returns `None` if `near` is `None`, or if some block cannot be
@@ -63,18 +58,10 @@ fn mend_with(
     };
     let codewords = read_codewords(alloc, scan.version, mask, scan.matrix)?;
     match mend_blocks(alloc, scan.version, level, &codewords, marks) {
-        Ok(
-            MendedBlocks {
-                message,
-                corrections,
-                changed,
-            },
-        ) => Ok(Some(MendedSquare {
+        Ok(mended) => Ok(Some(MendedSquare {
             level,
             mask,
-            message,
-            corrections,
-            changed,
+            blocks: mended,
         })),
         Err(ReadFault::Check) => Ok(None),
         Err(fault) => Err(fault),
@@ -93,13 +80,6 @@ fn is_same_format(a: Option<(Level, u8)>, b: Option<(Level, u8)>) -> bool
     }
 }
 
-fn cost_of(scan: &Scan, mended: &MendedSquare) -> u8
-    requires { mended.now.mask < 8 }
-    ensures { result ≡ format_cost scan.now.unknown.now scan.now.matrix.now mended.now.level mended.now.mask }
-{
-    format_cost(scan, mended.level, mended.mask)
-}
-
 // Returns whether there is a mended square, and its level and mask cost so little that every other pair costs more.
 fn is_certain(scan: &Scan, mended: &Option<MendedSquare>) -> bool
     requires { IfSome mended.now (λ m. m.mask < 8) }
@@ -107,7 +87,7 @@ fn is_certain(scan: &Scan, mended: &Option<MendedSquare>) -> bool
         (λ m. format_cost scan.now.unknown.now scan.now.matrix.now m.level m.mask ≤ 13)) }
 {
     match mended {
-        Some(mended) => cost_of(scan, mended) <= COST_CERTAIN,
+        Some(mended) => format_cost(scan, mended.level, mended.mask) <= COST_CERTAIN,
         None => false,
     }
 }
@@ -129,7 +109,7 @@ fn nearer(
     let Some(second) = second else {
         return Some(first);
     };
-    if cost_of(scan, &second) < cost_of(scan, &first) {
+    if format_cost(scan, second.level, second.mask) < format_cost(scan, first.level, first.mask) {
         return Some(second);
     }
     Some(first)
@@ -192,13 +172,16 @@ fn count_wrong_modules(
     Ok(count_wrong(scan, symbol))
 }
 
-// The fault of a symbol that is mended by no pair of level and mask that is near to a copy.
-fn refusal(scan: &Scan) -> ReadFault
+// The fault of a symbol whose blocks cannot be mended with any level and mask that are near to a copy.
+fn unmended_fault(scan: &Scan) -> ReadFault
     requires sized { IsOfVersion scan.now.matrix.now scan.now.version }
     requires useless { (any : FormatCopy) → IsOfNoUse scan.now.unknown.now any scan.now.version scan.now.matrix.now }
     ensures { IsUnmended scan.now.unknown.now scan.now.matrix.now result }
 {
-    match near_format_of_either(scan) {
+    if let Some(_) = near_format_of(scan, FormatCopy::First) {
+        return ReadFault::Check;
+    }
+    match near_format_of(scan, FormatCopy::Second) {
         Some(_) => ReadFault::Check,
         None => ReadFault::Format,
     }
@@ -207,18 +190,18 @@ fn refusal(scan: &Scan) -> ReadFault
 /// The content of a mended symbol, and numbers that describe its damage.
 #[derive(Drop)]
 pub struct Mended {
-    /// The version, by the number of rows.
+    /// The version, as the number of rows gives it.
     pub version: Version,
-    /// The error correction level, by the format information.
+    /// The error correction level, as the format information gives it.
     pub level: Level,
     /// The mask, from 0 to 7.
     pub mask: u8,
     /// What the mended data codewords mean.
     pub parsed: Parsed,
-    /// The number of wrong modules among the 30 of both copies of the format information.
+    /// How many of the 30 modules in both copies of the format information are misread or were not read.
     pub wrong_format_modules: u8,
-    /// The number of wrong modules of the whole symbol, those of function patterns, version information and remainder
-    /// bits among them. Modules that were not read count too.
+    /// How many modules of the whole symbol are misread or were not read. Those of function patterns, version
+    /// information and remainder bits count too.
     pub wrong_modules: u32,
     /// For each block, the number of misread codewords. Erased ones do not count.
     pub changed: Vec<usize>,
@@ -230,20 +213,22 @@ pub struct Mended {
 ///
 /// A block is mended if the number of its erased codewords, plus twice that of its misread ones, is at most
 /// `Version::spare`. The level and the mask are found by the two copies of the format information, of 15 modules each.
-/// A copy admits a level and a mask if the number of its modules that were not read, plus twice that of misread ones,
-/// is at most 6; it admits at most one pair. Of the admitted pairs that mend every block, the one with the least such
-/// sum over both copies is taken. Of two with the same sum it is the one that the first copy admits.
+/// Suppose that the symbol has a certain level and mask. Then a copy costs 1 for each of its modules that was not read,
+/// and 2 for each that is misread. If it costs at most 6, this pair of level and mask is near to the copy. At most one
+/// pair is near to a copy. Of the near pairs with which every block can be mended, the one with the least cost of both
+/// copies together is taken. If two of these pairs cost the same, the one that is near to the first copy is taken. This
+/// is the copy beside the top left finder pattern.
 ///
-/// So a damaged symbol becomes exactly the undamaged one if its blocks can be mended and that sum over both copies is
-/// at most 13. If six modules of format information are wrong, whichever they are, the sum is at most 12. Function
-/// patterns, version information and remainder bits have no effect on the content; their wrong modules are counted in
-/// `Mended::wrong_modules`.
+/// So a damaged symbol becomes exactly the undamaged one if its blocks can be mended and both copies together cost at
+/// most 13 with its level and mask. If six modules of format information are misread or were not read, whichever they
+/// are, this cost is at most 12. Function patterns, version information and remainder bits have no effect on the
+/// content, but `Mended::wrong_modules` counts their modules too.
 ///
 /// # Errors
 ///
-/// Returns `Side` if no version has the side of `matrix`, `Format` if no copy admits a level and a mask, `Check` if no
-/// pair that a copy admits mends every block, `Segments` if the mended data codewords cannot be parsed, and `Memory` if
-/// memory is refused.
+/// Returns `Side` if no version has the side of `matrix`, `Format` if no level and mask are near to a copy, `Check` if
+/// there are near pairs, but with each of them some block cannot be mended, `Segments` if the mended data codewords
+/// cannot be parsed, and `Memory` if memory is refused.
 #[tactic(auto, using(crate::proofs::Named::size_facts))]
 pub fn mend_symbol_with_unknown(
     alloc: Global,
@@ -267,14 +252,16 @@ pub fn mend_symbol_with_unknown(
         unknown,
     };
     let Some(mended) = mend_by_format(alloc, &scan)? else {
-        return Err(refusal(&scan));
+        return Err(unmended_fault(&scan));
     };
     let MendedSquare {
         level,
         mask,
-        message,
-        corrections,
-        changed,
+        blocks: MendedBlocks {
+            message,
+            corrections,
+            changed,
+        },
     } = mended;
     let parsed = parse(alloc, &message, version)?;
     let wrong_format_modules = wrong_format_modules(&scan, level, mask);
@@ -291,11 +278,11 @@ pub fn mend_symbol_with_unknown(
     })
 }
 
-/// As `mend_symbol_with_unknown`, for a symbol of which every module was read.
+/// Does what `mend_symbol_with_unknown` does, for a symbol of which every module was read.
 ///
 /// # Errors
 ///
-/// Those of `mend_symbol_with_unknown`.
+/// Returns the same faults as `mend_symbol_with_unknown`.
 pub fn mend_symbol(alloc: Global, matrix: &Matrix) -> Result<Mended, ReadFault>
     ensures mended { MatchResult result
         (λ m. IsMendedReading (light matrix.now.side) matrix.now m.version m.level m.mask m.parsed m.changed.items)

@@ -9,7 +9,7 @@ ghost use Rattle.qr_layout.specs.Version.{side_of, total_codewords_of};
 ghost use Rattle.qr_matrix.specs.Grid.{colour};
 ghost use Rattle.qr_symbol.specs.declared.fault.ReadFault.{ReadFault};
 ghost use Rattle.qr_symbol.specs.Interleaving.{block_count, block_len, codeword_count, data_sizes, correction_sizes, IsInterleaved};
-ghost use Rattle.qr_symbol.specs.{Reading.{IsReadUnmasked}, Steps.Interleaving.{IsChecks}};
+ghost use Rattle.qr_symbol.specs.{Reading.{IsReadUnmasked}, Interleaving.{IsChecks}};
 ghost use Rattle.qr_mending.specs.Erasures.{read_of, IsMendedWithErasures};
 ghost use Rattle.qr_mending.specs.Message.{received, AreInBlocks};
 ghost use Rattle.qr_mending.specs.Steps.Message.{list_of, marks_at, read_by, AreMarksInBlocks, AreMended, AreWhole, HasCorrections, IsMendedMessage};
@@ -23,7 +23,7 @@ use qr_symbol::{BlockSizes, ReadFault, read_unmasked};
 use std::alloc::{AllocError, Global};
 
 // A mark for each codeword of a symbol, in the order of the final sequence. A mark is a byte with a bit for each module
-// of its codeword, which is 1 if the module was not read. Usually all modules were read; then no list is made, and
+// of its codeword. The bit is 1 if the module was not read. Usually all modules were read; then no list is made, and
 // `AllZero` stands for a list of zeros.
 #[derive(Drop)]
 pub(crate) enum Marks {
@@ -119,9 +119,9 @@ fn marks_in_blocks(
 {
     match marks {
         Marks::AllZero => Ok(MarksInBlocks::AllZero),
-        Marks::Each(each) => {
-            let parts = in_blocks(alloc, blocks, each)?;
-            Ok(MarksInBlocks::Each(parts))
+        Marks::Each(interleaved) => {
+            let each = in_blocks(alloc, blocks, interleaved)?;
+            Ok(MarksInBlocks::Each(each))
         }
     }
 }
@@ -148,7 +148,7 @@ fn block_of(
     Ok(codewords)
 }
 
-// Appends, for each mark, whether it is not 0, which means that its codeword is erased.
+// Appends, for each mark, whether its codeword is erased. It is erased if the mark is not 0.
 fn push_erased(erased: &mut Vec<bool>, marks: &[u8]) -> Result<(), AllocError>
     ensures { IfOk result (λ _. erased.new.items ≡ erased.old.items ++ map (λ mark. not (mark == 0)) marks.now) }
 {
@@ -181,8 +181,8 @@ fn erased_of(
     Ok(erased)
 }
 
-// Mends one block, and returns how many of its codewords were misread. Returns `None` if it cannot be mended. If `erased`
-// is empty, no codeword is erased.
+// Mends one block, and returns how many of its codewords were misread. Returns `None` if the block cannot be mended. If
+// `erased` is empty, no codeword is erased.
 fn mend_block(
     divisor: &Divisor,
     spare: usize,
@@ -205,8 +205,8 @@ fn mend_block(
     mend_with_erasures(divisor, spare, erased, codewords)
 }
 
-// The mended data codewords of all blocks, the error correction codewords that belong to them, and how many codewords of
-// each block were misread. In each list the blocks come in their order.
+// The mended data codewords of all blocks, the error correction codewords that belong to them, and how many codewords
+// of each block were misread. In each list the blocks come in their order.
 #[derive(Drop)]
 pub(crate) struct MendedBlocks {
     pub message: Vec<u8>,

@@ -2,11 +2,10 @@
 //! lowest power.
 
 ghost use Rattle.std.specs.Prelude.{◌≡◌, ◌+◌, ◌<◌, ◌≤◌, ◌++◌, [], ◌∷◌, length};
-ghost use Rattle.std.specs.List.{All};
-ghost use Rattle.qr_field.specs.Polynomial.{IsByte, plus, scaled, zeros};
-ghost use Rattle.qr_mending.specs.Steps.Polynomial.{all_of, IsMonic, discrepancy_of};
+ghost use Rattle.qr_field.specs.Polynomial.{plus, scaled, zeros};
+ghost use Rattle.qr_mending.specs.Steps.Polynomial.{all_of, IsMonic};
 
-use crate::sums::{dot, exponent_sum};
+use crate::sums::exponent_sum;
 use qr_field::{exponent_of, power_of};
 
 // `terms` has the coefficients up to index `degree`. Its later items are not used.
@@ -36,19 +35,9 @@ impl Polynomial {
         &self.terms[..self.degree + 1]
     }
 
-    // The sum of the coefficients, each multiplied by the item of `window` at the same index.
-    pub(crate) fn discrepancy(&self, window: &[u8]) -> u8
-        requires fits { self.now.degree < 16 }
-        requires long { self.now.degree < length window.now }
-        ensures value { result ≡ discrepancy_of self.now window.now }
-        ensures bytes { All IsByte (all_of self.now) }
-        ensures terms { self.now.degree < length self.now.terms }
-    {
-        dot(self.coefficients(), window)
-    }
-
-    // Adds the product of `other`, `factor` and x^`shift`. The degree and the leading coefficient stay, since this
-    // product has a lower degree. Elements of the field are multiplied by adding their logarithms.
+    // Adds the product of `other`, `factor` and x^`shift`. The degree and the leading coefficient do not change, since
+    // this product has a lower degree. Elements of the field are multiplied by adding their logarithms.
+    #[tactic(auto, using(crate::proofs::Named::add_facts))]
     pub(crate) fn add(&mut self, factor: u8, other: &Polynomial, shift: usize)
         requires some { 1 ≤ factor }
         requires lower { other.now.degree + shift < self.old.degree }

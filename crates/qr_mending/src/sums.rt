@@ -142,23 +142,24 @@ static MULTIPLES: [u128; 124] = [
     0xACAEE62E_115E6A74_EBA7FF4D_7CD6A003,
 ];
 
-// The sum of the products of items at equal indices. Items of `window` past the end of `terms` are left out. The loop
-// runs backward for the prover.
+// The sum of products: each item of `terms` is multiplied by the item of `factors` at the same index. Further items of
+// `factors` are left out. The loop runs backward for the prover.
 #[tactic(auto, using(crate::proofs::Named::value_facts))]
-pub(crate) fn dot(terms: &[u8], window: &[u8]) -> u8
-    requires { length terms.now ≤ length window.now }
-    ensures value { result ≡ dot_of terms.now window.now }
+pub(crate) fn dot(terms: &[u8], factors: &[u8]) -> u8
+    requires { length terms.now ≤ length factors.now }
+    ensures value { result ≡ dot_of terms.now factors.now }
     ensures bytes { All IsByte terms.now }
 {
     let mut sum = 0;
     for j in (0..terms.len()).rev() {
-        sum = mul(terms[j], window[j]) ^ sum;
+        sum = mul(terms[j], factors[j]) ^ sum;
     }
     sum
 }
 
 // The exponent of the product of 2 to the power `i` and 2 to the power `j`. It is below 255, since 2 to the power 255
 // is 1.
+#[tactic(auto, using(crate::proofs::Named::power_facts))]
 pub(crate) fn exponent_sum(i: u8, j: u8) -> u8
     requires first { i < 255 }
     requires second { j < 255 }
@@ -171,8 +172,9 @@ pub(crate) fn exponent_sum(i: u8, j: u8) -> u8
 }
 
 // Adds to item k of `sums`, for each k, the product of `element` and 2 to the power k * `step`. The exponent of this
-// product grows by `step` from item to item. So each product is looked up by its exponent, and does not wait for the
-// product before it.
+// product grows by `step` from item to item. So each product is looked up by its exponent, and the processor need not
+// wait for the product before it.
+#[tactic(auto, using(crate::proofs::Named::multiple_facts))]
 pub(crate) fn add_multiples(sums: &mut [u8], element: u8, step: u8)
     requires some { 1 ≤ element }
     requires small { step < 255 }
@@ -188,6 +190,7 @@ pub(crate) fn add_multiples(sums: &mut [u8], element: u8, step: u8)
 }
 
 // The product of `element` and 2 to the power `i` * `j`.
+#[tactic(auto, using(crate::proofs::Named::multiple_facts))]
 fn times_power(element: u8, i: u8, j: u8) -> u8
     ensures { result ≡ product element (power (i * j)) }
 {
@@ -200,6 +203,7 @@ fn times_power(element: u8, i: u8, j: u8) -> u8
 
 // The products of `digit` and 2 to the powers 0, `step`, 2 * `step` and so on up to 15 * `step`, one in each byte,
 // the first in the lowest byte.
+#[tactic(auto, using(crate::proofs::Named::digit_facts))]
 fn multiples(step: u8, digit: u8) -> u128
     requires step { step < 31 }
     requires digit { digit < 4 }
@@ -215,9 +219,10 @@ fn fourfold(elements: u128) -> u128
     doubled(doubled(elements))
 }
 
-// Sixteen sums of products, one in each byte. A factor is cut into four digits to the base 4, which have the weights
-// 64, 16, 4 and 1. The table `MULTIPLES` has the products by each digit, and for each weight these products are added
-// up separately. Only at the end, in `values`, are these four sums multiplied by their weights, and added.
+// Sixteen sums of products. One factor of each product is cut into four digits to the base 4, which have the weights
+// 64, 16, 4 and 1. The table `MULTIPLES` has the products of the digits and the other factor. Each field has sixteen
+// sums of such products, one in each byte, for the digits of one weight. Only at the end, in `values`, are the four
+// fields multiplied by their weights, and added.
 #[derive(Clone, Copy)]
 pub(crate) struct Sums {
     pub(crate) ones: u128,
@@ -235,6 +240,7 @@ impl Sums {
     };
 
     // Adds to sum k, for each k from 0 to 15, the product of `factor` and 2 to the power k * `step`.
+    #[tactic(auto, using(crate::proofs::Named::digit_facts))]
     fn add(&mut self, factor: u8, step: u8)
         requires { step < 31 }
         ensures { (k : ℕ) → k < 16 → sum_at k self.new ≡ bit_xor (sum_at k self.old) (product factor (power (k * step))) }

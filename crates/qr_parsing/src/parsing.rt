@@ -1,5 +1,5 @@
 //! The parse of a drawing, in two steps. The first guesses the type, the margin and the squares of the only drawing
-//! that the text can be. The second draws them again, and compares the drawing with the text.
+//! that the text can be. The second draws what was guessed, and compares the result with the text.
 
 ghost use Rattle.std.specs.Prelude.{◌≡◌, ◌⊎◌, ℕ, List, IfOk, IfErr, MatchOption};
 ghost use Rattle.std.specs.Bool.{Decides};
@@ -11,7 +11,7 @@ ghost use Rattle.qr_parsing.specs.Parsing.{BeginsAsSymbol, IsDrawingOf, IsNoDraw
 ghost use Rattle.qr_parsing.specs.Steps.Parsing.{CanBeDrawn, IsGuess};
 ghost use Rattle.qr_parsing.specs.Steps.Sheet.{IsSheetOf, kind_in};
 
-use crate::sheet::{COUNT_MAX, SIDE_MIN, Sheet, margin_of, squares_of};
+use crate::sheet::{COUNT_MAX, SIDE_MAX, SIDE_MIN, Sheet, margin_of, squares_of};
 use crate::svg::{canvas_of, size_in};
 use crate::text::{ascii_sheet, cell_sheet, cells_in, kind_in};
 use qr_devices::{Bounded, Counted};
@@ -23,7 +23,8 @@ use thiserror::Error;
 /// Why a text is not parsed.
 #[derive(Clone, Copy, Debug, PartialEq, Eq, Error)]
 pub enum DrawingFault {
-    /// The text is no drawing of squares that begin as symbols do.
+    /// The text is no drawing of squares that have, as every symbol has, a dark module in row 0 and column 0 and a
+    /// light module in row 0 and column 7.
     #[error("not a drawing of symbols")]
     NotADrawing = 1,
     /// Memory was refused.
@@ -60,7 +61,7 @@ fn drawn_of(alloc: Global, sheet: &Sheet) -> Result<Option<Drawn>, AllocError>
         → IfOk result (λ found. MatchOption found (IsNoDrawing text) (λ d. IsGuess d.kind d.margin d.squares.items text)) }
 {
     let margin = margin_of(sheet);
-    if margin > 255 || sheet.width < 2 * margin + SIDE_MIN || sheet.width - 2 * margin > 177 {
+    if margin > 255 || sheet.width < 2 * margin + SIDE_MIN || sheet.width - 2 * margin > SIDE_MAX {
         return Ok(None);
     }
     if sheet.count == 0 || sheet.count > COUNT_MAX {
@@ -149,8 +150,8 @@ fn all_begin(squares: &[Matrix]) -> bool
     true
 }
 
-// Draws `shown` again, and returns whether this drawing is `text`. The drawing has room for one byte more than `text`
-// has. If it needs that byte, it is not `text`, and the rest of it is not drawn.
+// Draws `shown` again, and returns whether this drawing is `text`. There is room for one byte more than `text` has. A
+// drawing that needs this byte is longer than `text`, and the rest of it is not drawn.
 fn is_drawn(alloc: Global, shown: &Drawn, text: &[u8]) -> Result<bool, AllocError>
     requires { CanBeDrawn shown.now.squares.items }
     ensures { IfOk result (λ b. Decides b (text.now ≡ drawn shown.now.kind shown.now.margin shown.now.squares.items)) }
@@ -183,9 +184,9 @@ fn is_drawing_of(alloc: Global, text: &[u8], shown: &Drawn) -> Result<bool, Allo
 /// Returns what the drawing `text` shows.
 ///
 /// It accepts the drawings that `qr_drawing::draw` makes, of each type and with a margin of 0 to 255 modules, if they
-/// show 1 to 16 squares that begin as every symbol does. The squares have the same side, of 8 to 177 modules. The
-/// module at the top left of each square is dark, and the one in column 7 of row 0 is light (ISO/IEC 18004:2015, 6.3.3,
-/// 6.3.4). Such a text is the drawing of only one type, one margin and one list of squares.
+/// show 1 to 16 squares with the same side, of 8 to 177 modules. As in every symbol, the module at the top left of each
+/// square has to be dark, and the one in column 7 of row 0 has to be light (ISO/IEC 18004:2015, 6.3.3, 6.3.4). Such a
+/// text is the drawing of only one type, one margin and one list of squares.
 ///
 /// # Errors
 ///

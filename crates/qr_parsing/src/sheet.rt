@@ -1,27 +1,31 @@
 //! Sheets. A text or a document is made into a sheet before its modules are read, so that all types of drawing are then
 //! read in the same way. The bytes of a sheet show the modules of all rasters of a drawing, raster after raster and row
 //! by row. So the index of the byte that shows a module can be computed. `k` is the index of a raster, and `y` and `x`
-//! are a row and a column of it. At most 687 modules are side by side, so rows and columns are below 1,000.
+//! are a row and a column of it. A raster has at most 687 modules on a side, so rows and columns are below 1,000.
 
-ghost use Rattle.std.specs.Prelude.{◌≡◌, ℕ, ◌<◌, ◌≤◌, ◌+◌, ◌*◌, ◌⊎◌, false, true, length, slice_index_or, map, IfOk};
+ghost use Rattle.std.specs.Prelude.{◌≡◌, ℕ, ◌<◌, ◌≤◌, ◌+◌, ◌*◌, false, true, length, slice_index_or, map, IfOk};
 ghost use Rattle.std.specs.List.{range_with_len};
 ghost use Rattle.qr_matrix.specs.Grid.{square};
 ghost use Rattle.qr_matrix.specs.Bytes.{byte_of};
 ghost use Rattle.qr_parsing.specs.Steps.Sheet.{HasPlaces, is_dark_byte, is_dark_on, is_sign, place_of};
+ghost use Rattle.qr_parsing.specs.declared.sheet.TheConstants.{WIDTH_MAX};
 
 use qr_drawing::Drawing;
 use qr_matrix::matrix_of_bytes;
 use qr_symbol::Matrix;
 use std::alloc::{AllocError, Global};
 
-/// The side of the smallest squares that are parsed; they still have a column 7.
+/// The side of the smallest squares that are parsed. Smaller squares have no column 7.
 pub(crate) const SIDE_MIN: usize = 8;
 
 /// The greatest number of rasters of a drawing.
 pub(crate) const COUNT_MAX: usize = 16;
 
-/// The greatest width of a raster: 177 modules with a margin of 255 on each side.
-pub(crate) const WIDTH_MAX: usize = 687;
+/// The side of the greatest squares, which symbols of version 40 have.
+pub(crate) const SIDE_MAX: usize = 177;
+
+/// The greatest width of a raster: that of the greatest squares with a margin of 255 modules on each side.
+pub(crate) const WIDTH_MAX: usize = SIDE_MAX + 2 * 255;
 
 #[derive(Drop)]
 pub(crate) struct Sheet<'a> {
@@ -30,18 +34,19 @@ pub(crate) struct Sheet<'a> {
     pub(crate) width: usize,
     /// The number of rasters.
     pub(crate) count: usize,
-    /// In the ASCII types two bytes show a module, in UTF8 one byte shows two, and in SVG one byte shows one. Each line
-    /// of text ends with a newline.
+    /// In the ASCII types two bytes show a module, in UTF8 one byte shows two modules, and in SVG one byte shows one
+    /// module. In all but SVG a newline ends each line.
     pub(crate) bytes: &'a [u8],
-    ghost wide: { width ≤ 687 },
+    ghost wide: { width ≤ WIDTH_MAX },
     ghost whole: { HasPlaces kind width count bytes.now },
 }
 
-// Returns the index of the byte that shows a module. In the ASCII types it is the first of the two.
+// Returns the index of the byte that shows a module. The ASCII types have two such bytes, and it is the index of the
+// first.
 #[tactic(auto, using(crate::proofs::Named::place_facts))]
 fn place_of(kind: Drawing, width: usize, k: usize, y: usize, x: usize) -> usize
     requires width_in { width < 1000 }
-    requires k_in { k < 16 }
+    requires k_in { k < COUNT_MAX }
     requires y_in { y < 1000 }
     requires x_in { x < 1000 }
     ensures { result ≡ place_of kind width k y x }
@@ -66,10 +71,11 @@ fn is_dark_byte(kind: Drawing, y: usize, byte: u8) -> bool
     }
 }
 
-// Says whether the sheet shows a dark module. If a drawing is cut off, the modules after its end are light.
+// Says whether the module in row `y` and column `x` of raster `k` is dark. If the sheet ends before this module, it
+// counts as light.
 #[tactic(auto, unfolding(crate::specs::Steps::Sheet::is_dark_on))]
 fn is_dark(sheet: &Sheet, k: usize, y: usize, x: usize) -> bool
-    requires k_in { k < 16 }
+    requires k_in { k < COUNT_MAX }
     requires y_in { y < 1000 }
     requires x_in { x < 1000 }
     ensures { result ≡ is_dark_on sheet.now.kind sheet.now.width sheet.now.bytes.now k y x }
@@ -79,8 +85,8 @@ fn is_dark(sheet: &Sheet, k: usize, y: usize, x: usize) -> bool
     is_dark_byte(sheet.kind, y, byte)
 }
 
-/// Returns the number of light modules on the diagonal of the first raster before the first dark one. It is the margin
-/// if the square has a dark module at the top left.
+/// Returns how many light modules come before the first dark one on the diagonal of the first raster, from the top
+/// left. This number is the margin if the module at the top left of the square is dark.
 pub(crate) fn margin_of(sheet: &Sheet) -> usize
     ensures most { result ≤ sheet.now.width }
     ensures light { (i : ℕ) → i < result
@@ -103,74 +109,48 @@ fn is_sign(signs: (u8, u8), byte: u8) -> bool
     byte == signs.0 || byte == signs.1
 }
 
-// Writes `side` modules of a row into the bytes of `modules` from the index `start` on, and changes no other byte. The
-// first module is shown by the byte of `bytes` at the index `first`, and each later module by the byte that is `step`
-// bytes after that of the module before it. A byte shows a dark module if it is one of the two signs. The function is
-// compiled once for each type of drawing. There `step` and the signs are constants, so that many bytes are compared at
-// once.
+// Writes the modules of a row into `modules`, a byte for each. The byte of `bytes` at the index `first` shows the first
+// module, the byte at the index `first + step` the second, and so on. A byte shows a dark module if it is one of the
+// two signs. This function is inlined into a call for each type of drawing. There `step` is a constant, so the compiled
+// loop compares many bytes at once.
 #[inline(always)]
-fn write_by(
-    bytes: &[u8],
-    first: usize,
-    step: usize,
-    signs: (u8, u8),
-    side: u8,
-    start: usize,
-    modules: &mut [u8],
-)
+fn write_by(bytes: &[u8], first: usize, step: usize, signs: (u8, u8), modules: &mut [u8])
     requires step_in { step ≤ 2 }
-    requires inside { (i : ℕ) → i < side → first + step * i < length bytes.now }
-    requires room { start + side ≤ length modules.old }
-    ensures row { (i : ℕ) → i < side → slice_index_or modules.new (start + i) 0
+    requires inside { (i : ℕ) → i < length modules.old → first + step * i < length bytes.now }
+    ensures { (i : ℕ) → i < length modules.old → slice_index_or modules.new i 0
         ≡ byte_of (is_sign signs (slice_index_or bytes.now (first + step * i) 0)) }
-    ensures others { (i : ℕ) → (i < start) ⊎ (start + side ≤ i)
-        → slice_index_or modules.new i 0 ≡ slice_index_or modules.old i 0 }
 {
-    for i in 0..usize::from(side) {
-        modules[start + i] = u8::from(is_sign(signs, bytes[first + step * i]));
+    for i in 0..modules.len() {
+        modules[i] = u8::from(is_sign(signs, bytes[first + step * i]));
     }
 }
 
-// Writes row `y` of raster `k`, without the margin, into the bytes of `modules` from the index `start` on, and changes
-// no other byte.
-fn write_row(
-    sheet: &Sheet,
-    margin: usize,
-    side: u8,
-    k: usize,
-    y: usize,
-    start: usize,
-    modules: &mut [u8],
-)
-    requires most { side ≤ 177 }
+// Writes a row of raster `k` into `modules`, a byte for each module, from the first module after the margin on.
+fn write_row(sheet: &Sheet, margin: usize, k: usize, y: usize, modules: &mut [u8])
     requires k_in { k < sheet.now.count }
-    requires few { sheet.now.count ≤ 16 }
+    requires few { sheet.now.count ≤ COUNT_MAX }
     requires y_in { y < sheet.now.width }
-    requires x_in { margin + side ≤ sheet.now.width }
-    requires room { start + side ≤ length modules.old }
-    ensures row { (c : ℕ) → c < side → slice_index_or modules.new (start + c) 0
+    requires x_in { margin + length modules.old ≤ sheet.now.width }
+    ensures { (c : ℕ) → c < length modules.old → slice_index_or modules.new c 0
         ≡ byte_of (is_dark_on sheet.now.kind sheet.now.width sheet.now.bytes.now k y (margin + c)) }
-    ensures others { (i : ℕ) → (i < start) ⊎ (start + side ≤ i)
-        → slice_index_or modules.new i 0 ≡ slice_index_or modules.old i 0 }
 {
     let first = place_of(sheet.kind, sheet.width, k, y, margin);
-    let bytes = sheet.bytes;
     match sheet.kind {
-        Drawing::Ascii => write_by(bytes, first, 2, (b'#', b'#'), side, start, modules),
-        Drawing::AsciiInverse => write_by(bytes, first, 2, (b' ', b' '), side, start, modules),
+        Drawing::Ascii => write_by(sheet.bytes, first, 2, (b'#', b'#'), modules),
+        Drawing::AsciiInverse => write_by(sheet.bytes, first, 2, (b' ', b' '), modules),
         Drawing::Utf8 => {
             let half = if y % 2 == 0 { 0x84 } else { 0x80 };
-            write_by(bytes, first, 1, (b' ', half), side, start, modules);
+            write_by(sheet.bytes, first, 1, (b' ', half), modules);
         }
-        Drawing::Svg => write_by(bytes, first, 1, (1, 1), side, start, modules),
+        Drawing::Svg => write_by(sheet.bytes, first, 1, (1, 1), modules),
     }
 }
 
 // Writes the square of raster `k` into `modules`, row by row.
 fn write_modules(sheet: &Sheet, margin: usize, side: u8, k: usize, modules: &mut [u8])
-    requires most { side ≤ 177 }
+    requires most { side ≤ SIDE_MAX }
     requires k_in { k < sheet.now.count }
-    requires few { sheet.now.count ≤ 16 }
+    requires few { sheet.now.count ≤ COUNT_MAX }
     requires fits { margin + side ≤ sheet.now.width }
     requires room { side * side ≤ length modules.old }
     ensures { (r c : ℕ) → r < side → c < side → slice_index_or modules.new (r * side + c) 0
@@ -179,8 +159,9 @@ fn write_modules(sheet: &Sheet, margin: usize, side: u8, k: usize, modules: &mut
     let mut start = 0;
     for row in 0..side {
         let y = margin + usize::from(row);
-        write_row(sheet, margin, side, k, y, start, modules);
-        start += usize::from(side);
+        let end = start + usize::from(side);
+        write_row(sheet, margin, k, y, &mut modules[start..end]);
+        start = end;
     }
 }
 
@@ -192,9 +173,9 @@ fn square_of(
     k: usize,
 ) -> Result<Matrix, AllocError>
     requires least { 1 ≤ side }
-    requires most { side ≤ 177 }
+    requires most { side ≤ SIDE_MAX }
     requires k_in { k < sheet.now.count }
-    requires few { sheet.now.count ≤ 16 }
+    requires few { sheet.now.count ≤ COUNT_MAX }
     requires fits { margin + side ≤ sheet.now.width }
     ensures { IfOk result (λ m. m ≡ square side
         (λ r c. is_dark_on sheet.now.kind sheet.now.width sheet.now.bytes.now k (margin + r) (margin + c))) }
@@ -212,8 +193,8 @@ pub(crate) fn squares_of(
     side: u8,
 ) -> Result<Vec<Matrix>, AllocError>
     requires least { 1 ≤ side }
-    requires most { side ≤ 177 }
-    requires few { sheet.now.count ≤ 16 }
+    requires most { side ≤ SIDE_MAX }
+    requires few { sheet.now.count ≤ COUNT_MAX }
     requires fits { margin + side ≤ sheet.now.width }
     ensures { IfOk result (λ squares. squares.items ≡ map (λ k. square side
         (λ r c. is_dark_on sheet.now.kind sheet.now.width sheet.now.bytes.now k (margin + r) (margin + c)))

@@ -1,7 +1,7 @@
 //! The sheets of SVG documents. The size of a document is among the numbers in its text. Its boxes are painted on a
-//! canvas, which has a byte for each module; these are the bytes of the sheet. The path begins at the first `M`. A box
-//! is `M`, its column, its row, `h`, its number of modules, `v1h-`, the number of modules again, and `z`. Only the
-//! first three numbers of a box are read. All other bytes are checked when the drawing is made again.
+//! canvas, which has a byte for each module. The bytes of the canvas are those of the sheet. The path begins at the
+//! first `M`. A box is `M`, its column, its row, `h`, its number of modules, `v1h-`, the number of modules again, and
+//! `z`. Only the first three numbers of a box are read. All other bytes are checked when the drawing is made again.
 
 ghost use Rattle.std.specs.Prelude.{◌≡◌, ℕ, ◌<◌, ◌≤◌, ◌+◌, ◌*◌, ◌/◌, ◌%◌, ◌^◌, ◌==◌, ◌&&◌, ◌∷◌, ◌++◌, [], List, false, decimal, drop, nat_le, nat_lt, if◌then◌else◌, length, slice_index_or, IfOk, IfSome, MatchOption};
 ghost use Rattle.qr_parsing.specs.Steps.Sheet.{HasNoSheet, count_in, kind_in, width_in};
@@ -13,8 +13,8 @@ use crate::text::position_of;
 use std::alloc::{AllocError, Global};
 
 // The index of the document's width among the numbers in its text. The numbers before it are in the version of XML (1,
-// 0), the encoding (8), the name of SVG (3, 2000), the version of SVG (1, 1) and the corner of the document (0, 0). The
-// number after the width is the height.
+// 0), the encoding (8), the namespace of SVG (3, 2000), the version of SVG (1, 1) and the corner of the document (0,
+// 0). The number after the width is the height.
 const WIDTH: usize = 9;
 
 // Each greater number is read as this one, which occurs in no drawing.
@@ -24,7 +24,7 @@ const NUMBER_MAX: u32 = 99_999;
 // very end of the text is not returned. The label of the loop is for the prover.
 #[tactic(auto, unfolding(crate::specs::Steps::Svg::numbers_after))]
 fn next_number(text: &[u8]) -> Option<(u32, &[u8])>
-    ensures small { IfSome result (λ s. s.0 ≤ 99999) }
+    ensures small { IfSome result (λ s. s.0 ≤ NUMBER_MAX) }
     ensures shorter { IfSome result (λ s. length s.1.now < length text.now) }
     ensures reads { MatchOption result (numbers_in text.now ≡ [])
         (λ s. numbers_in text.now ≡ s.0 ∷ numbers_in s.1.now) }
@@ -76,11 +76,11 @@ pub(crate) struct Size {
     pub(crate) count: usize,
 }
 
-/// Returns the size of a document, if a drawing can have it. A drawing has at most 16 rasters, so its height is below
-/// 17 times its width.
+/// Returns the size of a document, if a drawing can have this size. A drawing has at most 16 rasters, so its height is
+/// below 17 times its width.
 pub(crate) fn size_in(text: &[u8]) -> Option<Size>
     requires { kind_in text.now ≡ Svg }
-    ensures small { IfSome result (λ s. (8 ≤ s.width) × (s.width ≤ 687) × (s.height < 17 * 687)) }
+    ensures small { IfSome result (λ s. (SIDE_MIN ≤ s.width) × (s.width ≤ WIDTH_MAX) × (s.height < (COUNT_MAX + 1) * WIDTH_MAX)) }
     ensures size { MatchOption result (HasNoSheet text.now)
         (λ s. (s.width ≡ width_in Svg text.now) × (s.count ≡ count_in Svg text.now)
         × (s.height ≡ slice_index_or (numbers_in text.now) 10 0)) }
@@ -107,7 +107,7 @@ pub(crate) fn size_in(text: &[u8]) -> Option<Size>
 fn number_after(text: &[u8], at: usize) -> Option<(u32, usize)>
     requires { at + 6 ≤ length text.now }
     ensures within { IfSome result (λ s. (at < s.1) × (s.1 ≤ length text.now)) }
-    ensures reads { (n byte : ℕ) (rest : List ℕ) → n ≤ 99999 → is_digit byte ≡ false → 4 ≤ length rest
+    ensures reads { (n byte : ℕ) (rest : List ℕ) → n ≤ NUMBER_MAX → is_digit byte ≡ false → 4 ≤ length rest
         → drop at text.now ≡ decimal n ++ byte ∷ rest
         → MatchOption result ⊥ (λ s. (s.0 ≡ n) × (drop s.1 text.now ≡ rest)) }
 {
@@ -131,7 +131,7 @@ struct DarkBox {
 }
 
 // Returns the box that begins at index `at`, and the index after the box. A number is read only if at least six bytes
-// are left. In a drawing that is always so.
+// are left, as they always are in a drawing.
 fn box_at(text: &[u8], at: usize) -> Option<(DarkBox, usize)>
     requires { at ≤ length text.now }
     ensures within { IfSome result (λ s. (at < s.1) × (s.1 ≤ length text.now)) }
@@ -171,12 +171,13 @@ fn box_at(text: &[u8], at: usize) -> Option<(DarkBox, usize)>
     Some((DarkBox { x, y, modules }, after_modules + back))
 }
 
-// Makes the modules of a box dark, as far as they are on the canvas.
+// Makes a box of `modules` modules dark, which begins at column `x` of row `y`. `bytes` has `height` rows of `width`
+// modules, a byte for each module. Modules of the box outside these rows and columns are left out.
 fn paint(bytes: &mut [u8], width: usize, height: usize, x: usize, y: usize, modules: usize)
     requires area { length bytes.old ≡ width * height }
     requires some { 0 < width }
-    requires wide { width ≤ 687 }
-    requires high { height ≤ 99999 }
+    requires wide { width ≤ WIDTH_MAX }
+    requires high { height ≤ NUMBER_MAX }
     requires x_in { x < 2 ^ 32 }
     requires modules_in { modules < 2 ^ 32 }
     ensures { (i : ℕ) → i < length bytes.old → slice_index_or bytes.new i 0
@@ -185,8 +186,8 @@ fn paint(bytes: &mut [u8], width: usize, height: usize, x: usize, y: usize, modu
 {
     if y < height {
         let end = (x + modules).min(width);
-        // Three of four runs have one or two modules. These modules are written before the loop, because the compiler
-        // makes the loop a call that fills memory.
+        // Three of four runs of dark modules have only one or two modules. The first two are written before the loop,
+        // because the compiler turns the loop into a call that fills memory.
         if x < end {
             bytes[y * width + x] = 1;
             if x + 1 < end {
@@ -203,8 +204,8 @@ fn paint(bytes: &mut [u8], width: usize, height: usize, x: usize, y: usize, modu
 fn paint_all(bytes: &mut [u8], width: usize, height: usize, text: &[u8])
     requires area { length bytes.old ≡ width * height }
     requires some { 0 < width }
-    requires wide { width ≤ 687 }
-    requires high { height ≤ 99999 }
+    requires wide { width ≤ WIDTH_MAX }
+    requires high { height ≤ NUMBER_MAX }
     ensures { (numbers : List ℕ) → IsPath numbers (path_in text.now) → (i : ℕ) → i < length bytes.old
         → slice_index_or bytes.new i 0
         ≡ (if is_in_boxes numbers (i / width) (i % width) then 1 else slice_index_or bytes.old i 0) }
@@ -231,8 +232,8 @@ pub(crate) fn canvas_of(
     text: &[u8],
 ) -> Result<Vec<u8>, AllocError>
     requires some { 0 < width }
-    requires wide { width ≤ 687 }
-    requires high { height ≤ 99999 }
+    requires wide { width ≤ WIDTH_MAX }
+    requires high { height ≤ NUMBER_MAX }
     ensures area { IfOk result (λ bytes. length bytes.items ≡ width * height) }
     ensures painted { (numbers : List ℕ) → IsPath numbers (path_in text.now)
         → IfOk result (λ bytes. bytes.items ≡ canvas_of width height numbers) }

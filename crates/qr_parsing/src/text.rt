@@ -1,4 +1,4 @@
-//! The type of drawing that a text can be, and the sheets of texts. (`sheet.rt` says what a sheet is.)
+//! Finds the type of drawing that a text can be, and makes the sheets of texts. (`sheet.rt` says what a sheet is.)
 
 ghost use Rattle.std.specs.Prelude.{◌≡◌, ℕ, ◌<◌, ◌≤◌, ◌==◌, ◌⊎◌, List, length, take, IfOk, MatchOption};
 ghost use Rattle.std.specs.List.{position_or_len};
@@ -9,8 +9,8 @@ use crate::sheet::{SIDE_MIN, Sheet, WIDTH_MAX};
 use qr_drawing::Drawing;
 use std::alloc::{AllocError, Global};
 
-// A UTF8 drawing has the first byte of a block character among its first 22 bytes. For the module in column 7 of its
-// first row is light, so the character there is a block, and the seven characters before it have at most three bytes
+// A UTF8 drawing has the first byte of a block character among its first 22 bytes. The module in column 7 of its first
+// row is light, so the character there is a block character. The seven characters before it have at most three bytes
 // each.
 const BLOCK_WITHIN: usize = 22;
 
@@ -33,9 +33,9 @@ fn has_block(text: &[u8]) -> bool
     position_of(first, 0xE2) < first.len()
 }
 
-/// Returns the only type of drawing that `text` can be. In the ASCII types a module is two bytes, and the module in
-/// column 7 of the first row is light, whether it is in the margin or in the square. So byte 14 says which sign is
-/// light.
+/// Returns the only type of drawing that `text` can be. In the ASCII types two bytes show a module. The module in
+/// column 7 of the first row is light, whether it is in the margin or in the square. So the byte with the index 14 says
+/// which sign stands for light modules.
 pub(crate) fn kind_in(text: &[u8]) -> Drawing
     ensures { result ≡ kind_in text.now }
 {
@@ -52,7 +52,7 @@ pub(crate) fn kind_in(text: &[u8]) -> Drawing
 }
 
 /// Returns the sheet of a text of an ASCII type. The bytes of the sheet are the text itself. Returns `None` only if no
-/// drawing is as wide as this text, or has as many rasters.
+/// drawing can be as wide as this text, or have as many rasters.
 pub(crate) fn ascii_sheet(text: &[u8], kind: Drawing) -> Option<Sheet<'_>>
     requires ascii { (kind ≡ Drawing.Ascii) ⊎ (kind ≡ Drawing.AsciiInverse) }
     requires kind { kind ≡ kind_in text.now }
@@ -100,8 +100,8 @@ pub(crate) fn cells_in(alloc: Global, text: &[u8]) -> Result<Vec<u8>, AllocError
     Ok(cells)
 }
 
-/// Returns the sheet of a UTF8 text, whose bytes are those that `cells_in` returned for the text. Returns `None` only
-/// if no drawing is as wide as this text, or has as many rasters.
+/// Returns the sheet of a UTF8 text. Its bytes are `cells`, which `cells_in` has made of the text. Returns `None` only
+/// if no drawing can be as wide as this text, or have as many rasters.
 pub(crate) fn cell_sheet(cells: &[u8]) -> Option<Sheet<'_>>
     ensures { (text : List ℕ) → kind_in text ≡ Drawing.Utf8 → cells.now ≡ cells_in text
         → MatchOption result (HasNoSheet text) (λ s. IsSheetOf s.kind s.width s.count s.bytes.now text) }

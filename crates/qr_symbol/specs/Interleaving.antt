@@ -36,20 +36,20 @@ data_sizes b = record { short = b.short; short_len = b.short_len; long = b.long 
 abbrev pub correction_sizes : Blocks → BlockSizes
 correction_sizes b = record { short = b.short + b.long; short_len = b.ec_len; long = 0 }
 
--- The position of a codeword: `block` is the index of its block, and `place` its index in this block. Both are counted
+-- The position of a codeword: `block` is the index of its block, and `index` its index in this block. Both are counted
 -- from 0 (ISO/IEC 18004:2015, 7.6)
 pub record Position : Type 0 where
-  pub place : ℕ
+  pub index : ℕ
   pub block : ℕ
 
 -- The codeword at position `t` comes before the one at position `u` in interleaved order. Either `t` has the smaller
 -- index in a block, or both indices are equal and the block of `t` comes before that of `u` (ISO/IEC 18004:2015, 7.6)
 abbrev pub ComesBefore : Position → Position → Type 0
-ComesBefore t u = (t.place < u.place) ⊎ ((t.place ≡ u.place) × (t.block < u.block))
+ComesBefore t u = (t.index < u.index) ⊎ ((t.index ≡ u.index) × (t.block < u.block))
 
--- There is a codeword at position `t`: the block `t.block` exists, and has a codeword with the index `t.place` [own]
+-- There is a codeword at position `t`: the block `t.block` exists, and has a codeword with the index `t.index` [own]
 abbrev pub IsPosition : BlockSizes → Position → Type 0
-IsPosition c t = (t.block < block_count c) × (t.place < block_len c t.block)
+IsPosition c t = (t.block < block_count c) × (t.index < block_len c t.block)
 
 -- `ts` lists the positions of all codewords, in interleaved order (ISO/IEC 18004:2015, 7.6)
 pub record IsPositionOrder (c : BlockSizes) (ts : List Position) : Type 0 where
@@ -59,7 +59,7 @@ pub record IsPositionOrder (c : BlockSizes) (ts : List Position) : Type 0 where
 
 -- The codeword at position `t`, if `d` lists the codewords of all blocks, one block after the other [own]
 abbrev pub codeword_at : BlockSizes → List ℕ → Position → ℕ
-codeword_at c d t = slice_index_or d (start_of c t.block + t.place) 0
+codeword_at c d t = slice_index_or d (start_of c t.block + t.index) 0
 
 -- The codewords of block `i`, counted from 0, if `d` lists the codewords of all blocks, one block after the other
 -- (ISO/IEC 18004:2015, 7.5.1)
@@ -74,7 +74,7 @@ block_of b d i = part_of (data_sizes b) d i
 -- The error correction codeword at position `t`, if item i of `corrections` lists the error correction codewords of
 -- block i [own]
 abbrev pub check_at : List (List ℕ) → Position → ℕ
-check_at corrections t = slice_index_or (slice_index_or corrections t.block []) t.place 0
+check_at corrections t = slice_index_or (slice_index_or corrections t.block []) t.index 0
 
 -- `cw` is the final sequence of the data codewords `d`, which are divided into the blocks `b` (ISO/IEC 18004:2015,
 -- 7.5.2, 7.6)
@@ -87,6 +87,12 @@ pub record IsFinalMessage (b : Blocks) (d cw : List ℕ) : Type 0 where
   pub check_positions : List Position
   pub check_order : IsPositionOrder (correction_sizes b) check_positions
   pub whole : cw ≡ map (codeword_at (data_sizes b) d) data_positions ++ map (check_at corrections) check_positions
+
+-- `xs` lists the error correction codewords of the first `blocks` blocks, block by block, if `d` lists the data
+-- codewords of all blocks, block by block (ISO/IEC 18004:2015, 7.5.2)
+pub record IsChecks (b : Blocks) (d : List ℕ) (blocks : ℕ) (xs : List ℕ) : Type 0 where
+  pub long : length xs ≡ start_of (correction_sizes b) blocks
+  pub each : (i : ℕ) → i < blocks → IsCorrection (block_of b d i) b.ec_len (part_of (correction_sizes b) xs i)
 
 -- `cw` is the final sequence of the data codewords `d` in a symbol of version `v` and level `l` (ISO/IEC 18004:2015,
 -- 7.5.2, 7.6)

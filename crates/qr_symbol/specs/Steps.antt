@@ -6,5 +6,4 @@ pub mod Placement
 pub mod Collecting
 pub mod Canvas
 pub mod Series
-pub mod Interleaving
 pub mod Encoding

@@ -1,6 +1,7 @@
 //! Draws symbols on a canvas, which all symbols of a series share (ISO/IEC 18004:2015, 7.7 and 7.8). Function patterns
 //! and version information are drawn once for a series, and codewords once for each symbol. Masks are tried two at a
-//! time, and for each the mask and its format information are drawn. For the best mask they are drawn once more.
+//! time, by drawing the symbol under each mask with the format information of the mask. At the end this is done once
+//! more for the best mask.
 
 ghost use Rattle.std.specs.Prelude.{◌≡◌, Bool, ◌<◌, if◌then◌else◌, IfOk};
 ghost use Rattle.qr_layout.specs.Version.{side_of};
@@ -16,8 +17,9 @@ use qr_matrix::{Matrix, MatrixPair};
 use std::alloc::{AllocError, Global};
 use std::mem;
 
-// The format information that `plain` has: only bit 7 is dark. With it, exchanging rows and columns changes nothing
-// outside the region. The dark module is exchanged with a module of bit 7, so both have to be dark.
+// The format information that `plain` has: only the modules of bit 7 are dark. With it, `plain` has the same colours
+// outside the region if rows and columns are exchanged. The dark module is exchanged with a module of bit 7, so the
+// modules of bit 7 have to be dark too.
 const SYMMETRIC_FORMAT: u32 = 1 << 7;
 
 /// The squares from which symbols are made. In `region` exactly the region is dark. `plain` is a symbol before its mask
@@ -51,8 +53,8 @@ impl Canvas {
     }
 
     // Draws the codewords in place of those of the earlier symbol. They are drawn into the old `plain`, which serves as
-    // the transposed square: outside the region, a symbol and its transposed square are the same. Then this square is
-    // transposed into the new `plain`, and `across` keeps it as it was.
+    // the transposed square, because outside the region `plain` and its transposed square are the same. Afterwards
+    // `across` has this square, and the new `plain` has it with rows and columns exchanged.
     #[inline(never)]
     pub(crate) fn draw_data(&mut self, across: &mut Matrix, codewords: &[u8])
         requires { IsSquare (side_of self.old.version) across.old }
@@ -68,8 +70,8 @@ impl Canvas {
         self.plain.set_transposed(across);
     }
 
-    // Draws the symbol under `mask` into `matrix`. Applying the mask writes all modules of `matrix`, so the format
-    // information is drawn after it.
+    // Draws the symbol under `mask` into `matrix`. The format information is drawn last, because applying the mask
+    // writes all modules of `matrix`.
     pub(crate) fn draw_masked(&self, matrix: &mut Matrix, mask: u8)
         requires mask_in { mask < 8 }
         requires square { IsSquare (side_of self.now.version) matrix.old }

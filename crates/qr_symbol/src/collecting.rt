@@ -1,6 +1,7 @@
-//! Collects the codewords from the region, strip by strip (ISO/IEC 18004:2015, 7.7.3 and 12), and so undoes
-//! `draw_codewords`. `across` is a transposed square, in which the two columns of a strip are rows (`spans.rt`). In
-//! `region` exactly the region is dark; the region is symmetric, so transposing does not change it.
+//! Collects the codewords from the region, strip by strip (ISO/IEC 18004:2015, 7.7.3 and 12), and so undoes what
+//! `draw_codewords` in `placement.rt` does. `across` is a transposed square, in which the two columns of a strip are
+//! rows (`spans.rt`). In `region` exactly the region is dark. The region is symmetric, so `region` is equal to its
+//! transposed square.
 
 ghost use Rattle.std.specs.Prelude.{◌≡◌, ℕ, ◌%◌, ◌+◌, ◌<◌, ◌≤◌, map, length, IfOk};
 ghost use Rattle.qr_layout.specs.Version.{side_of, total_codewords_of};
@@ -45,13 +46,13 @@ fn collect_rows(bits: &mut Collector, columns: &Columns, top: u8, count: u8, upw
 fn collect_columns(
     bits: &mut Collector,
     columns: &Columns,
-    v: Version,
+    version: Version,
     region: &Columns,
     strip: Strip,
 )
-    ensures { Appends (bits_in_rows (side_of v) strip region.now columns.now 0 (side_of v)) bits.old bits.new }
+    ensures { Appends (bits_in_rows (side_of version) strip region.now columns.now 0 (side_of version)) bits.old bits.new }
 {
-    for span in Spans::new(region, strip, v.side(), ROWS_MAX) {
+    for span in Spans::new(region, strip, version.side(), ROWS_MAX) {
         match span {
             Span::Both { top, count } => collect_rows(bits, columns, top, count, strip.upward),
             Span::Right { row } => bits.push_bit(columns.right.at(row)),
@@ -63,13 +64,19 @@ fn collect_columns(
 
 // As `collect_columns`, but takes the columns from the squares. `collect_columns` is called in two places, so that the
 // compiler makes separate code for strips that are filled upward and for those that are filled downward.
-fn collect_strip(bits: &mut Collector, across: &Matrix, v: Version, region: &Matrix, strip: Strip)
-    requires side { across.now.side ≡ side_of v }
-    requires region { region.now ≡ region_grid v }
+fn collect_strip(
+    bits: &mut Collector,
+    across: &Matrix,
+    version: Version,
+    region: &Matrix,
+    strip: Strip,
+)
+    requires side { across.now.side ≡ side_of version }
+    requires region { region.now ≡ region_grid version }
     requires left_in { 1 ≤ strip.right }
-    requires right_in { strip.right < side_of v }
-    ensures { Appends (map (colour_across across.now) (in_region_of v (both_of (rows_from (side_of v) strip 0
-        (side_of v))))) bits.old bits.new }
+    requires right_in { strip.right < side_of version }
+    ensures { Appends (map (colour_across across.now) (in_region_of version (both_of (rows_from (side_of version) strip 0
+        (side_of version))))) bits.old bits.new }
 {
     let Strip { right, upward } = strip;
     let columns = columns_of(across, right);
@@ -79,30 +86,30 @@ fn collect_strip(bits: &mut Collector, across: &Matrix, v: Version, region: &Mat
             right,
             upward: true,
         };
-        collect_columns(bits, &columns, v, &within, strip);
+        collect_columns(bits, &columns, version, &within, strip);
     } else {
         let strip = Strip {
             right,
             upward: false,
         };
-        collect_columns(bits, &columns, v, &within, strip);
+        collect_columns(bits, &columns, version, &within, strip);
     }
 }
 
 pub(crate) fn collect_codewords(
     alloc: Global,
-    v: Version,
+    version: Version,
     across: &Matrix,
     region: &Matrix,
 ) -> Result<Vec<u8>, AllocError>
-    requires side { across.now.side ≡ side_of v }
-    requires region { region.now ≡ region_grid v }
-    ensures read { IfOk result (λ cw. IsReadUnmasked v (transposed across.now) cw.items) }
-    ensures many { IfOk result (λ cw. length cw.items ≡ total_codewords_of v) }
+    requires side { across.now.side ≡ side_of version }
+    requires region { region.now ≡ region_grid version }
+    ensures read { IfOk result (λ cw. IsReadUnmasked version (transposed across.now) cw.items) }
+    ensures many { IfOk result (λ cw. length cw.items ≡ total_codewords_of version) }
 {
-    let mut bits = Collector::with_capacity(alloc, usize::from(v.total_codewords()))?;
-    for strip in all_strips(v) {
-        collect_strip(&mut bits, across, v, region, strip);
+    let mut bits = Collector::with_capacity(alloc, usize::from(version.total_codewords()))?;
+    for strip in all_strips(version) {
+        collect_strip(&mut bits, across, version, region, strip);
     }
     bits.into_codewords()
 }

@@ -1,6 +1,7 @@
-//! Encodes an input as one symbol (ISO/IEC 18004:2015, 7.1). Its version and segments are found first
-//! (`version_choice.rt`). The segments are written as data codewords, which are interleaved with the error correction
-//! codewords. Then the symbol is drawn on a canvas (`canvas.rt`), the squares from which symbols are made.
+//! Encodes an input as one symbol (ISO/IEC 18004:2015, 7.1). The version of the symbol and the segments of the input
+//! are found first (`version_choice.rt`). The segments are written as data codewords, which are interleaved with the
+//! error correction codewords. Then the symbol is drawn on a canvas (`canvas.rt`), the squares from which symbols are
+//! made.
 
 ghost use Rattle.std.specs.Prelude.{◌≡◌, ◌≢◌, ◌+◌, ◌<◌, ◌≤◌, ◌↔◌, ◌⊎◌, ℕ, List, [], length, Err, IfOk, IfErr, MatchResult};
 ghost use Rattle.std.specs.Option.{ForSome};
@@ -17,20 +18,16 @@ ghost use Rattle.qr_symbol.specs.Encoding.{IsBoostedSymbol, IsSymbol};
 ghost use Rattle.qr_symbol.specs.Interleaving.{IsInterleaved};
 ghost use Rattle.qr_symbol.specs.VersionChoice.{HasNoVersion};
 ghost use Rattle.qr_symbol.specs.Series.{IsSymbolOf};
-ghost use Rattle.qr_symbol.specs.Steps.Encoding.{IsFit, IsRefusedExactly};
 
 use crate::canvas::Canvas;
 use crate::choice::build_on;
 use crate::fault::EncodeFault;
 use crate::interleaving::interleave;
 use crate::symbol::Symbol;
-use crate::version_choice::{Fit, highest_with_room, least_fit, needed_bits};
+use crate::version_choice::{highest_with_room, least_fit, needed_bits};
 use qr_bits::{Header, INPUT_MAX, Interpretation, Rule, Segmented, codewords};
 use qr_layout::{Level, Version};
 use std::alloc::Global;
-
-// The most bytes that a symbol can contain. So many fit version 40 at level L if they all are digits (7.4.10, Table 7).
-pub(crate) const SYMBOL_BYTES_MAX: usize = 7089;
 
 /// Encodes the input as one symbol of the least version, from `smallest` on, that it fits (ISO/IEC 18004:2015, 7.1).
 /// `interpretation` is what the symbol says of its bytes: their ECI, that they are GS1 data, or nothing. The segments
@@ -73,10 +70,11 @@ pub fn encode(
     ensures fault { IfErr result (λ e. (e ≡ EncodeFault.Empty) ⊎ (e ≡ EncodeFault.TooLong)
         ⊎ (e ≡ EncodeFault.Memory)) }
 {
-    let found = fit_of(alloc, input, level, smallest, rule, interpretation)?;
-    fitting_symbol(
+    let found = least_fit(alloc, input, level, smallest, rule, interpretation)?;
+    symbol_at(
         alloc,
         &found.segmented,
+        None,
         interpretation,
         found.version,
         level,
@@ -113,57 +111,21 @@ pub fn encode_boosted(
     ensures fault { IfErr result (λ e. (e ≡ EncodeFault.Empty) ⊎ (e ≡ EncodeFault.TooLong)
         ⊎ (e ≡ EncodeFault.Memory)) }
 {
-    let fit = fit_of(alloc, input, level, smallest, rule, interpretation)?;
+    let fit = least_fit(alloc, input, level, smallest, rule, interpretation)?;
     let bits = needed_bits(&fit.segmented, interpretation, fit.version);
     let highest = highest_with_room(fit.version, level, bits);
-    fitting_symbol(alloc, &fit.segmented, interpretation, fit.version, highest)
+    symbol_at(
+        alloc,
+        &fit.segmented,
+        None,
+        interpretation,
+        fit.version,
+        highest,
+    )
 }
 
-// The least version that the input fits, and its segments in this version.
-fn fit_of<'a>(
-    alloc: Global,
-    input: &'a [u8],
-    level: Level,
-    smallest: Version,
-    rule: Rule,
-    interpretation: Interpretation,
-) -> Result<Fit<'a>, EncodeFault>
-    requires { MayWrite interpretation input.now }
-    ensures fit { IfOk result (λ f. IsFit smallest level rule interpretation input.now f.version
-        (cow_slice_items f.segmented.characters) f.segmented.segments.items) }
-    ensures refused { IsRefusedExactly smallest level rule interpretation input.now result }
-{
-    if input.is_empty() {
-        return Err(EncodeFault::Empty);
-    }
-    if input.len() > SYMBOL_BYTES_MAX {
-        return Err(EncodeFault::TooLong);
-    }
-    Ok(least_fit(alloc, input, level, smallest, rule, interpretation)?)
-}
-
-// Makes the symbol of the segments on a canvas of its own, without a structured append header.
-fn fitting_symbol(
-    alloc: Global,
-    segmented: &Segmented<'_>,
-    interpretation: Interpretation,
-    version: Version,
-    level: Level,
-) -> Result<Symbol, EncodeFault>
-    requires covered { Covers (cow_slice_items segmented.now.characters) segmented.now.segments.items }
-    requires number { InterpretationFits interpretation }
-    requires room { interpretation_bits interpretation + bits version segmented.now.segments.items
-        ≤ capacity_of version level }
-    ensures { MatchResult result
-        (λ s. (r : Rule) (x : List ℕ) → IsLeastSegmentation interpretation version r x
-        (cow_slice_items segmented.now.characters) segmented.now.segments.items
-        → IsSymbolOf version level r interpretation x None s)
-        (λ e. e ≡ EncodeFault.Memory) }
-{
-    symbol_at(alloc, segmented, None, interpretation, version, level)
-}
-
-// Makes the symbol of the segments on a canvas of its own. If a header is given, it is a symbol of a series (7.1, 8.1).
+// Makes the symbol of the segments on a canvas of its own. If a header is given, the symbol belongs to a series (7.1,
+// 8.1).
 pub(crate) fn symbol_at(
     alloc: Global,
     segmented: &Segmented<'_>,
@@ -210,19 +172,11 @@ fn data_codewords(
 {
     // Only for the prover, which concludes that the symbol contains at most 7,089 characters.
     prove!(version.number() <= 40);
-    Ok(codewords(
-        alloc,
-        &segmented.characters,
-        &segmented.segments,
-        header,
-        interpretation,
-        version,
-        level,
-    )?)
+    Ok(codewords(alloc, segmented, header, interpretation, version, level)?)
 }
 
-// The final sequence of the segments (7.4 to 7.6). This function is not inlined, so that the data codewords are freed
-// and its variables are off the stack before the symbol is drawn.
+// The final sequence of the segments (7.4 to 7.6). This function is not inlined. So the data codewords are freed, and
+// the variables of this function are off the stack, before the symbol is drawn.
 #[inline(never)]
 fn final_codewords(
     alloc: Global,

@@ -16,8 +16,7 @@ ghost use Rattle.std.specs.Prelude.{◌≡◌, ◌≢◌, ◌↔◌, ℕ, ◌+�
 ghost use Rattle.qr_layout.specs.Blocks.{data_codewords_of};
 ghost use Rattle.qr_layout.specs.Version.{total_codewords_of};
 ghost use Rattle.qr_symbol.specs.declared.fault.ReadFault.{ReadFault};
-ghost use Rattle.qr_symbol.specs.Interleaving.{block_count, block_len, start_of, codeword_count, data_sizes, correction_sizes, IsFinalMessage, IsGathered, IsInterleaved, part_of};
-ghost use Rattle.qr_symbol.specs.Steps.Interleaving.{IsChecks};
+ghost use Rattle.qr_symbol.specs.Interleaving.{block_count, block_len, start_of, codeword_count, data_sizes, correction_sizes, IsChecks, IsFinalMessage, IsGathered, IsInterleaved, part_of};
 
 use crate::fault::ReadFault;
 use qr_field::Divisor;
@@ -47,7 +46,7 @@ impl BlockSizes {
     }
 
     /// Returns the block sizes, counted in error correction codewords. All blocks have equally many of these, so all
-    /// are short.
+    /// count as short.
     pub fn of_corrections(blocks: Blocks) -> BlockSizes
         ensures { result ≡ correction_sizes blocks }
     {
@@ -65,17 +64,6 @@ impl BlockSizes {
         usize::from(self.short) + usize::from(self.long)
     }
 
-    fn len(self, block: usize) -> usize
-        ensures value { result ≡ block_len self block }
-        ensures most { result ≤ self.short_len + 1 }
-    {
-        if block < usize::from(self.short) {
-            usize::from(self.short_len)
-        } else {
-            usize::from(self.short_len) + 1
-        }
-    }
-
     fn start(self, block: usize) -> usize
         requires { block ≤ block_count self }
         ensures { result ≡ start_of self block }
@@ -91,8 +79,7 @@ impl BlockSizes {
         ensures value { result.now ≡ part_of self codewords.now block }
         ensures len { length result.now ≡ block_len self block }
     {
-        let start = self.start(block);
-        &codewords[start..start + self.len(block)]
+        &codewords[self.start(block)..self.start(block + 1)]
     }
 
     /// Undoes interleaving: returns the codewords of all blocks, one block after the other. Codewords beyond those of
@@ -130,8 +117,8 @@ impl BlockSizes {
         let short_len = usize::from(self.short_len);
         for block in 0..blocks {
             let start = self.start(block);
-            for place in 0..short_len {
-                interleaved[blocks * place + block] = codewords[start + place];
+            for index in 0..short_len {
+                interleaved[blocks * index + block] = codewords[start + index];
             }
             if block >= short {
                 let rank = short_len * blocks + (block - short);
@@ -190,18 +177,6 @@ fn interleave_both(
     Ok(interleaved)
 }
 
-// This function is inlined, so that it adds nothing to the stack while error correction codewords are computed.
-#[inline(always)]
-fn interleave_blocks(alloc: Global, blocks: Blocks, message: &[u8]) -> Result<Vec<u8>, AllocError>
-    requires whole { length message.now ≡ codeword_count (data_sizes blocks) }
-    requires least { 1 ≤ blocks.ec_len }
-    requires most { blocks.ec_len ≤ 30 }
-    ensures { IfOk result (λ cw. IsFinalMessage blocks message.now cw.items) }
-{
-    let corrections = corrections(alloc, blocks, message)?;
-    interleave_both(alloc, blocks, message, &corrections)
-}
-
 /// Returns the final sequence of the data codewords `message` (ISO/IEC 18004:2015, 7.5.2 and 7.6). It has the first
 /// data codeword of each block, then the second of each block, and so on. After them come the error correction
 /// codewords in the same order.
@@ -209,6 +184,7 @@ fn interleave_blocks(alloc: Global, blocks: Blocks, message: &[u8]) -> Result<Ve
 /// # Errors
 ///
 /// Returns an error if an allocation is refused.
+// This function is inlined, so that it adds nothing to the stack while error correction codewords are computed.
 #[inline(always)]
 pub fn interleave(
     alloc: Global,
@@ -220,10 +196,12 @@ pub fn interleave(
     ensures interleaved { IfOk result (λ cw. IsInterleaved version level message.now cw.items) }
     ensures many { IfOk result (λ cw. length cw.items ≡ total_codewords_of version) }
 {
-    interleave_blocks(alloc, version.blocks(level), message)
+    let blocks = version.blocks(level);
+    let corrections = corrections(alloc, blocks, message)?;
+    interleave_both(alloc, blocks, message, &corrections)
 }
 
-// Undoes `scatter`. This function is not inlined, since LLVM would then compute the index of each codeword by a
+// Undoes `scatter`. This function is not inlined. If it were, LLVM would compute the index of each codeword by a
 // multiplication instead of an addition.
 #[inline(never)]
 fn deinterleave_into(message: &mut [u8], sizes: BlockSizes, codewords: &[u8])
@@ -236,8 +214,8 @@ fn deinterleave_into(message: &mut [u8], sizes: BlockSizes, codewords: &[u8])
     let short_len = usize::from(sizes.short_len);
     for block in 0..blocks {
         let start = sizes.start(block);
-        for place in 0..short_len {
-            message[start + place] = codewords[blocks * place + block];
+        for index in 0..short_len {
+            message[start + index] = codewords[blocks * index + block];
         }
         if block >= short {
             let rank = short_len * blocks + (block - short);
@@ -246,8 +224,8 @@ fn deinterleave_into(message: &mut [u8], sizes: BlockSizes, codewords: &[u8])
     }
 }
 
-// Returns the data codewords, unless the error correction codewords that were read differ from those that are computed
-// from these data codewords.
+// Returns the data codewords. The error correction codewords are computed from them, and compared with those that were
+// read. If they differ, the function returns `Check` instead.
 fn deinterleave_blocks(
     alloc: Global,
     blocks: Blocks,

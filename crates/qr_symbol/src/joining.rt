@@ -77,8 +77,8 @@ fn are_in_series(contents: &[Parsed], parity: u8) -> bool
 }
 
 /// Joins the bytes of the contents in order. The contents must be those of one symbol without a structured append
-/// header, or those of a whole series (ISO/IEC 18004:2015, 8). A series is whole if the headers have the positions from
-/// 0 on, the number of contents less 1, and the parity data of all bytes.
+/// header, or those of a whole series (ISO/IEC 18004:2015, 8). A series is whole if the headers have the positions 0,
+/// 1, 2 and so on in this order, and if each header has the number of contents less 1 and the parity data of all bytes.
 ///
 /// # Errors
 ///

@@ -52,8 +52,8 @@ pub fn masks_compute()
     ensures rows { map first_rows all_masks ≡ computed_rows }
 {}
 
-/// `build_masked` draws the codewords module by module and `build` several modules at once, but under the mask that
-/// `build` has chosen they make the same symbol.
+/// `build_masked` draws the codewords module by module, and `build` draws several modules at once. Under the mask that
+/// `build` has chosen, both make the same symbol.
 ///
 /// # Errors
 ///
@@ -108,7 +108,7 @@ pub fn messages_lie_apart(version: Version, level: Level)
     ensures { MessagesLieApart version level }
 {}
 
-/// At one version and level, the codewords of a damaged symbol belong to at most one list of data codewords, if the
+/// At a given version and level, the codewords of a damaged symbol belong to at most one list of data codewords, if the
 /// damage is limited. A codeword is misread if its value is wrong, and erased if it is known to be unreadable. In each
 /// block, count an erased codeword once and a misread one twice. The sum has to be at most the number of error
 /// correction codewords of the block.
@@ -124,8 +124,8 @@ pub fn squares_give_their_bits(version: Version)
         → read_bits version mask (grid_of version l mask cw) ms ≡ bits_of cw }
 {}
 
-/// From a square and a mask exactly one list of codewords is read. At a given level it is the final sequence of at most
-/// one list of data codewords.
+/// From a square and a mask exactly one list of codewords is read. At a given level this list is the final sequence of
+/// at most one list of data codewords.
 pub fn reading_is_one(version: Version, level: Level)
     ensures some { (mask : ℕ) (g : Grid) → (cw : List ℕ) × IsRead version mask g cw }
     ensures codewords { (mask : ℕ) (g : Grid) (cw ds : List ℕ) → IsRead version mask g cw
@@ -140,7 +140,7 @@ pub fn format_is_one()
         → (l ≡ k) × (m ≡ n) }
 {}
 
-/// A square is read as at most one content. This is an optional structured append header, the items (segments, ECI
+/// A square is read as at most one content. A content is an optional structured append header, the items (segments, ECI
 /// headers and FNC1), the bytes, and the ECI headers with the number of bytes before each of them.
 pub fn contents_are_one()
     ensures { (g : Grid) (p q : Content) → IsReading g p → IsReading g q → p ≡ q }
@@ -198,8 +198,9 @@ pub fn boosted_symbols_are_one()
     ensures { BoostedSymbolsAreOne }
 {}
 
-/// If `encode` is given the level of a symbol that `encode_boosted` makes, and its version as the smallest, it makes
-/// the same symbol of the same input. So the laws of the symbols of `encode` hold of this symbol too.
+/// Take a symbol that `encode_boosted` makes. If `encode` is given the level of this symbol, and the version of this
+/// symbol as the smallest, it makes the same symbol of the same input. So the laws of the symbols of `encode` hold of
+/// this symbol too.
 pub fn boosted_symbols_are_symbols()
     ensures { (x : List ℕ) (l k : Level) (smallest : ℕ) (rule : Rule) (i : Interpretation) (v mask : ℕ) (g : Grid)
         → IsBoostedSymbol smallest l rule i x v k mask g → IsSymbol v k rule i x v mask g }
@@ -243,7 +244,7 @@ pub fn parts_are_there(version: Version, level: Level)
         → (parts : List (List ℕ)) × AreParts version level rule i x parts }
 {}
 
-/// Take an input without an interpretation that is cut into parts. Each part has at least five bytes, or is all that is
+/// Take an input that has no interpretation and is cut into parts. Each part has at least five bytes, or is all that is
 /// left after the earlier parts.
 #[tactic(auto, using(crate::proofs::Named::laws_of_parts))]
 pub fn parts_are_long(version: Version, level: Level)
@@ -251,7 +252,7 @@ pub fn parts_are_long(version: Version, level: Level)
         → AreParts version level rule Interpretation.Default x (p ∷ ps) → (5 ≤ length p) ⊎ (p ≡ x) }
 {}
 
-/// All symbols of a series have the side of its version, and there are at most 16.
+/// All symbols of a series have the side of the version, and a series has at most 16 symbols.
 pub fn series_have_one_side(version: Version)
     ensures side { (x : List ℕ) (l : Level) (rule : Rule) (i : Interpretation) (ss : List Symbol)
         → IsSeries version l rule i x ss → All (λ g. g.side ≡ side_of version) (squares_of ss) }

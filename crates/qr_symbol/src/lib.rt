@@ -1,6 +1,6 @@
 //! Encodes an input as one symbol or as a series of symbols, and reads symbols back.
 //!
-//! This code writes the modules of a symbol as text, with `#` for each dark one:
+//! The following code writes the modules of a symbol as text, with `#` for each dark one:
 //!
 //! ```text
 //! let (first, plain) = (Version::FIRST, Interpretation::Default);

@@ -1,12 +1,12 @@
 //! Draws the codewords into the region in the standard's order (ISO/IEC 18004:2015, 7.7.2 and 7.7.3). `draw_codewords`
-//! does so strip by strip, and `draw_along_walk` module by module. The bits of all codewords have one sequence of
-//! numbers: bit 0 is the highest bit of the first codeword. The number of a bit is also the number of its module in the
-//! order.
+//! does so strip by strip, and `draw_along_walk` module by module. The bits of all codewords are numbered from 0 on:
+//! bit 0 is the highest bit of the first codeword, and bit 8 is the highest bit of the second. The number of a bit is
+//! also the index of its module in the order.
 //!
 //! `across` is a transposed square, in which the two columns of a strip are rows (`spans.rt`). In `region` exactly the
-//! region is dark; the region is symmetric, so transposing does not change it.
+//! region is dark. The region is symmetric, so `region` is equal to its transposed square.
 
-ghost use Rattle.std.specs.Prelude.{◌≡◌, ℕ, ◌*◌, ◌%◌, ◌+◌, ◌-◌, ◌<◌, ◌≤◌, ◌==◌, ◌&&◌, ◌||◌, if◌then◌else◌, nat_le, nat_lt, not, false};
+ghost use Rattle.std.specs.Prelude.{◌≡◌, ℕ, ◌*◌, ◌%◌, ◌+◌, ◌-◌, ◌<◌, ◌≤◌, ◌&&◌, ◌||◌, nat_le, nat_lt, not, false};
 ghost use Rattle.qr_layout.specs.Version.{side_of};
 ghost use Rattle.qr_matrix.specs.Grid.{square, colour, transposed, IsSquare};
 ghost use Rattle.qr_matrix.specs.BitRow.{has, has_bit};
@@ -18,7 +18,7 @@ use crate::mask::inverts;
 use crate::spans::{Columns, Span, Spans, columns_of};
 use crate::words::{bit_at, bits_at, split};
 use qr_layout::{Place, Strip, Version, all_strips, walk};
-use qr_matrix::{BitRow, Matrix};
+use qr_matrix::Matrix;
 
 // The columns of a strip, with all modules of the region made light.
 #[tactic(auto, using(crate::proofs::Named::strips))]
@@ -35,21 +35,9 @@ fn with_light_region(columns: Columns, region: &Columns) -> Columns
 // The most rows that are drawn at once: a word of 64 bits has two bits for each row.
 const ROWS_MAX: u8 = 32;
 
-// Draws the first of `bits`, which is the highest, into one module of a column. The module is in the region, and was
-// light before. There is no branch on the bit, since no processor could predict it. The bound on `row` is the number of
-// bits in a bit row.
-#[inline(always)]
-fn draw_module(column: &mut BitRow, row: u8, bits: u64)
-    requires row_in { row < 192 }
-    requires light { has column.old row ≡ false }
-    ensures { (i : ℕ) → has column.new i ≡ (if i == row then has_bit bits 63 else has column.old i) }
-{
-    column.set_bits(row, bits >> 63);
-}
-
-// Draws the first `2 * count` of `bits` into `count` rows, from row `top` down. All modules of these rows are in the
-// region and were light before, so only those whose bits are 1 have to be made dark. The bound on `top` is the number
-// of bits in a bit row.
+// Draws the `2 * count` highest bits of `bits` into `count` rows, from row `top` down. All modules of these rows are in
+// the region and were light before, so only the modules whose bits are 1 have to be made dark. The bound on `top` is
+// the number of bits in a bit row.
 #[inline(always)]
 fn draw_rows(columns: &mut Columns, top: u8, count: u8, upward: bool, bits: u64)
     requires top_in { top < 192 }
@@ -66,27 +54,29 @@ fn draw_rows(columns: &mut Columns, top: u8, count: u8, upward: bool, bits: u64)
     columns.left.set_bits(top, left);
 }
 
-// Draws the columns of a strip. Its first bit has the number `first`, and the call returns the number of the bit after
-// the strip. The bound on `first` is the number of bits in the 3,706 codewords of version 40.
+// Draws the columns of a strip. The first bit of the strip has the number `first`, and the function returns the number
+// of the first bit after the strip. The modules of the region were light before, so only the modules whose bits are 1
+// are made dark. There is no branch on the value of a bit, since no processor could predict such a branch. The bound on
+// `first` is the number of bits in the 3,706 codewords of version 40.
 #[inline(always)]
 fn draw_columns(
     columns: &mut Columns,
-    v: Version,
+    version: Version,
     region: &Columns,
     codewords: &[u8],
     first: usize,
     strip: Strip,
 ) -> usize
-    requires within { AreWithin (side_of v) columns.old }
-    requires region { IsRegion v strip.right region.now }
+    requires within { AreWithin (side_of version) columns.old }
+    requires region { IsRegion version strip.right region.now }
     requires few { first ≤ 29648 }
-    requires light { AreLight (side_of v) strip 0 region.now columns.old }
-    ensures within { AreWithin (side_of v) columns.new }
-    ensures number { result ≡ number_at v strip first (side_of v) }
-    ensures drawn { AreDrawn v codewords.now strip first 0 (side_of v) columns.old columns.new }
+    requires light { AreLight (side_of version) strip 0 region.now columns.old }
+    ensures within { AreWithin (side_of version) columns.new }
+    ensures number { result ≡ number_at version strip first (side_of version) }
+    ensures drawn { AreDrawn version codewords.now strip first 0 (side_of version) columns.old columns.new }
 {
     let mut number = first;
-    for span in Spans::new(region, strip, v.side(), ROWS_MAX) {
+    for span in Spans::new(region, strip, version.side(), ROWS_MAX) {
         match span {
             Span::Both { top, count } => {
                 let bits = bits_at(codewords, number);
@@ -94,11 +84,13 @@ fn draw_columns(
                 number += 2 * usize::from(count);
             }
             Span::Right { row } => {
-                draw_module(&mut columns.right, row, bits_at(codewords, number));
+                let bit = bits_at(codewords, number) >> 63;
+                columns.right.set_bits(row, bit);
                 number += 1;
             }
             Span::Left { row } => {
-                draw_module(&mut columns.left, row, bits_at(codewords, number));
+                let bit = bits_at(codewords, number) >> 63;
+                columns.left.set_bits(row, bit);
                 number += 1;
             }
             Span::Outside => {}
@@ -112,18 +104,18 @@ fn draw_columns(
 // downward.
 fn draw_strip(
     across: &mut Matrix,
-    v: Version,
+    version: Version,
     region: &Matrix,
     codewords: &[u8],
     first: usize,
     strip: Strip,
 ) -> usize
-    requires square { IsSquare (side_of v) across.old }
-    requires region { region.now ≡ region_grid v }
+    requires square { IsSquare (side_of version) across.old }
+    requires region { region.now ≡ region_grid version }
     requires left_in { 1 ≤ strip.right }
-    requires right_in { strip.right < side_of v }
+    requires right_in { strip.right < side_of version }
     requires few { first ≤ 29648 }
-    ensures { IsStripDrawn v codewords.now strip first across.old result across.new }
+    ensures { IsStripDrawn version codewords.now strip first across.old result across.new }
 {
     let Strip { right, upward } = strip;
     let within = columns_of(region, right);
@@ -133,13 +125,13 @@ fn draw_strip(
             right,
             upward: true,
         };
-        draw_columns(&mut columns, v, &within, codewords, first, strip)
+        draw_columns(&mut columns, version, &within, codewords, first, strip)
     } else {
         let strip = Strip {
             right,
             upward: false,
         };
-        draw_columns(&mut columns, v, &within, codewords, first, strip)
+        draw_columns(&mut columns, version, &within, codewords, first, strip)
     };
     across.set_bit_row(right, columns.right);
     across.set_bit_row(right - 1, columns.left);
@@ -147,27 +139,32 @@ fn draw_strip(
 }
 
 // Draws all codewords into the transposed square. Outside the region the square keeps its colours.
-pub(crate) fn draw_codewords(across: &mut Matrix, v: Version, region: &Matrix, codewords: &[u8])
-    requires square { IsSquare (side_of v) across.old }
-    requires region { region.now ≡ region_grid v }
+pub(crate) fn draw_codewords(
+    across: &mut Matrix,
+    version: Version,
+    region: &Matrix,
+    codewords: &[u8],
+)
+    requires square { IsSquare (side_of version) across.old }
+    requires region { region.now ≡ region_grid version }
     ensures placed { transposed across.new
-        ≡ square (side_of v) (placed_colour v codewords.now (colour (transposed across.old))) }
-    ensures square { IsSquare (side_of v) across.new }
+        ≡ square (side_of version) (placed_colour version codewords.now (colour (transposed across.old))) }
+    ensures square { IsSquare (side_of version) across.new }
 {
     let mut number = 0;
-    for strip in all_strips(v) {
-        number = draw_strip(across, v, region, codewords, number, strip);
+    for strip in all_strips(version) {
+        number = draw_strip(across, version, region, codewords, number, strip);
     }
 }
 
 // Draws all codewords under a mask, module by module in the order of `walk`. The remainder bits are 0, and the mask is
 // applied to them too.
-pub(crate) fn draw_along_walk(matrix: &mut Matrix, v: Version, codewords: &[u8], mask: u8)
-    requires { IsSquare (side_of v) matrix.old }
-    ensures { matrix.new ≡ square (side_of v) (walked_colour v codewords.now mask (colour matrix.old)) }
+pub(crate) fn draw_along_walk(matrix: &mut Matrix, version: Version, codewords: &[u8], mask: u8)
+    requires { IsSquare (side_of version) matrix.old }
+    ensures { matrix.new ≡ square (side_of version) (walked_colour version codewords.now mask (colour matrix.old)) }
 {
     let mut number = 0;
-    for module in walk(v) {
+    for module in walk(version) {
         let Place { row, col } = module;
         let bit = bit_at(codewords, number);
         matrix.set(row, col, bit != inverts(mask, row, col));

@@ -87,8 +87,8 @@ fn read_plain(
     collect_codewords(alloc, version, &across, region)
 }
 
-/// Reads the codewords from the region in the order of `qr_layout::walk`, without undoing a mask. A dark module is 1,
-/// and the remainder bits are ignored (ISO/IEC 18004:2015, 7.7.3).
+/// Reads the codewords from the region in the order of `qr_layout::walk`, without undoing a mask. A dark module stands
+/// for the bit 1, and the remainder bits are ignored (ISO/IEC 18004:2015, 7.7.3).
 ///
 /// # Errors
 ///

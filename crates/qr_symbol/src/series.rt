@@ -1,14 +1,12 @@
 //! Encodes an input as a series of symbols, the standard's Structured Append (ISO/IEC 18004:2015, 8). The input is cut
 //! into parts first, and then a symbol is made of each part.
 
-ghost use Rattle.std.specs.Prelude.{◌≡◌, ◌≢◌, ◌-◌, ◌<◌, ◌≤◌, ◌↔◌, ◌⊎◌, ℕ, false, List, [], length, None, Some, Err, IsTrue, IfOk, IfErr, MatchOption, MatchResult};
+ghost use Rattle.std.specs.Prelude.{◌≡◌, ◌≢◌, ◌-◌, ◌<◌, ◌≤◌, ◌↔◌, ◌⊎◌, ℕ, false, List, [], length, None, Err, IfOk, IfErr, MatchOption, MatchResult};
 ghost use Rattle.qr_bits.specs.declared.modes.Rule.{Rule};
 ghost use Rattle.qr_bits.specs.declared.interpretation.Interpretation.{Interpretation};
 ghost use Rattle.qr_bits.specs.Interpretation.{InterpretationFits, MayWrite};
 ghost use Rattle.qr_bits.specs.declared.modes.Mode.{Mode};
-ghost use Rattle.qr_bits.specs.Segmentation.{HasFit, IsLongestFit};
 ghost use Rattle.qr_bits.specs.Modes.{may_use};
-ghost use Rattle.qr_bits.specs.Padding.{room_of};
 ghost use Rattle.qr_bits.specs.Header.{parity_of};
 ghost use Rattle.qr_symbol.specs.declared.fault.EncodeFault.{EncodeFault};
 ghost use Rattle.qr_symbol.specs.VersionChoice.{FitsVersion};
@@ -17,10 +15,10 @@ ghost use Rattle.qr_symbol.specs.Joining.{AreInterpreted, IsJoined};
 ghost use Rattle.qr_symbol.specs.Steps.Series.{AreLengths, parts_of};
 
 use crate::canvas::Canvas;
-use crate::encoding::{SYMBOL_BYTES_MAX, symbol_at, symbol_on};
+use crate::encoding::{symbol_at, symbol_on};
 use crate::fault::EncodeFault;
 use crate::symbol::Symbol;
-use crate::version_choice::needed_bits;
+use crate::version_choice::{SYMBOL_BYTES_MAX, needed_bits};
 use arrayvec::ArrayVec;
 use qr_bits::{
     Header, INPUT_MAX, Interpretation, Rule, interpretation_bits, least_bits, longest_fit, parity,
@@ -46,7 +44,7 @@ use std::alloc::Global;
 ///
 /// # Notes
 ///
-/// A prefix that ends between the two bytes of a kanji may take more bits than a longer one.
+/// A prefix that ends between the two bytes of a kanji may take more bits than a longer prefix.
 pub fn encode_series(
     alloc: Global,
     input: &[u8],
@@ -74,26 +72,6 @@ pub fn encode_series(
     if input.is_empty() {
         return Err(EncodeFault::Empty);
     }
-    series_of(alloc, input, version, level, rule, interpretation)
-}
-
-// As `encode_series`, for an input that is not empty.
-fn series_of(
-    alloc: Global,
-    input: &[u8],
-    version: Version,
-    level: Level,
-    rule: Rule,
-    interpretation: Interpretation,
-) -> Result<Vec<Symbol>, EncodeFault>
-    requires some { 0 < length input.now }
-    requires short { length input.now ≤ INPUT_MAX }
-    requires number { InterpretationFits interpretation }
-    requires written { MayWrite interpretation input.now }
-    ensures { MatchResult result (λ ss. IsSeries version level rule interpretation input.now ss.items)
-        (λ e. (e ≡ EncodeFault.Memory)
-        ⊎ ((e ≡ EncodeFault.TooMany) × HasNoSeries version level rule interpretation input.now)) }
-{
     if let Some(symbol) = plain_symbol(alloc, input, version, level, rule, interpretation)? {
         let mut symbols = Vec::new(alloc);
         symbols.push(symbol)?;
@@ -111,29 +89,10 @@ fn series_of(
     )
 }
 
-// Whether the number of bytes, or a lower bound on the number of bits, shows that the input does not fit a plain
-// symbol. Then it need not be cut into segments. If only byte mode is allowed, the lower bound is not computed: the
-// input then becomes a single segment, so cutting it takes no time.
-fn takes_more(
-    input: &[u8],
-    version: Version,
-    level: Level,
-    rule: Rule,
-    interpretation: Interpretation,
-) -> bool
-    requires { length input.now ≤ INPUT_MAX }
-    ensures none { IsTrue result → FitsVersion version level rule interpretation input.now → ⊥ }
-    ensures short { result ≡ false → length input.now ≤ SYMBOL_BYTES_MAX }
-{
-    if input.len() > SYMBOL_BYTES_MAX {
-        return true;
-    }
-    !matches!(rule, Rule::BytesOnly)
-        && u64::from(least_bits(input)) + interpretation_bits(interpretation)
-            > version.capacity(level)
-}
-
-// The symbol without a structured append header, or `None` if the input does not fit one.
+// The symbol without a structured append header, or `None` if the input does not fit such a symbol. The number of
+// bytes, or a lower bound on the number of bits, may show that it does not fit, before the input is cut into segments.
+// If only byte mode is allowed, the bound is not computed: the input then becomes a single segment, so cutting it takes
+// no time.
 fn plain_symbol(
     alloc: Global,
     input: &[u8],
@@ -150,7 +109,13 @@ fn plain_symbol(
         (λ s. IsSymbolOf version level rule interpretation input.now None s))
         (λ e. e ≡ EncodeFault.Memory) }
 {
-    if takes_more(input, version, level, rule, interpretation) {
+    if input.len() > SYMBOL_BYTES_MAX {
+        return Ok(None);
+    }
+    if !matches!(rule, Rule::BytesOnly)
+        && u64::from(least_bits(input)) + interpretation_bits(interpretation)
+            > version.capacity(level)
+    {
         return Ok(None);
     }
     let segmented = segments(alloc, input, version, rule, interpretation)?;
@@ -161,7 +126,8 @@ fn plain_symbol(
     Ok(Some(symbol))
 }
 
-// The numbers of bytes of the parts into which the input is cut.
+// The numbers of bytes of the parts into which the input is cut. No symbol contains more than 7,089 bytes. So for each
+// part only the first 7,089 bytes of the remaining input are examined.
 fn part_lengths(
     alloc: Global,
     input: &[u8],
@@ -182,33 +148,13 @@ fn part_lengths(
         if lengths.is_full() {
             return Err(EncodeFault::TooMany);
         }
-        let len = prefix_len(alloc, rest, version, level, rule, interpretation)?;
+        let most = &rest[..rest.len().min(SYMBOL_BYTES_MAX)];
+        let len = longest_fit(alloc, most, version, level, rule, interpretation)?;
         lengths.push(len);
         let (_, after) = rest.split_at(len);
         rest = after;
     }
     Ok(lengths)
-}
-
-// The number of bytes of the next part. No symbol contains more than 7,089 bytes, so only the first 7,089 bytes of
-// `rest` are examined.
-fn prefix_len(
-    alloc: Global,
-    rest: &[u8],
-    version: Version,
-    level: Level,
-    rule: Rule,
-    interpretation: Interpretation,
-) -> Result<usize, EncodeFault>
-    requires some { 0 < length rest.now }
-    requires short { length rest.now ≤ INPUT_MAX }
-    requires written { MayWrite interpretation rest.now }
-    ensures { MatchResult result (λ n. (0 < n)
-        × IsLongestFit interpretation version rule rest.now (room_of version level interpretation) n)
-        (λ e. e ≡ EncodeFault.Memory) }
-{
-    let prefix = &rest[..rest.len().min(SYMBOL_BYTES_MAX)];
-    Ok(longest_fit(alloc, prefix, version, level, rule, interpretation)?)
 }
 
 // Draws the symbols of all parts on one canvas, so that the function patterns and the region are drawn once (8.1 to
@@ -231,6 +177,9 @@ fn symbols_on(
         (length lengths.now - 1) (parity_of input.now) 0 (parts_of input.now lengths.now)
         ss.items) (λ e. e ≡ EncodeFault.Memory) }
 {
+    let version = canvas.version;
+    // Only for the prover.
+    prove!(version.number() <= 40);
     let last = (lengths.len() - 1) as u8;
     let parity = parity(input);
     let mut symbols = Vec::with_capacity(alloc, lengths.len())?;
@@ -242,37 +191,10 @@ fn symbols_on(
             last,
             parity,
         };
-        let symbol = part_symbol(alloc, canvas, part, header, rule, interpretation)?;
+        let segmented = segments(alloc, part, version, rule, interpretation)?;
+        let symbol = symbol_on(alloc, canvas, &segmented, Some(header), interpretation)?;
         symbols.push(symbol)?;
         rest = after;
     }
     Ok(symbols)
-}
-
-fn part_symbol(
-    alloc: Global,
-    canvas: &mut Canvas,
-    part: &[u8],
-    header: Header,
-    rule: Rule,
-    interpretation: Interpretation,
-) -> Result<Symbol, EncodeFault>
-    requires short { length part.now ≤ INPUT_MAX }
-    requires number { InterpretationFits interpretation }
-    requires written { MayWrite interpretation part.now }
-    requires fits { HasFit interpretation canvas.old.version rule part.now
-        (room_of canvas.old.version canvas.old.level interpretation) }
-    requires position { header.position < 16 }
-    requires last { header.last < 16 }
-    ensures version { canvas.new.version ≡ canvas.old.version }
-    ensures level { canvas.new.level ≡ canvas.old.level }
-    ensures made { MatchResult result
-        (λ s. IsSymbolOf canvas.old.version canvas.old.level rule interpretation part.now (Some header) s)
-        (λ e. e ≡ EncodeFault.Memory) }
-{
-    let version = canvas.version;
-    // Only for the prover.
-    prove!(version.number() <= 40);
-    let segmented = segments(alloc, part, version, rule, interpretation)?;
-    symbol_on(alloc, canvas, &segmented, Some(header), interpretation)
 }

@@ -2,9 +2,9 @@
 //! in the direction in which the strip is filled (ISO/IEC 18004:2015, 7.7.3).
 //!
 //! In the transposed square the two columns of a strip are rows, and one word of 64 bits holds 64 modules of such a
-//! row. The drawing is of a square of four by four modules that are all in the region. The numbers in it are those of
-//! the bits of the codewords. The first strip has columns 3 and 2, and is filled upward. The second strip has columns 1
-//! and 0, and is filled downward.
+//! row. The drawing shows a square of four by four modules that are all in the region. Each number in the drawing is
+//! the number of a bit of the codewords. The strip that is filled first has columns 3 and 2, and is filled upward. The
+//! second one has columns 1 and 0, and is filled downward.
 //!
 //! ```text
 //! symbol            transposed
@@ -18,7 +18,7 @@ ghost use Rattle.std.specs.Prelude.{◌≡◌, ℕ, ◌%◌, ◌+◌, ◌-◌, �
 ghost use Rattle.std.specs.Iterator.{at_most};
 ghost use Rattle.qr_matrix.specs.Grid.{colour};
 ghost use Rattle.qr_matrix.specs.BitRow.{has};
-ghost use Rattle.qr_symbol.specs.Steps.Spans.{row_of, top_row, AreRegionRows, AreSpans, AreSpansOf, AreWithin, YieldsSpan};
+ghost use Rattle.qr_symbol.specs.Steps.Spans.{row_of, top_row, AreSpans, AreSpansOf, AreWithin, YieldsSpan};
 
 use qr_layout::Strip;
 use qr_matrix::{BitRow, Matrix};
@@ -51,15 +51,6 @@ pub(crate) struct RegionRows {
     pub neither: BitRow,
 }
 
-fn region_rows(region: &Columns) -> RegionRows
-    ensures { AreRegionRows region.now result }
-{
-    RegionRows {
-        both: region.right & region.left,
-        neither: !(region.right | region.left),
-    }
-}
-
 #[derive(Clone, Copy)]
 pub(crate) enum Span {
     // Rows of which both modules are in the region: the topmost row, and the number of rows.
@@ -72,8 +63,8 @@ pub(crate) enum Span {
     Outside,
 }
 
-// An iterator over the spans of a strip. `region` are the columns of the strip, in which exactly the bits of the region
-// are set. The side is at most 177, that of version 40.
+// An iterator over the spans of a strip. `region` are the two columns of the strip, in which a bit is set exactly if
+// its module is in the region. The side is at most 177, that of version 40.
 #[derive(Drop)]
 pub(crate) struct Spans {
     region: Columns,
@@ -97,7 +88,10 @@ impl Spans {
     {
         Spans {
             region: *region,
-            rows: region_rows(region),
+            rows: RegionRows {
+                both: region.right & region.left,
+                neither: !(region.right | region.left),
+            },
             strip,
             side,
             most,
@@ -105,8 +99,9 @@ impl Spans {
         }
     }
 
-    // The number of rows, from the next row on, that are set in `rows`. Counting ends before the first row that is not
-    // set, at the end of the strip, or at the end of a word of 64 bits.
+    // The number of rows whose bits are set in `rows`, counted from the next row on in the direction of the strip.
+    // Counting ends before the first row whose bit is not set, at the end of the strip, or at the end of a word of 64
+    // bits.
     #[inline(always)]
     fn rows_set(&self, rows: &BitRow) -> u8
         requires side { self.now.side ≤ 177 }

@@ -1,31 +1,34 @@
-//! Finds the least version that an input fits, its segments in this version, and the highest level at which it fits
-//! this version (ISO/IEC 18004:2015, 7.1 and 7.4.1).
+//! Finds the least version that an input fits, the segments of the input in this version, and the highest level at
+//! which the input fits this version (ISO/IEC 18004:2015, 7.1 and 7.4.1).
 //!
-//! The bits of a segment depend on the version only by the width of the character count indicator, which changes only
-//! after versions 9 and 26. So an input is cut into segments at most once for each of the ranges 1 to 9, 10 to 26 and
-//! 27 to 40.
+//! The number of bits of a segment depends on the version only because the character count indicator is wider in higher
+//! versions. Its width changes only after versions 9 and 26. So an input is cut into segments at most once for each of
+//! the ranges 1 to 9, 10 to 26 and 27 to 40.
 
 ghost use Rattle.std.specs.Prelude.{◌≡◌, ◌≤◌, ◌<◌, ◌+◌, ℕ, length, IfOk, MatchOption};
 ghost use Rattle.std.specs.Cow.{cow_slice_items};
 ghost use Rattle.qr_bits.specs.declared.modes.Rule.{Rule};
 ghost use Rattle.qr_bits.specs.declared.interpretation.Interpretation.{Interpretation};
 ghost use Rattle.qr_bits.specs.Interpretation.{interpretation_bits, MayWrite};
-ghost use Rattle.qr_bits.specs.declared.fault.BitFault.{BitFault};
 ghost use Rattle.qr_bits.specs.declared.modes.Mode.{Mode};
 ghost use Rattle.qr_bits.specs.Modes.{count_width};
-ghost use Rattle.qr_bits.specs.Segmentation.{bits, Covers, IsLeastSegmentation};
+ghost use Rattle.qr_bits.specs.Segmentation.{bits, Covers};
 ghost use Rattle.qr_bits.specs.Padding.{capacity_of};
 ghost use Rattle.qr_layout.specs.declared.level.Level.{Level};
-ghost use Rattle.qr_symbol.specs.VersionChoice.{FitsVersion, IsVersion, HasNoVersion, level_rank};
+ghost use Rattle.qr_symbol.specs.VersionChoice.{FitsVersion, level_rank};
+ghost use Rattle.qr_symbol.specs.Steps.Encoding.{IsFit, IsRefusedExactly};
 
+use crate::fault::EncodeFault;
 use qr_bits::{
-    BitFault, INPUT_MAX, Interpretation, Rule, Segmented, bit_len, interpretation_bits, least_bits,
-    segments,
+    INPUT_MAX, Interpretation, Rule, Segmented, bit_len, interpretation_bits, least_bits, segments,
 };
 use qr_layout::{Level, Version};
 use std::alloc::Global;
 
-// The last versions of the first two ranges.
+// The most bytes that a symbol can contain. So many fit version 40 at level L if they all are digits (7.4.10, Table 7).
+pub(crate) const SYMBOL_BYTES_MAX: usize = 7089;
+
+// The last version of the range 1 to 9, and that of the range 10 to 26.
 const SMALL: u8 = 9;
 
 const MEDIUM: u8 = 26;
@@ -41,7 +44,8 @@ pub(crate) struct Fit<'a> {
     pub segmented: Segmented<'a>,
 }
 
-// The last version of the range that `version` is in (7.4.1, Table 3).
+// The last version of the range that contains `version`: 1 to 9, 10 to 26 or 27 to 40. In all versions of a range,
+// character count indicators have the same widths (7.4.1, Table 3).
 fn last_of_width(version: Version) -> u8
     ensures least { version ≤ result }
     ensures most { result ≤ 40 }
@@ -79,8 +83,8 @@ fn capacity_at(number: u8, level: Level) -> u64
 
 // Returns the first version of a range: 1, 10 or 27. The input fits no version of the ranges before this one. The
 // number of bytes, or a lower bound on the number of bits, shows this without cutting the input into segments. The
-// bound is compared with the capacity of the last version of a range, which is the greatest in the range. If only byte
-// mode is allowed, the bound is not computed, since it would save little time.
+// bound is compared with the greatest capacity in a range, which is that of the last version. If only byte mode is
+// allowed, the bound is not computed, since it would save little time.
 fn first_for(input: &[u8], level: Level, rule: Rule, interpretation: Interpretation) -> u8
     requires { length input.now ≤ INPUT_MAX }
     ensures first { 1 ≤ result }
@@ -120,8 +124,9 @@ fn first_with_room(level: Level, first: Version, last: u8, bits: u64) -> Option<
     None
 }
 
-// Finds the least version, from `smallest` on, that the input fits. Goes through the ranges, and cuts the input into
-// segments once for each range. The search ends at the first version that has room for the segments of its range.
+// Finds the least version, from `smallest` on, that the input fits, and the segments of the input in this version. Goes
+// through the ranges of versions 1 to 9, 10 to 26 and 27 to 40, and cuts the input into segments once for each range.
+// The search ends at the first version that has room for the segments that were cut for its range.
 pub(crate) fn least_fit<'a>(
     alloc: Global,
     input: &'a [u8],
@@ -129,16 +134,18 @@ pub(crate) fn least_fit<'a>(
     smallest: Version,
     rule: Rule,
     interpretation: Interpretation,
-) -> Result<Fit<'a>, BitFault>
-    requires short { length input.now ≤ 7089 }
-    requires written { MayWrite interpretation input.now }
-    ensures version { IfOk result (λ f.
-        IsVersion smallest level rule interpretation input.now f.version) }
-    ensures segments { IfOk result (λ f. IsLeastSegmentation interpretation f.version rule input.now
+) -> Result<Fit<'a>, EncodeFault>
+    requires { MayWrite interpretation input.now }
+    ensures fit { IfOk result (λ f. IsFit smallest level rule interpretation input.now f.version
         (cow_slice_items f.segmented.characters) f.segmented.segments.items) }
-    ensures too_long { result ≡ Err BitFault.TooLong
-        → HasNoVersion smallest level rule interpretation input.now }
+    ensures refused { IsRefusedExactly smallest level rule interpretation input.now result }
 {
+    if input.is_empty() {
+        return Err(EncodeFault::Empty);
+    }
+    if input.len() > SYMBOL_BYTES_MAX {
+        return Err(EncodeFault::TooLong);
+    }
     let start = first_for(input, level, rule, interpretation);
     let mut first = Version::new(smallest.number().max(start)).unwrap();
     loop {
@@ -150,7 +157,7 @@ pub(crate) fn least_fit<'a>(
         }
         match Version::new(last + 1) {
             Some(next) => first = next,
-            None => return Err(BitFault::TooLong),
+            None => return Err(EncodeFault::TooLong),
         }
     }
 }

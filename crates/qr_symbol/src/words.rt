@@ -1,8 +1,8 @@
 //! Moves bits within words of 64 bits, reads up to 64 bits of the codewords at once, and collects bits into codewords
-//! (ISO/IEC 18004:2015, 7.7.2 and 7.7.3). Bit 0 of a word is its lowest. The bits of all codewords have one sequence of
-//! numbers: bit 0 is the highest bit of the first codeword.
+//! (ISO/IEC 18004:2015, 7.7.2 and 7.7.3). Bit 0 of a word is its lowest. The bits of all codewords are numbered from 0
+//! on: bit 0 is the highest bit of the first codeword, and bit 8 is the highest bit of the second.
 
-ghost use Rattle.std.specs.Prelude.{◌≡◌, ℕ, ◌*◌, ◌/◌, ◌%◌, ◌+◌, ◌-◌, ◌<◌, ◌≤◌, ◌&&◌, [], ◌∷◌, ◌++◌, if◌then◌else◌, nat_lt, length, slice_index, IsTrue, Some, IfOk};
+ghost use Rattle.std.specs.Prelude.{◌≡◌, ℕ, ◌*◌, ◌/◌, ◌%◌, ◌+◌, ◌-◌, ◌<◌, ◌≤◌, ◌&&◌, [], ◌∷◌, ◌++◌, nat_lt, length, slice_index, IsTrue, Some, IfOk};
 ghost use Rattle.std.specs.List.{All};
 ghost use Rattle.qr_bits.specs.Bits.{bits_of, codeword_bit, field};
 ghost use Rattle.qr_matrix.specs.BitRow.{has_bit};
@@ -19,8 +19,8 @@ pub(crate) fn is_bit_set(word: u32, i: u8) -> bool
     i < 32 && word >> i & 1 == 1
 }
 
-// Each of these masks divides the word into groups of 4, 8, 16, 32 or 64 bits. In each group exactly the second
-// quarter, counted from the lowest bit, is set.
+// For each of these masks, a word is divided into groups of bits: of 4 bits for `OF_4`, of 8 bits for `OF_8`, and so
+// on. In each group exactly the second quarter, counted from the lowest bit, is set.
 const OF_4: u64 = 0x2222_2222_2222_2222;
 
 const OF_8: u64 = 0x0C0C_0C0C_0C0C_0C0C;
@@ -31,8 +31,8 @@ const OF_32: u64 = 0x0000_FF00_0000_FF00;
 
 const OF_64: u64 = 0x0000_0000_FFFF_0000;
 
-// Exchanges each bit at a place that is set in `mask` with the bit `steps` places above it. That place is not set in
-// `mask`. Two bits that differ are exchanged by inverting both, and equal ones stay as they are.
+// Exchanges bit i and bit i + `steps` of `bits`, for each i whose bit of `mask` is set. The bit i + `steps` of `mask`
+// is then not set. Two bits that differ are exchanged by inverting both, and two equal bits stay as they are.
 #[inline(always)]
 #[tactic(auto, using(crate::proofs::Named::exchanges))]
 fn exchange_bits(bits: u64, steps: u32, mask: u64) -> u64
@@ -45,8 +45,9 @@ fn exchange_bits(bits: u64, steps: u32, mask: u64) -> u64
 }
 
 // Moves every second bit, from bit 1 on, to the upper half of the word, and the others to the lower half. For this it
-// exchanges the second quarter of each group with the third: first in groups of 4 bits, then of 8, 16, 32 and 64.
-// Groups of 4 and of 8 are enough for eight bits, of which o3 to o0 are to be in the upper half:
+// exchanges the second quarter of each group with the third: first in groups of 4 bits, then of 8, 16, 32 and 64. If a
+// word had only eight bits, groups of 4 and of 8 would be enough. In this drawing of eight bits, o3 to o0 are those
+// that move to the upper half:
 //
 // ```text
 // o3 e3 o2 e2 o1 e1 o0 e0
@@ -86,8 +87,8 @@ fn interleaved(odd: u64, even: u64) -> u64
     shuffled(odd << 32 | even & 0xFFFF_FFFF)
 }
 
-// As `exchange_bits`, but for a mask with which no bit keeps its place: one half of the bits moves down, and the other
-// half moves up.
+// As `exchange_bits`, but for a mask with which every bit is moved: one half of the bits moves down by `steps`, and the
+// other half moves up by `steps`.
 #[inline(always)]
 #[tactic(auto, using(crate::proofs::Named::exchanges))]
 fn exchange_all(bits: u64, steps: u32, mask: u64) -> u64
@@ -99,7 +100,7 @@ fn exchange_all(bits: u64, steps: u32, mask: u64) -> u64
 }
 
 // Reverses the order of the 64 bits. `u64::reverse_bits` does the same, but Rattle's kit compiles it to a loop over the
-// bits. Here LLVM makes one instruction of the last three steps, which reverse the order of bytes.
+// bits. The last three exchanges reverse the order of the bytes, and LLVM makes one instruction of them.
 #[inline(always)]
 pub(crate) fn reversed(bits: u64) -> u64
     ensures { (i : ℕ) → i < 64 → has_bit result i ≡ has_bit bits (63 - i) }
@@ -112,28 +113,10 @@ pub(crate) fn reversed(bits: u64) -> u64
     exchange_all(bits, 32, 0x0000_0000_FFFF_FFFF)
 }
 
-// Returns the first `2 * count` of `bits`, which are the highest, in the order of the rows from the top down. Bit 0 of
-// the result belongs to the topmost row. This row has the last of these bits in a strip that is filled upward, and the
-// first of them in a strip that is filled downward.
-#[inline(always)]
-fn bits_of_rows(bits: u64, upward: bool, count: u8) -> u64
-    requires some { 1 ≤ count }
-    requires few { count ≤ 32 }
-    ensures { (i : ℕ) → has_bit result i
-        ≡ (nat_lt i (2 * count) && has_bit bits (if upward then 64 - 2 * count + i else 63 - i)) }
-{
-    let others = 64 - 2 * count;
-    let first = bits >> others;
-    if upward {
-        first
-    } else {
-        reversed(first) >> others
-    }
-}
-
-// Divides the first `2 * count` of `bits` between the right and the left column of `count` rows. Of each two bits, the
-// first belongs to the right column and the second to the left. In each of the two results the lowest bit is that of
-// the topmost row.
+// Divides the `2 * count` highest bits of `bits` between the right and the left column of `count` rows. Of each two
+// bits, the first belongs to the right column and the second to the left. In each of the two results the lowest bit is
+// that of the topmost row. In a strip that is filled upward, the topmost row has the last two bits. In a strip that is
+// filled downward, it has the first two, so the order of the bits is reversed first.
 #[inline(always)]
 pub(crate) fn split(bits: u64, upward: bool, count: u8) -> (u64, u64)
     requires some { 1 ≤ count }
@@ -143,19 +126,21 @@ pub(crate) fn split(bits: u64, upward: bool, count: u8) -> (u64, u64)
     ensures left { (i : ℕ) → has_bit result.1 i
         ≡ (nat_lt i count && has_bit bits (62 - 2 * rank_in count upward i)) }
 {
-    let halves = unshuffled(bits_of_rows(bits, upward, count));
-    let upper = halves >> 32;
-    let lower = halves & 0xFFFF_FFFF;
+    let others = 64 - 2 * count;
+    let first = bits >> others;
     if upward {
-        (upper, lower)
+        let halves = unshuffled(first);
+        (halves >> 32, halves & 0xFFFF_FFFF)
     } else {
-        (lower, upper)
+        let halves = unshuffled(reversed(first) >> others);
+        (halves & 0xFFFF_FFFF, halves >> 32)
     }
 }
 
-// Joins the bits of the right and the left column of `count` rows of a strip, in the order in which they are filled: in
-// each row the right bit comes first. The last bit is bit 0 of the result, whereas `split` takes the highest bits of a
-// word. In `right` and `left` the lowest bit is that of the topmost row.
+// Joins the bits of the right and the left column of `count` rows of a strip, in the order in which the strip is
+// filled: in each row the right bit comes first. The joined bits become the lowest bits of the result, and the last of
+// them becomes bit 0. (`split` takes its bits from the highest bits of a word.) In `right` and `left` the lowest bit is
+// that of the topmost row.
 #[inline(always)]
 pub(crate) fn joined(right: u64, left: u64, upward: bool, count: u8) -> u64
     requires some { 1 ≤ count }
@@ -191,8 +176,8 @@ fn eight_codewords(codewords: &[u8], first: usize) -> u64
     bits
 }
 
-// As `eight_codewords`, but with a zero for each codeword after the last. The bound on `first` follows from the bound
-// on `number` in `bits_at`, since a codeword has eight bits.
+// As `eight_codewords`, but with 0 in place of each codeword after the last one. The bound on `first` follows from the
+// bound on `number` in `bits_at`, since a codeword has eight bits.
 #[inline(never)]
 fn last_codewords(codewords: &[u8], first: usize) -> u64
     requires { first ≤ 5000 }
@@ -205,8 +190,8 @@ fn last_codewords(codewords: &[u8], first: usize) -> u64
     bits
 }
 
-// The 64 bits of the codewords from bit `number` on, with the first as the highest. If they begin within a codeword,
-// they are in nine codewords. The bound on `number` is only for the prover. It is above 29,648, the most bits that the
+// The 64 bits of the codewords from bit `number` on, with the first as the highest. They are in nine codewords, unless
+// `number` is a multiple of 8. The bound on `number` is only for the prover. It is above 29,648, the most bits that the
 // codewords of a symbol have.
 #[inline(always)]
 pub(crate) fn bits_at(codewords: &[u8], number: usize) -> u64
@@ -234,7 +219,7 @@ pub(crate) fn bit_at(codewords: &[u8], number: usize) -> bool
 }
 
 // Collects bits into codewords. The first bit of a codeword is its highest. If an allocation is refused, the collector
-// remembers this until `into_codewords` returns the error, so the functions that append bits return none.
+// remembers this until `into_codewords` returns the error, so the functions that append bits return no error.
 #[derive(Drop)]
 pub(crate) struct Collector {
     whole: Vec<u8>,
@@ -258,7 +243,7 @@ impl Model for Collector {
 }
 
 impl Collector {
-    // Allocates the memory for `count` codewords, so that no later call needs more.
+    // Allocates the memory for `count` codewords, so that collecting them needs no other allocation.
     #[tactic(auto, unfolding(qr_bits::specs::Bits::bits_of, qr_bits::specs::Bits::field))]
     pub(crate) fn with_capacity(alloc: Global, count: usize) -> Result<Collector, AllocError>
         ensures { IfOk result (HasCollected []) }
@@ -285,9 +270,9 @@ impl Collector {
         }
     }
 
-    // Appends the `count` lowest bits of `bits`, the highest of them first. With the bits of `rest`, which come before
-    // them, they are at most 63 bits. All of these are moved to the top of a word of 64 bits, whose first bytes are
-    // then the next codewords.
+    // Appends the `count` lowest bits of `bits`, the highest of them first. The bits of `rest` come before them, so
+    // there are at most 63 bits in all. All of these are moved to the upper end of a word of 64 bits. The first bytes
+    // of this word are then the next codewords.
     #[inline(always)]
     pub(crate) fn push_bits(&mut self, bits: u64, count: u8)
         requires some { 1 ≤ count }

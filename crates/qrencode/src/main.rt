@@ -12,7 +12,7 @@ use std::alloc::Global;
 use std::env;
 use std::process::ExitCode;
 
-// The part of `main` that a contract can describe. Its devices are parameters, while `main` makes them itself.
+// The part of `main` that a contract can describe. The devices are parameters here, but `main` makes them itself.
 fn command<R: Source, W: Sink, E: Sink>(
     alloc: Global,
     words: &[String],

@@ -142,8 +142,9 @@ pub record RulesOfModes : Type 0 where
   pub kanji : (s : SettingsView) → s.bytes_only ≡ false → s.kanji ≡ true → rule_for s ≡ WithKanji
   pub neither : (s : SettingsView) → s.bytes_only ≡ false → s.kanji ≡ false → rule_for s ≡ Auto
 
--- With -i the input is folded under the rule that -8 and -k determine, and without -i it stays as it is. Two examples
--- show that with -i and -k a kanji pair stays unchanged, even if its second byte is the code of a small letter [own]
+-- With -i the input is folded under the rule that -8 and -k determine, and without -i it stays as it is. In the
+-- first example -i and -k are given, and a kanji pair stays unchanged although its second byte is the code of a small
+-- letter. In the second example only -i is given, and this byte is folded [own]
 pub record FoldingFollowsTheRule : Type 0 where
   pub folds : (s : SettingsView) (input : List ℕ) → s.fold ≡ true → held s input ≡ folded (rule_for s) input
   pub keeps : (s : SettingsView) (input : List ℕ) → s.fold ≡ false → held s input ≡ input

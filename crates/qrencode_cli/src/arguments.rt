@@ -1,11 +1,10 @@
 //! The command's arguments, as they are declared for the crate `clap`, which parses them.
 
-ghost use Rattle.std.specs.Prelude.{◌≡◌, [], Err, IfErr, IfOk, Result, map, false, codes};
+ghost use Rattle.std.specs.Prelude.{◌≡◌, [], Err, IfErr, IfOk, Result, map, false};
 ghost use Rattle.std.specs.String.{string_bytes};
 ghost use Rattle.clap.specs.Words.{app_of, found_of, kind_of};
 ghost use Rattle.clap.specs.Walk.{rows_of, rule_of};
-ghost use Rattle.clap.specs.Simple.{new_app};
-ghost use Rattle.qrencode_cli.specs.Arguments.{command, faults_for, flag_rule, number_rule, positional_rule, rows_for, text_rule};
+ghost use Rattle.qrencode_cli.specs.Arguments.{command, faults_for, flag_rule, number_rule, rows_for, text_rule};
 ghost use Rattle.qrencode_cli.specs.Settings.{IsUsageFault, Reason, SettingsView, refused_by_clap, settings_for};
 ghost use Rattle.clap.specs.declared.error.kind.ErrorKind.TheVariants.{OutOfMemory};
 
@@ -15,8 +14,8 @@ use clap::error::{Error, ErrorKind};
 use clap::{Arg, ArgAction, ArgMatches, Command};
 use std::alloc::{AllocError, Global};
 
-// An option: its name in the code and its letter. The help text shows `value`, the name of the option's value, and
-// `help`, a line about the option.
+// An option: `id` is its name in the code, and `short` its letter. The help text shows `value`, the name of the
+// option's value, and `help`, a line about the option.
 #[derive(Clone, Copy)]
 struct OptionText<'a> {
     id: &'a str,
@@ -52,20 +51,6 @@ fn flag_option<'a>(alloc: Global, option: OptionText<'a>) -> Arg<'a>
         .short(option.short)
         .help(option.help)
         .action(ArgAction::SetTrue)
-}
-
-// An argument that belongs to no option; `value` is its name in the help text.
-fn positional<'a>(alloc: Global, id: &'a str, value: &'a str, help: &'a str) -> Arg<'a>
-    ensures rule { rule_of result ≡ positional_rule id.entry.now }
-    ensures local { result.global ≡ false }
-{
-    Arg::new(alloc, id).value_name(value).help(help)
-}
-
-fn empty_command<'a>(alloc: Global) -> Command<'a>
-    ensures { app_of result ≡ new_app (codes "qrencode") }
-{
-    Command::new(alloc, "qrencode").about("Draws its input as QR Code symbols on standard output")
 }
 
 const LEVEL: OptionText<'static> = OptionText {
@@ -127,7 +112,8 @@ const STRUCTURED: OptionText<'static> = OptionText {
 fn command_line<'a>(alloc: Global) -> Result<Command<'a>, AllocError>
     ensures { IfOk result (λ c. app_of c ≡ command) }
 {
-    empty_command(alloc)
+    Command::new(alloc, "qrencode")
+        .about("Draws its input as QR Code symbols on standard output")
         .arg(text_option(alloc, LEVEL))?
         .arg(number_option(alloc, VERSION, 40))?
         .arg(text_option(alloc, TYPE).required(true))?
@@ -136,12 +122,11 @@ fn command_line<'a>(alloc: Global) -> Result<Command<'a>, AllocError>
         .arg(flag_option(alloc, KANJI))?
         .arg(flag_option(alloc, FOLD))?
         .arg(flag_option(alloc, STRUCTURED))?
-        .arg(positional(
-            alloc,
-            "string",
-            "STRING",
-            "Input, in place of standard input",
-        ))
+        .arg(
+            Arg::new(alloc, "string")
+                .value_name("STRING")
+                .help("Input, in place of standard input"),
+        )
 }
 
 // Returns the fault of a run whose arguments `clap` refused with `error`.
@@ -161,8 +146,8 @@ fn refusal(alloc: Global, error: &Error) -> UsageFault
 ///
 /// # Errors
 ///
-/// `Words` if `clap` refuses the arguments; it contains the text of `clap`. A request for help is refused too, and the
-/// text is then the help. `Memory` if memory is refused.
+/// `Words` with the text of `clap`, if `clap` refuses the arguments. It also refuses a request for help, and the text
+/// is then the help. `Memory` if memory is refused.
 pub(crate) fn matches<'a>(alloc: Global, words: &'a [String]) -> Result<ArgMatches<'a>, UsageFault>
     ensures taken { IfOk result (λ m. faults_for (map string_bytes words.entry.now) ≡ []) }
     ensures rows { IfOk result (λ m. rows_of (found_of m) ≡ rows_for (map string_bytes words.entry.now)) }

@@ -1,12 +1,11 @@
 //! A run of the command. It reads its settings from the arguments, gets its input, makes all symbols, and writes their
 //! drawing. If one of these steps fails, it writes the line of the fault. The first three steps make a drawing job: the
-//! symbols and how they are drawn. `job_for` reads the settings and gets the input, `make_job` folds the input, and
-//! `job_of` makes the symbols. `write_drawing` is the last step.
+//! symbols and how they are drawn.
 
 ghost use Rattle.std.specs.Prelude.{◌≤◌, MatchResult, length, map};
 ghost use Rattle.std.specs.String.{string_bytes};
 ghost use Rattle.qrencode_cli.specs.Command.{RunsTo, held};
-ghost use Rattle.qrencode_cli.specs.Steps.Command.{AreDrawnFor, Attempts, Draws, IsInputFault, IsJobFor, Prepares, drawing_of_job};
+ghost use Rattle.qrencode_cli.specs.Steps.Command.{AreDrawnFor, Attempts, IsInputFault, IsJobFor, Prepares};
 
 use crate::drawing_job::DrawingJob;
 use crate::fault::Fault;
@@ -18,29 +17,35 @@ use qr_drawing::{draw, write_text};
 use qr_layout::Version;
 use qr_symbol::{Symbol, encode, encode_series};
 use std::alloc::Global;
+use std::borrow::CowSlice;
 
-// Makes the symbols of `input`. Without `-S` it is one symbol, and with `-S` one symbol or a series.
+// Makes the symbols of `input`. With `-i` the input is folded first. Without `-S` it becomes one symbol, and with `-S`
+// one symbol or a series.
 fn symbols_for(alloc: Global, input: &[u8], settings: &Settings) -> Result<Vec<Symbol>, Fault>
     requires { length input.now ≤ INPUT_MAX }
-    ensures { MatchResult result (λ symbols. AreDrawnFor settings.now input.now symbols.items)
-        (IsInputFault settings.now input.now) }
+    ensures { MatchResult result (λ symbols. AreDrawnFor settings.now (held settings.now input.now) symbols.items)
+        (IsInputFault settings.now (held settings.now input.now)) }
 {
     let version = settings.smallest.unwrap_or(Version::FIRST);
     let level = settings.level;
     let rule = settings.rule();
+    let held = if settings.fold {
+        CowSlice::Owned(fold(alloc, input, rule)?)
+    } else {
+        CowSlice::Borrowed(input)
+    };
     if settings.structured {
-        let symbols = encode_series(alloc, input, version, level, rule, Interpretation::Default)?;
+        let symbols = encode_series(alloc, &held, version, level, rule, Interpretation::Default)?;
         return Ok(symbols);
     }
-    let symbol = encode(alloc, input, level, version, rule, Interpretation::Default)?;
+    let symbol = encode(alloc, &held, level, version, rule, Interpretation::Default)?;
     let symbols = Vec::from_array(alloc, [symbol])?;
     Ok(symbols)
 }
 
-// Makes the drawing job of `input`, the bytes that the symbols contain.
 fn job_of(alloc: Global, input: &[u8], settings: &Settings) -> Result<DrawingJob, Fault>
     requires { length input.now ≤ INPUT_MAX }
-    ensures { IsJobFor settings.now input.now result }
+    ensures { IsJobFor settings.now (held settings.now input.now) result }
 {
     Ok(DrawingJob {
         symbols: symbols_for(alloc, input, settings)?,
@@ -49,20 +54,8 @@ fn job_of(alloc: Global, input: &[u8], settings: &Settings) -> Result<DrawingJob
     })
 }
 
-// Makes the drawing job of `input`, which with `-i` is folded first.
-fn make_job(alloc: Global, input: &[u8], settings: &Settings) -> Result<DrawingJob, Fault>
-    requires { length input.now ≤ INPUT_MAX }
-    ensures { IsJobFor settings.now (held settings.now input.now) result }
-{
-    if settings.fold {
-        let folded = fold(alloc, input, settings.rule())?;
-        return job_of(alloc, folded.as_slice(), settings);
-    }
-    job_of(alloc, input, settings)
-}
-
 // Makes the drawing job that the arguments ask for. If the input is a string among the arguments, it is cut after
-// `INPUT_MAX` bytes. No symbol or series holds so many.
+// `INPUT_MAX` bytes. No symbol or series holds so many bytes.
 fn job_for<R: Source>(alloc: Global, words: &[String], input: &mut R) -> Result<DrawingJob, Fault>
     ensures { Prepares (map string_bytes words.now) (R.device input.old) (R.device input.new) result }
 {
@@ -70,27 +63,16 @@ fn job_for<R: Source>(alloc: Global, words: &[String], input: &mut R) -> Result<
     match &settings.string {
         Some(text) => {
             let bytes = text.as_bytes();
-            make_job(alloc, &bytes[..INPUT_MAX.min(bytes.len())], &settings)
+            job_of(alloc, &bytes[..INPUT_MAX.min(bytes.len())], &settings)
         }
         None => {
             let bytes = read_input(alloc, input)?;
-            make_job(alloc, bytes.as_slice(), &settings)
+            job_of(alloc, bytes.as_slice(), &settings)
         }
     }
 }
 
-// Writes the drawing, and then flushes the writer. A flush that fails is a write fault.
-fn write_drawing<W: Sink>(job: &DrawingJob, out: &mut W) -> Result<(), Fault>
-    ensures { Draws (W.device out.old) (W.device out.new) (drawing_of_job job.now) result }
-{
-    draw(&job.symbols, job.kind, job.margin, out)?;
-    if out.flush().is_err() {
-        return Err(Fault::Write);
-    }
-    Ok(())
-}
-
-// Does what `run` does, but returns a fault where `run` writes its line.
+// Does what `run` does, but returns the fault, whose line `run` then writes. A flush that fails is a write fault.
 fn run_to_result<R: Source, W: Sink>(
     alloc: Global,
     words: &[String],
@@ -102,7 +84,11 @@ fn run_to_result<R: Source, W: Sink>(
         (W.device out.new) result }
 {
     let job = job_for(alloc, words, input)?;
-    write_drawing(&job, out)
+    draw(&job.symbols, job.kind, job.margin, out)?;
+    if out.flush().is_err() {
+        return Err(Fault::Write);
+    }
+    Ok(())
 }
 
 /// Runs the command: reads the input that the arguments `words` ask for, and writes its drawing to `out`, or the line
@@ -135,8 +121,7 @@ fn run_to_result<R: Source, W: Sink>(
 /// more than 1,200 bytes.
 ///
 /// What is said here of the bytes themselves holds for devices whose bytes a contract can know. What is said of calls,
-/// faults and numbers of bytes also holds for files, pipes and terminals. It holds if the counts of the device are 0
-/// before the run.
+/// faults and numbers of bytes also holds for files, pipes and terminals, if their counts are 0 before the run.
 ///
 /// # Notes
 ///

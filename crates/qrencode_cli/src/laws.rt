@@ -6,13 +6,14 @@ ghost use Rattle.qr_devices.specs.declared.device.TheConstants.{INTERRUPTIONS_MA
 ghost use Rattle.qr_drawing.specs.declared.pen.TheConstants.{WRITE_MAX};
 ghost use Rattle.qrencode_cli.specs.Laws.{AnswersAreOne, FoldingFollowsTheRule, LinesOfFaults, NumbersOfUsageFaults, OutputsReadBack, RefusalsAreOne, RefusalsExcludeDrawings, CommandLines, RulesOfModes, StatusesAreTwo};
 
-/// 45 lists of arguments have the settings, or the reason to be refused, that `CommandLines` lists for them.
+/// `CommandLines` has 45 lists of arguments. It says for each list which settings its arguments mean, or why they are
+/// refused.
 pub fn command_lines()
     ensures { CommandLines }
 {}
 
-/// At most 113,425 bytes of input are read (`INPUT_MAX`), a write offers at most 1,200 (`WRITE_MAX`), and at most 999
-/// interrupted calls of a device are tried again (`INTERRUPTIONS_MAX`).
+/// At most 113,425 bytes of input are read (`INPUT_MAX`), a write offers at most 1,200 bytes (`WRITE_MAX`), and at most
+/// 999 interrupted calls of a device are tried again (`INTERRUPTIONS_MAX`).
 pub fn limits()
     ensures input { INPUT_MAX ≡ 113425 }
     ensures piece { WRITE_MAX ≡ 1200 }
@@ -40,9 +41,9 @@ pub fn folding_follows_the_rule()
     ensures { FoldingFollowsTheRule }
 {}
 
-/// A run that returns 0 wrote a drawing, and this drawing alone suffices to read the input. No other type, margin or
-/// list of squares has this drawing: its type and margin are those of the settings, and its squares are the symbols of
-/// the input. Read and joined, these symbols yield the input, folded if `-i` is given. `parse_drawing` of `qr_parsing`
+/// A run that returns 0 wrote a drawing, and this drawing alone suffices to read the input. The drawing belongs to one
+/// type, one margin and one list of squares only: the type and the margin of the settings, and the symbols of the
+/// input. Read and joined, these symbols yield the input, folded if `-i` is given. `parse_drawing` of `qr_parsing`
 /// returns the squares.
 pub fn outputs_read_back()
     ensures { OutputsReadBack }

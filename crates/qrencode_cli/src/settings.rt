@@ -1,12 +1,11 @@
 //! The settings of a run, which are read from what `clap` found in the arguments.
 
-ghost use Rattle.std.specs.Prelude.{◌≡◌, ◌≢◌, ◌↔◌, String, Err, Ok, Some, IfOk, MatchResult, map, codes, option_and_then, option_map};
-ghost use Rattle.std.specs.Option.{option_map_or};
+ghost use Rattle.std.specs.Prelude.{◌≡◌, ◌≢◌, ◌↔◌, String, Err, Ok, Some, MatchResult, map, option_map};
 ghost use Rattle.qr_layout.specs.declared.level.Level.{Level};
 ghost use Rattle.std.specs.String.{string_bytes};
 ghost use Rattle.clap.specs.Words.{first_of, found_of, one_of};
 ghost use Rattle.clap.specs.Walk.{rows_of};
-ghost use Rattle.qrencode_cli.specs.Settings.{IsUsageFault, drawing_named, flag_at, level_named, needs_version, number_or, refused_by_clap, rule_for, settings_for, settings_of, unknown_level, unknown_type, version_at};
+ghost use Rattle.qrencode_cli.specs.Settings.{IsUsageFault, drawing_named, flag_at, level_named, needs_version, number_or, refused_by_clap, rule_for, settings_for, settings_of, unknown_level, unknown_type};
 ghost use Rattle.qrencode_cli.specs.declared.settings.UsageFault.{UsageFault};
 ghost use Rattle.std.specs.Global.{Global};
 
@@ -27,8 +26,8 @@ const QUIET_ZONE: u8 = 4;
 pub struct Settings {
     /// The error correction level, L without `-l`.
     pub level: Level,
-    /// The smallest version of one symbol, or `None` if any may be chosen. A series needs a version, which all its
-    /// symbols have.
+    /// The smallest version of one symbol, or `None` if any version may be chosen. With `-S` there has to be a version,
+    /// and all symbols of a series have it.
     pub smallest: Option<Version>,
     /// The type of drawing.
     pub kind: Drawing,
@@ -154,13 +153,6 @@ fn drawing_named(name: &str) -> Option<Drawing>
     }
 }
 
-// Returns the level of `-l`, or L without `-l`. Returns `None` if the level is unknown.
-fn level_in(matches: &ArgMatches<'_>) -> Option<Level>
-    ensures { result ≡ option_map_or level_named (first_of (codes "level") (rows_of (found_of matches.now))) (Some Level.L) }
-{
-    text_in(matches, "level").map_or(Some(Level::L), level_named)
-}
-
 fn level_named(name: &str) -> Option<Level>
     ensures { result ≡ level_named name.now }
 {
@@ -175,13 +167,6 @@ fn level_named(name: &str) -> Option<Level>
     } else {
         None
     }
-}
-
-// Returns the type of `-t`, or `None` if it is unknown or missing.
-fn drawing_in(matches: &ArgMatches<'_>) -> Option<Drawing>
-    ensures { result ≡ option_and_then drawing_named (first_of (codes "type") (rows_of (found_of matches.now))) }
-{
-    text_in(matches, "type").and_then(drawing_named)
 }
 
 // Says whether the option `id`, which takes no value, is given. In the contracts of `clap` every value is a text, and
@@ -204,38 +189,27 @@ fn number_in(matches: &ArgMatches<'_>, id: &str, otherwise: u8) -> u8
     }
 }
 
-// Returns the version of `-v`, or `None` if `-v` is missing or 0.
-fn version_in(matches: &ArgMatches<'_>) -> Option<Version>
-    ensures { result ≡ version_at (one_of (codes "version") (rows_of (found_of matches.now))) }
-{
-    Version::new(number_in(matches, "version", 0))
-}
-
-fn string_in(alloc: Global, matches: &ArgMatches<'_>) -> Result<Option<String>, AllocError>
-    ensures { IfOk result (λ s. option_map string_bytes s ≡ first_of (codes "string") (rows_of (found_of matches.now))) }
-{
-    match text_in(matches, "string") {
-        Some(text) => Ok(Some(String::from_str(alloc, text)?)),
-        None => Ok(None),
-    }
-}
-
 fn settings_in(alloc: Global, matches: &ArgMatches<'_>) -> Result<Settings, UsageFault>
     ensures { MatchResult result (λ s. settings_of (rows_of (found_of matches.now)) ≡ Ok s)
         (IsUsageFault (settings_of (rows_of (found_of matches.now)))) }
 {
-    let Some(level) = level_in(matches) else {
+    // Without `-l` the level is L.
+    let Some(level) = text_in(matches, "level").map_or(Some(Level::L), level_named) else {
         return Err(UsageFault::Level);
     };
-    let Some(kind) = drawing_in(matches) else {
+    let Some(kind) = text_in(matches, "type").and_then(drawing_named) else {
         return Err(UsageFault::Kind);
     };
-    let smallest = version_in(matches);
+    // There is no version 0, so `-v 0` means the same as no `-v`.
+    let smallest = Version::new(number_in(matches, "version", 0));
     let structured = flag_in(matches, "structured");
     if structured && smallest.is_none() {
         return Err(UsageFault::NeedsVersion);
     }
-    let string = string_in(alloc, matches)?;
+    let string = match text_in(matches, "string") {
+        Some(text) => Some(String::from_str(alloc, text)?),
+        None => None,
+    };
     Ok(Settings {
         level,
         smallest,
@@ -250,7 +224,7 @@ fn settings_in(alloc: Global, matches: &ArgMatches<'_>) -> Result<Settings, Usag
 }
 
 /// Returns the settings that the arguments `words` mean. The first of `words` is the program's name. `clap` decides
-/// which options and numbers are valid, and this function which levels and types are.
+/// which options and numbers are valid, and this function decides which levels and types are valid.
 ///
 /// # Errors
 ///

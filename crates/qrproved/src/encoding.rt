@@ -82,8 +82,8 @@ fn symbol_of(
 }
 
 /// Encodes `input` as one symbol, and writes the symbol's modules to `modules` (ISO/IEC 18004:2015, 7.1). The version
-/// is the least that the input fits, from `version` on. The byte with the index `row * side + column` is 1 if the
-/// module in this row and column is dark, and 0 if it is light. Rows and columns are counted from 0.
+/// is the least that the input fits, from `version` on. The byte of `modules` with the index `row * side + column` is 1
+/// if the module in this row and column is dark, and 0 if it is light. Rows and columns are counted from 0.
 ///
 /// `version` is 1 to 40, and `level` is 0 to 3 for L, M, Q and H. `rule` is 0 for all modes but kanji mode, 1 for byte
 /// mode alone, and 2 for all modes. `interpretation` is 0 to 999,999 for the ECI with this number, 1,000,000 for no
@@ -247,7 +247,7 @@ mod tests {
         Ok(())
     }
 
-    // Another encoder chooses mask 0 for `g` at 1-Q, and mask 7 for five letters at 1-L.
+    // The masks are those of another encoder: 0 for `g` at version 1 and level Q (1-Q), and 7 for five letters at 1-L.
     #[test]
     fn numbers_of_levels_and_rules(rt: HostRuntime) -> Result<(), Fail> {
         let digits = [b'7'; 42];
@@ -416,8 +416,8 @@ mod tests {
         Ok(())
     }
 
-    // An ECI header takes 12, 20 or 28 bits, and FNC1 for GS1 data takes 4. Version 1 has 152 bits at L. In byte mode
-    // 17 bytes take 148 of them, 16 take 140 and 15 take 132. In numeric mode 41 digits take 151.
+    // An ECI header takes 12, 20 or 28 bits, and FNC1 for GS1 data takes 4. Version 1 has room for 152 bits at level L.
+    // In byte mode 17 bytes take 148 of them, 16 take 140 and 15 take 132. In numeric mode 41 digits take 151.
     #[test]
     fn interpretations_take_room(rt: HostRuntime) -> Result<(), Fail> {
         let letters = [b'a'; 18];

@@ -5,7 +5,8 @@ ghost use Rattle.qrproved.specs.Interpretation.{HoldsEcis, TellsFnc1, told_eci};
 
 use qr_bits::{EciChange, Fnc1};
 
-/// An ECI header of a symbol that was read. The bytes of the content have this ECI from `begin` to the next header.
+/// An ECI header of a symbol that was read. The bytes of the content have this ECI from index `begin` up to the next
+/// header.
 #[repr(C)]
 #[derive(Clone, Copy)]
 pub struct QrprovedEci {
@@ -24,7 +25,8 @@ fn told_eci(change: EciChange) -> QrprovedEci
     }
 }
 
-/// Writes the ECI headers to the start of the buffer. If it is too short for all, only the first ones are written.
+/// Writes the ECI headers to the start of the buffer. If this is too short for all headers, only the first ones are
+/// written.
 pub(crate) fn write_ecis(changes: &[EciChange], out: &mut [QrprovedEci])
     ensures { HoldsEcis changes.now out.old out.new }
 {

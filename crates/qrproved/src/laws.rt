@@ -1,4 +1,5 @@
-//! Laws of the calls, and of the numbers in them. A function here exists for its contract, which is the law.
+//! Laws about the calls, and about the numbers that they take and return. A function here exists for its contract,
+//! which is the law.
 
 ghost use Rattle.std.specs.Prelude.{◌≡◌, ◌<◌, ◌≤◌, ℕ, [], ◌∷◌, map, true, false, IfOk};
 ghost use Rattle.qr_layout.specs.declared.level.Level.{Level};

@@ -243,7 +243,7 @@ mod tests {
         }
     }
 
-    // Inverts the modules in these rows and columns. `min` is for the prover.
+    // Inverts the module at each of these places, which are pairs of a row and a column. `min` is for the prover.
     fn inverted(drawn: [u8; 441], places: &[(u8, u8)]) -> Result<[u8; 441], Fail> {
         let mut modules = drawn;
         for (row, col) in places {
@@ -313,7 +313,7 @@ mod tests {
     }
 
     // At 1-M eight of the ten error correction codewords correct errors, and two only detect them. A codeword with a
-    // module that is not known takes one of the eight, and a misread codeword two.
+    // module that is not known uses up one of the eight, and a misread codeword uses up two.
     #[test]
     fn modules_that_are_not_known(rt: HostRuntime) -> Result<(), Fail> {
         let drawn = eight_digits(&rt)?;

@@ -83,9 +83,10 @@ pub(crate) fn content_of(len: usize, version: Version, parsed: &Parsed) -> Qrpro
 /// otherwise dark. The bytes that the symbol contains are written to `bytes`, and its ECI headers to `ecis`. If `ecis`
 /// is too short for all headers, only the first ones are written.
 ///
-/// On status 0 the bytes, the ECI headers and the numbers in `content` are those of a symbol with the same codewords
-/// and the same first copy of the format information. Nothing is promised of the other modules: the function patterns,
-/// the dark module, the second copy of the format information, the version information and the remainder bits.
+/// On status 0 the bytes, the ECI headers and the numbers in `content` are those of a symbol that has the same
+/// codewords and the same first copy of the format information as the square. Nothing is promised of the other modules
+/// of the square: the function patterns, the dark module, the second copy of the format information, the version
+/// information and the remainder bits.
 ///
 /// # Errors
 ///
@@ -169,7 +170,7 @@ mod tests {
     #[test]
     fn eight_digits_are_read(rt: HostRuntime) -> Result<(), Fail> {
         let mut modules = eight_digits(&rt)?;
-        // Each byte but 0 is dark, so 200 is as dark as 1.
+        // Each byte but 0 stands for a dark module, so 200 means the same as 1.
         for module in &mut modules {
             *module = if *module == 0 { 0 } else { 200 };
         }

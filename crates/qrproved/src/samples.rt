@@ -33,7 +33,7 @@ pub(crate) fn eight_digits(rt: &HostRuntime) -> Result<[u8; 441], Fail> {
     Ok(modules)
 }
 
-/// A symbol at 1-M whose data codewords begin with 0110, which is no mode indicator.
+/// A symbol at 1-M whose data codewords begin with the bits 0110, which are no mode indicator.
 pub(crate) fn another_mode(rt: &HostRuntime) -> Result<[u8; 441], Fail> {
     let version = Version::FIRST;
     let message = [0x60u8; 16];

@@ -25,10 +25,10 @@ pub struct QrprovedSeries {
 }
 
 /// Encodes `input` as a series of symbols of the version `version`, or as one plain symbol if it fits one (ISO/IEC
-/// 18004:2015, 8). The modules are written to `modules`, one symbol after the other. The byte with the index `(number *
-/// side + row) * side + column` is 1 if the module in this row and column of symbol `number` is dark, and 0 if it is
-/// light. Symbols, rows and columns are counted from 0. `level`, `rule` and `interpretation` mean what they mean in
-/// `qrproved_encode`. Each symbol has the interpretation.
+/// 18004:2015, 8). The modules are written to `modules`, one symbol after the other. The byte of `modules` with the
+/// index `(number * side + row) * side + column` is 1 if the module in this row and column of symbol `number` is dark,
+/// and 0 if it is light. Symbols, rows and columns are counted from 0. `level`, `rule` and `interpretation` mean what
+/// they mean in `qrproved_encode`. Each symbol states the interpretation.
 ///
 /// On status 0 the buffer begins with exactly the modules of the symbols, and `series` has their number and side.
 /// Reading and joining the symbols yields the input, and each symbol is read with the interpretation. Without kanji

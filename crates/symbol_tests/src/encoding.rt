@@ -250,8 +250,8 @@ fn four_blocks_of_two_lengths(rt: HostRuntime) -> Result<(), Fail> {
     Ok(())
 }
 
-// `build` and `build_masked` make the same symbols. These versions have no, three, four or seven remainder bits, and
-// those from 7 on have version information.
+// `build` and `build_masked` make the same symbols. Some of these versions have no remainder bits, and others three,
+// four or seven. Those from 7 on have version information.
 #[test]
 fn plain_and_fast_symbols(rt: HostRuntime) -> Result<(), Fail> {
     for number in [1, 2, 7, 14, 21, 40] {

@@ -26,7 +26,7 @@ fn part(rt: &HostRuntime, position: u8) -> Result<Symbol, Fail>
     byte_symbol(rt, bytes, Some(header), Level::H)
 }
 
-// Returns a symbol whose modules are all light.
+// Returns a `Symbol` whose modules are all light, so that it cannot be read.
 fn light(rt: &HostRuntime, side: u8) -> Result<Symbol, Fail>
     requires least { 0 < side }
     requires most { side < 178 }

@@ -1,11 +1,11 @@
-//! Tests of the example of a label.
+//! Tests of `label`, the function of the crate `example_label`.
 
 use example_label::label;
 use qr_layout::{Level, Version};
 use qr_symbol::EncodeFault;
 use std::test::Fail;
 
-// The label has 21 lines of modules, of which the first begins with a finder pattern, and then the line `A`.
+// The label has 21 lines of modules, and then the line `A`. The first line begins with the top row of a finder pattern.
 #[test]
 fn a_letter_at_1_l(rt: HostRuntime) -> Result<(), Fail> {
     let version = Version::new(1).ok_or("version 1")?;
@@ -16,7 +16,7 @@ fn a_letter_at_1_l(rt: HostRuntime) -> Result<(), Fail> {
     Ok(())
 }
 
-// 40-L contains at most 2,953 bytes (Table 7).
+// A symbol at 40-L contains at most 2,953 bytes (Table 7).
 #[test]
 fn refusals(rt: HostRuntime) -> Result<(), Fail> {
     let fault = label(rt.alloc(), b"", Level::L, Version::FIRST);

@@ -46,8 +46,8 @@ fn block_of_eight_digits_damaged(rt: HostRuntime) {
 }
 
 // Mends the same block after other damage: the codewords in `unread` are marked as erased, and those in `misread` are
-// misread. Returns how many codewords were corrected that were not erased, or `None` if the block cannot be mended. It
-// can be mended if the number of erased codewords and twice the number of misread ones add up to at most `spare`.
+// misread. Returns how many misread codewords were corrected, or `None` if the block cannot be mended. The block can be
+// mended if the number of erased codewords and twice the number of misread ones add up to at most `spare`.
 fn mended_with_erasures(
     rt: &impl Abort,
     spare: usize,

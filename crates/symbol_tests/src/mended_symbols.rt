@@ -38,7 +38,8 @@ fn mend_inverted(
     }
 }
 
-// At 1-M at most four of the 26 codewords are corrected: two of the ten error correction codewords only detect errors.
+// At 1-M at most four misread codewords of the 26 are corrected, since two of the ten error correction codewords only
+// detect errors.
 #[test]
 fn eight_digits_damaged(rt: HostRuntime) -> Result<(), Fail> {
     let first = [(0u8, 8u8), (1, 8), (2, 8), (3, 8)];
@@ -134,8 +135,8 @@ fn mend_inverted_without(
     }
 }
 
-// At 1-M eight of the ten error correction codewords correct errors, and two only detect them. An erased codeword takes
-// one of the eight, and a misread one two.
+// At 1-M eight of the ten error correction codewords correct errors, and two only detect them. An erased codeword uses
+// up one of the eight, and a misread one uses up two.
 #[test]
 fn eight_digits_with_unread_modules(rt: HostRuntime) -> Result<(), Fail> {
     let format = [(0u8, 8u8), (1, 8), (2, 8)];

@@ -4,9 +4,10 @@ ghost use Rattle.std.specs.Prelude.{◌<◌, ◌≤◌, length};
 ghost use Rattle.std.specs.Option.{ForSome};
 ghost use Rattle.qr_bits.specs.declared.modes.TheConstants.{INPUT_MAX};
 
-use qr_bits::{Header, INPUT_MAX, Interpretation, Mode, Segment, codewords, covers};
+use qr_bits::{Header, INPUT_MAX, Interpretation, Mode, Segment, Segmented, codewords, covers};
 use qr_layout::{Level, Version};
 use qr_symbol::{Symbol, build, interleave};
+use std::borrow::CowSlice;
 use std::test::Fail;
 
 /// The codewords of `01234567` at 1-M: 16 data codewords, and then 10 error correction codewords.
@@ -33,10 +34,13 @@ pub fn byte_codewords(
     if !covers(bytes, &[segment]) {
         return Err("the segment is not the bytes".into());
     }
+    let segmented = Segmented {
+        segments: Vec::from_array(rt.alloc(), [segment])?,
+        characters: CowSlice::Borrowed(bytes),
+    };
     Ok(codewords(
         rt.alloc(),
-        bytes,
-        &[segment],
+        &segmented,
         header,
         Interpretation::Default,
         version,

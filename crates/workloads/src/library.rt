@@ -55,7 +55,7 @@ fn large_symbol(
 ) -> Result<Option<Symbol>, AllocError> {
     let level = LEVELS[random.below(4)];
     let version = Version::new(random.byte_between(20, 41)).unwrap_or(Version::FIRST);
-    // The mode indicator and the count take three bytes.
+    // The mode indicator and the count take 20 bits, which is less than three bytes.
     let count = usize::from(version.data_codewords(level)).saturating_sub(3);
     let mut text = Text::new(alloc);
     if turn % 32 < 16 {
@@ -72,8 +72,8 @@ fn large_symbol(
 struct Change {
     // The bits that are inverted; 0 if the codeword stays as it is.
     bits: u8,
-    // The codewords of a block that change are drawn by lot. This is 1 for the first that was drawn, 2 for the second,
-    // and so on, and 0 for a codeword that was not drawn.
+    // The codewords of a block that change are drawn by lot. The rank is 1 for the first that was drawn, 2 for the
+    // second, and so on, and 0 for a codeword that was not drawn.
     rank: u8,
 }
 
@@ -137,7 +137,7 @@ struct Buffers {
     one: Vec<u8>,
     half: Vec<u8>,
     bound: Vec<u8>,
-    // Here some modules are not known. They are read as dark, so that some of them also have the wrong colour.
+    // Here the modules under a smudge are not known.
     smudged: Vec<u8>,
 }
 
@@ -183,7 +183,7 @@ fn smudge(modules: &mut [u8], side: u8, random: &mut Random) {
     }
 }
 
-// Damages the symbol that is in the first buffer, and writes it to the others.
+// Copies the symbol in the first buffer to the others, and damages each copy in its own way.
 fn damage(
     alloc: Global,
     version: Version,

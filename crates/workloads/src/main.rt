@@ -1,7 +1,8 @@
 //! A program that does the jobs that users wait for, on inputs that it makes from a seed. Its arguments are the name of
-//! a job, how many inputs the job takes, and the seed. With the name `all` it does each job, with as many inputs. It
-//! prints a line for each job, with a digest of all results of the job. `bench/run` measures how long it takes.
-//! `saturating_add` and `saturating_mul` are for the prover where a result can never be too large for its type.
+//! a job, how many inputs the job takes, and the seed. With the name `all` it does each job with this number of inputs.
+//! It prints a line for each job, with a digest of all results of the job. `bench/run` measures how long the program
+//! takes. Where a result can never be too large for its type, `saturating_add` and `saturating_mul` stand for `+` and
+//! `*`, because the prover does not know that.
 #![tactic(auto)]
 
 mod checking;

@@ -16,10 +16,10 @@ static NUMBERS: [&str; 11] = ["0", "1", "2", "3", "4", "5", "6", "7", "8", "9", 
 // The most bytes that versions 19 and 40 hold in byte mode, at the levels L, M, Q and H.
 static BYTES: [(usize, usize); 4] = [(792, 2953), (624, 2331), (442, 1663), (338, 1273)];
 
-// The most digits that these versions hold.
+// The most digits that versions 19 and 40 hold, at the same levels.
 static DIGITS: [(usize, usize); 4] = [(1903, 7089), (1500, 5596), (1063, 3993), (813, 3057)];
 
-// One byte more than version 9 or version 26 holds in byte mode, at these levels.
+// One byte more than version 9 or version 26 holds in byte mode, at the same levels.
 static TOO_MANY: [(usize, usize); 4] = [(231, 1368), (181, 1060), (131, 752), (99, 594)];
 
 const LABEL_ROOM: usize = 120_000;

@@ -1,7 +1,7 @@
 -- The table of best modes. It has a row for each byte, with the best mode of the byte for each state that may come
 -- before it. (The file `RunState` says what a state is.) A choice is a mode of a byte, with the number of bits that
 -- this byte and all later ones then take. `rest` has the best choices of the next byte, one for each state after the
--- byte. `pair` says that the byte may begin a kanji pair.
+-- byte. `pair` says whether the byte may begin a kanji pair.
 use Rattle.std.specs.Prelude.{◌≡◌, ℕ, ◌+◌, ◌<◌, ◌/◌, ◌%◌, ◌^◌, nat_le, Bool, List, [], ◌∷◌, map, IsTrue}
 use Rattle.qr_bits.specs.declared.modes.Mode.{Mode}
 use Rattle.qr_bits.specs.declared.modes.Mode.TheVariants.{Alphanumeric}
@@ -44,14 +44,14 @@ AreCharacterChoices i v r x pair rest c =
     (c.first ≡ character_choice i v r x pair rest Start) × (c.second ≡ character_choice i v r x pair rest Character1) × (c.next ≡ character_choice i v r x pair rest Character2)
 
 -- All choices, as numbers, are below 40,000,000. The choices of inputs of at most `INPUT_MAX` bytes do not reach this
--- bound. A choice below it, with the bits of one more byte, still has room in 32 bits
+-- bound. If the bits of one more byte are added to a choice below it, the sum still has room in 32 bits
 abbrev pub IsSmall : PerState → Type 0
 IsSmall n =
     (n.start < 40000000) × (n.digit1 < 40000000) × (n.digit2 < 40000000) × (n.digit3 < 40000000) × (n.character1 < 40000000)
     × (n.character2 < 40000000) × (n.in_bytes < 40000000) × (n.half_pair < 40000000) × (n.whole_pair < 40000000)
 
 -- A row is a number in which each state has two bits, for the mode that is best after this state. The value is the
--- index of the lower of the two bits, where bit 0 is the lowest of the row
+-- index of the lower of the two bits of the given state, where bit 0 is the lowest of the row
 abbrev pub shift_of : RunState → ℕ
 shift_of Start = 0
 shift_of Digit1 = 2
@@ -71,7 +71,8 @@ mode_at row p = ranked (row / 2 ^ shift_of p % 4)
 abbrev pub is_flagged : ℕ → Bool
 is_flagged row = nat_le 262144 row
 
--- A row of the bytes `xs` of GS1 data has its flag exactly if alphanumeric mode writes its byte as other characters
+-- `rows` has a row of the table for each byte of `xs`, which are GS1 data. A row has its flag exactly if alphanumeric
+-- mode writes its byte as other characters
 abbrev pub AreFlagged : List ℕ → List ℕ → Type 0
 AreFlagged xs rows = map is_flagged rows ≡ map (is_escaped Alphanumeric) xs
 

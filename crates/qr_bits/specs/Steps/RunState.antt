@@ -1,7 +1,7 @@
 -- What the next byte adds to the bits of an input, in each mode and after each state. A state says which mode the last
 -- byte has, and how many bytes of its group there are so far. A group is three digits, two characters, one byte, or a
 -- kanji pair. `p` is a state, `v` the version, and `r` the rule. Two bytes are a kanji pair if they pass `test`, and
--- `pair` says that a byte `x` may begin a pair.
+-- `pair` says whether a byte `x` may begin a pair.
 use Rattle.std.specs.Prelude.{◌≡◌, ℕ, ◌+◌, ◌*◌, ◌≤◌, Bool, true, false, ◌&&◌, ◌==◌, if◌then◌else◌, List, [], ◌∷◌, IsTrue}
 use Rattle.qr_bits.specs.declared.modes.Mode.{Mode}
 use Rattle.qr_bits.specs.declared.modes.Mode.TheVariants.{Numeric, Alphanumeric, Byte, Kanji}

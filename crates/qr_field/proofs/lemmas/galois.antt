@@ -4,5 +4,7 @@ pub mod BitLemmas
 pub mod ByteLemmas
 -- The product of two elements.
 pub mod ProductLemmas
+-- Powers of 2 in the field, and the tables of powers and logarithms.
+pub mod PowerLemmas
 -- The laws of the field of 256 elements.
 pub mod FieldLemmas

@@ -8,3 +8,5 @@ pub mod ColumnLemmas
 pub mod RunLemmas
 -- What is kept of the rows above tells where five equal modules of a column are.
 pub mod AboveLemmas
+-- Bit operations on two rows compute the test of a square of two by two modules.
+pub mod SquareLemmas

@@ -4,6 +4,6 @@ pub mod MessageLemmas
 -- read.
 pub mod MarkLemmas
 -- A message is mended block by block, to at most one message.
-pub mod UnreadLemmas
+pub mod BlocksLemmas
 -- A symbol of which all modules were read has no erased codeword.
 pub mod LightLemmas

@@ -16,8 +16,8 @@ abbrev pub coefficient : ℕ → List ℕ → ℕ
 coefficient m [] = 0
 coefficient m (c ∷ e) = if m == length e then c else coefficient m e
 
--- The coefficients `e`, where the coefficient of x^m is multiplied by the value of the polynomial `p` at 2^m. If `p`
--- has a root for each erased codeword, the errors of these codewords become 0.
+-- The coefficients `e`, each multiplied by a value of the polynomial `p`: the coefficient of x^m by the value at 2^m.
+-- If `p` has a root for each erased codeword, the errors of these codewords become 0.
 abbrev pub weighted : List ℕ → List ℕ → List ℕ
 weighted p [] = []
 weighted p (c ∷ e) = product c (eval (power (length e)) p) ∷ weighted p e
@@ -36,13 +36,13 @@ pub record AreErrors (n : ℕ) (p s e : List ℕ) : Type 0 where
   pub located : IsLocated p e
   pub values : HasValues s e
 
--- What always holds of Chien's search, which has still to try the codewords at the locations below `left`. Its list
--- `values` has the value that the locator had at 2^m, for each location m from `first` to `left - 1`: where this is 0,
--- 2^m is still a root of the locator.
+-- What always holds of Chien's search when it has still to try the codewords at the locations below `left`. For each
+-- location m from `first` to `left - 1`, its list `values` has the value that the locator had at 2^m when the list was
+-- computed. If this value is 0, 2^m is still a root of the locator.
 pub record IsRemoval (left : ℕ) (removal : Removal) : Type 0 where
   pub leading : HasLeadingOne removal.locator.items
   pub enough : array_vec_len removal.locator ≤ array_vec_len removal.syndromes + 1
-  pub near : left ≤ removal.first + 16
+  pub sixteen : left ≤ removal.first + 16
   pub roots : (m : ℕ) → removal.first ≤ m → m < left → slice_index removal.values (m - removal.first) ≡ 0 →
       eval (power m) removal.locator.items ≡ 0
 

@@ -17,8 +17,8 @@ HoldsNone unknown v l mask g = (message changed : List ℕ) → HoldsDamaged unk
 -- the number of misread codewords in each block, and the error correction codewords that belong to the mended data
 -- codewords.
 pub record IsMendedSquare (unknown : Grid) (v : ℕ) (g : Grid) (m : MendedSquare) : Type 0 where
-  pub held : HoldsDamaged unknown v m.level m.mask g m.message.items m.changed.items
-  pub corrections : HasCorrections v m.level m.message.items m.corrections.items
+  pub held : HoldsDamaged unknown v m.level m.mask g m.blocks.message.items m.blocks.changed.items
+  pub corrections : HasCorrections v m.level m.blocks.message.items m.blocks.corrections.items
 
 -- If `near` has a level and a mask, and all blocks of the square can be mended with them, `o` is the square that is
 -- mended with them. Otherwise `o` is `None`.
@@ -32,8 +32,8 @@ abbrev pub IsMendedBy : Grid → ℕ → Grid → FormatCopy → Option MendedSq
 IsMendedBy unknown v g copy o = MatchOption o (IsOfNoUse unknown copy v g)
     (λ m. IsNearFormat unknown copy g m.level m.mask × IsMendedSquare unknown v g m)
 
--- `o` is the square, mended with the level and the mask by which it has to be read. If with each level and mask that
--- are near to a copy some block cannot be mended, `o` is `None`.
+-- `o` is the square, mended with the level and the mask with which it has to be read. It is `None` if, with each level
+-- and mask that are near to a copy, some block cannot be mended.
 abbrev pub IsMendedByEither : Grid → ℕ → Grid → Option MendedSquare → Type 0
 IsMendedByEither unknown v g o = MatchOption o ((any : FormatCopy) → IsOfNoUse unknown any v g)
     (λ m. HasFormat unknown v g m.level m.mask × IsMendedSquare unknown v g m)

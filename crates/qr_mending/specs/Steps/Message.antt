@@ -7,10 +7,10 @@ use Rattle.qr_layout.specs.declared.{blocks.Blocks.{Blocks}, level.Level.{Level}
 use Rattle.qr_layout.specs.Blocks.{blocks_of, data_codewords_of}
 use Rattle.qr_field.specs.Polynomial.{zeros}
 use Rattle.qr_symbol.specs.Interleaving.{block_count, codeword_count, correction_sizes, start_of, data_sizes}
-use Rattle.qr_symbol.specs.Steps.Interleaving.{IsChecks}
+use Rattle.qr_symbol.specs.Interleaving.{IsChecks}
 use Rattle.qr_mending.specs.declared.message.{Marks.{Marks}, MarksInBlocks.{MarksInBlocks}}
 use Rattle.qr_mending.specs.declared.message.Marks.TheVariants as interleaved
-use Rattle.qr_mending.specs.declared.message.MarksInBlocks.TheVariants as parted
+use Rattle.qr_mending.specs.declared.message.MarksInBlocks.TheVariants as by_block
 use Rattle.qr_mending.specs.Erasures.{read_of}
 use Rattle.qr_mending.specs.Message.{received, AreInBlocks, IsMendedBlock}
 
@@ -28,23 +28,23 @@ list_of n (interleaved.Each marks) = marks.items
 -- by block, and `Marks` lists them in the order of the final sequence. If one of the two has no list, since every
 -- module was read, the other has none either
 abbrev pub AreMarksInBlocks : Blocks → Marks → MarksInBlocks → Type 0
-AreMarksInBlocks b interleaved.AllZero parted.AllZero = Unit {0}
-AreMarksInBlocks b interleaved.AllZero (parted.Each parts) = ⊥
-AreMarksInBlocks b (interleaved.Each marks) parted.AllZero = ⊥
-AreMarksInBlocks b (interleaved.Each marks) (parted.Each parts) =
-    AreInBlocks b marks.items parts.data.items parts.checks.items
+AreMarksInBlocks b interleaved.AllZero by_block.AllZero = Unit {0}
+AreMarksInBlocks b interleaved.AllZero (by_block.Each lists) = ⊥
+AreMarksInBlocks b (interleaved.Each marks) by_block.AllZero = ⊥
+AreMarksInBlocks b (interleaved.Each marks) (by_block.Each lists) =
+    AreInBlocks b marks.items lists.data.items lists.checks.items
 
 -- There is a mark for each codeword of the symbol, or no list of marks was made, since every module was read
 abbrev pub AreWhole : Blocks → MarksInBlocks → Type 0
-AreWhole b parted.AllZero = Unit {0}
-AreWhole b (parted.Each parts) = (length parts.data.items ≡ codeword_count (data_sizes b))
-    × (length parts.checks.items ≡ codeword_count (correction_sizes b))
+AreWhole b by_block.AllZero = Unit {0}
+AreWhole b (by_block.Each lists) = (length lists.data.items ≡ codeword_count (data_sizes b))
+    × (length lists.checks.items ≡ codeword_count (correction_sizes b))
 
 -- The marks of the codewords of block `i`, counted from 0. If no list of marks was made, since every module was read,
 -- this list is empty. A codeword without a mark counts as read
 abbrev pub marks_at : Blocks → MarksInBlocks → ℕ → List ℕ
-marks_at b parted.AllZero i = []
-marks_at b (parted.Each parts) i = received b parts.data.items parts.checks.items i
+marks_at b by_block.AllZero i = []
+marks_at b (by_block.Each lists) i = received b lists.data.items lists.checks.items i
 
 -- `message` has the mended data codewords of the first `n` blocks, each of which was mended by at most `spare` error
 -- correction codewords. Item i of `misread` is the number of misread codewords of block i, and `marks i` are the marks

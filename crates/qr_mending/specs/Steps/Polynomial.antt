@@ -1,6 +1,6 @@
--- Polynomials with the leading coefficient 1, and the search for the error locator polynomial. A list `window` stands
--- for an equation: each coefficient of a polynomial is multiplied by the item of `window` at the same index, and the
--- products have to add up to 0. For equation j the window is the list of the syndromes from index j on.
+-- Polynomials with the leading coefficient 1, and the search for the error locator polynomial. The syndromes from index
+-- j on stand for equation j: the coefficient of x^k is multiplied by the syndrome at index j + k, for each k, and the
+-- products have to add up to 0.
 use Rattle.std.specs.Prelude.{◌≡◌, ℕ, ◌+◌, ◌*◌, ◌<◌, ◌≤◌, List, take, drop, length, slice_index}
 use Rattle.std.specs.List.{All}
 use Rattle.qr_field.specs.Polynomial.{IsByte}
@@ -17,13 +17,12 @@ all_of p = take (p.degree + 1) p.terms
 abbrev pub IsMonic : Polynomial → Type 0
 IsMonic p = slice_index p.terms p.degree ≡ 1
 
--- The sum of products of the coefficients of `p` and the items of `window`: the coefficient of x^k is multiplied by
--- item k, counted from 0. If the sum is 0, `p` solves the equation of `window`.
+-- The sum of products of the coefficients of `p` and the syndromes `s`: the coefficient of x^k is multiplied by item k,
+-- counted from 0. If the sum is 0, `p` solves the equation for which `s` stands.
 abbrev pub discrepancy_of : Polynomial → List ℕ → ℕ
-discrepancy_of p window = dot_of (all_of p) window
+discrepancy_of p s = dot_of (all_of p) s
 
--- `p` has the leading coefficient 1, and solves each equation for which the first `i` of the syndromes `s` are enough:
--- for equation j, the products of the coefficients and the syndromes from index j on add up to 0.
+-- `p` has the leading coefficient 1, and solves each equation for which the first `i` of the syndromes `s` are enough.
 pub record IsBest (i : ℕ) (s : List ℕ) (p : Polynomial) : Type 0 where
   pub bytes : All IsByte (all_of p)
   pub count : length (all_of p) ≡ p.degree + 1
@@ -38,7 +37,7 @@ pub record IsSearch (i : ℕ) (s : List ℕ) (search : Search) : Type 0 where
   pub best : IsBest i s search.best
   pub bytes : All IsByte (all_of search.earlier)
   pub some : 1 ≤ search.discrepancy
-  pub room : search.best.degree + search.earlier.degree ≤ i
+  pub degrees : search.best.degree + search.earlier.degree ≤ i
   pub before : (j : ℕ) → j + 1 < search.best.degree → discrepancy_of search.earlier (drop j s) ≡ 0
   pub last : (j : ℕ) → j + 1 ≡ search.best.degree → discrepancy_of search.earlier (drop j s) ≡ search.discrepancy
 

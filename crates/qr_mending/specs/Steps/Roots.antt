@@ -10,8 +10,8 @@ abbrev pub times_root : ℕ → ℕ → List ℕ → List ℕ
 times_root root carry [] = carry ∷ []
 times_root root carry (a ∷ p) = bit_xor carry (product root a) ∷ times_root root a p
 
--- The product of the polynomial `p` and one factor for each erased codeword of a block: x + 2^location, where this is
--- the location of the codeword. `erased` says for each codeword of the block, in order, whether it is erased.
+-- The product of the polynomial `p` and a factor x + 2^m for each erased codeword of a block, where m is the location
+-- of this codeword. `erased` says for each codeword of the block, in order, whether it is erased.
 abbrev pub rooted : List Bool → List ℕ → List ℕ
 rooted [] p = p
 rooted (true ∷ erased) p = times_root (power (length erased)) 0 (rooted erased p)

@@ -1,5 +1,6 @@
--- A UTF8 text with one byte for each of its characters, and how such a text is recognized. Its block characters are the
--- half blocks and the full block, which have three bytes each. The first two of them are E2 and 96 (hexadecimal).
+-- How a text is recognized as a drawing of type UTF8, and how it is turned into a list with one byte for each of its
+-- characters. Its block characters are the half blocks and the full block. They have three bytes each, of which the
+-- first two are E2 and 96 (hexadecimal).
 use Rattle.std.specs.Prelude.{ℕ, ◌==◌, not, ◌||◌, nat_lt, Bool, List, length, take}
 use Rattle.std.specs.List.{filter, position_or_len}
 

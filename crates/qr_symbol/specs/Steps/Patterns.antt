@@ -30,8 +30,8 @@ pub record IsOver (s : ℕ) (test paint other : ℕ → ℕ → Bool) (g : Grid)
 
 -- The place in row `r` and column `c` is in the square of eight by eight modules whose top left module is in row `top`
 -- and column `left`. Such a square has a finder pattern and its separator.
-abbrev pub is_in_block : ℕ → ℕ → ℕ → ℕ → Bool
-is_in_block top left r c = nat_le top r && nat_lt r (top + 8) && nat_le left c && nat_lt c (left + 8)
+abbrev pub is_in_finder_area : ℕ → ℕ → ℕ → ℕ → Bool
+is_in_finder_area top left r c = nat_le top r && nat_lt r (top + 8) && nat_le left c && nat_lt c (left + 8)
 
 -- The format information in which only bit 7 is 1. With it, transposing a symbol changes nothing outside the region:
 -- the dark module and a module of bit 7, which is dark too, are exchanged.
@@ -44,7 +44,7 @@ abbrev pub is_dark_in_six : ℕ → ℕ → Bool
 is_dark_in_six s at = nat_lt at 7 || nat_le (s - 7) at || at % 2 == 0
 
 -- The colour of a module with the given role after the format information, the number `format`, was drawn. `other` is
--- its colour before, which a module of any other role keeps.
+-- its colour before. Only a module that contains a bit of the format information changes its colour.
 unfoldable pub format_or : ℕ → Role → Bool → Bool
 format_or format (Fixed dark) other = other
 format_or format (FormatBit i) other = has_bit format i

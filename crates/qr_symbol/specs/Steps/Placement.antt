@@ -34,8 +34,8 @@ unfoldable pub walked_colour : ℕ → List ℕ → ℕ → (ℕ → ℕ → Boo
 walked_colour v cw mask other r c =
     if is_in_region v r c then inverted (inverts mask r c) (codeword_bit cw (index_of v (record { row = r; col = c }))) else other r c
 
--- The number of the next bit after a module, if `number` is that of the next bit before it. A module in the region
--- takes one bit, so the number rises by 1.
+-- The number of the bit that is due when a module has been passed, if `number` is that of the bit that was due before
+-- it. A module in the region takes one bit, so the number rises by 1.
 abbrev pub number_after : Bool → ℕ → ℕ
 number_after is_in number = if is_in then number + 1 else number
 
@@ -66,17 +66,17 @@ AreWhole v x k n = (j : ℕ) → k ≤ j → j < k + n
 abbrev pub IsRegion : ℕ → ℕ → Columns → Type 0
 IsRegion v right x = (row : ℕ) → row < side_of v → (has x.right row ≡ is_in_region v row right) × (has x.left row ≡ is_in_region v row (right - 1))
 
--- Drawing row `k` of the strip, counted from 0 in the order of filling, changes the colours of the row's two modules
--- from `right` and `left` to `right'` and `left'`. A module in the region gets its bit, and another module keeps its
--- colour. The first bit of the strip has the number `first`.
+-- If row `k` of the strip is drawn, the colours of its two modules change from `right` and `left` to `right'` and
+-- `left'`. Rows are counted from 0 in the order of filling. A module in the region gets its bit, and another module
+-- keeps its colour. The first bit of the strip has the number `first`.
 abbrev pub IsRowDrawn : ℕ → List ℕ → Strip → ℕ → ℕ → (right left right' left' : Bool) → Type 0
 IsRowDrawn v cw x first k right left right' left' =
     (right' ≡ (if is_in_region v (row_of (side_of v) x k) x.right then codeword_bit cw (number_at v x first k) else right))
     × (left' ≡ (if is_in_region v (row_of (side_of v) x k) (x.right - 1) then codeword_bit cw (number_after (is_in_region v (row_of (side_of v) x k) x.right) (number_at v x first k)) else left))
 
--- Drawing the `n` rows that follow the first `k` rows of the strip, in the order of filling, changes the strip's two
--- columns from `before` to `after`. All other rows keep their colours. The first bit of the strip has the number
--- `first`.
+-- If the `n` rows after the first `k` rows of the strip are drawn, the strip's two columns change from `before` to
+-- `after`. Rows are counted in the order of filling. All other rows keep their colours. The first bit of the strip has
+-- the number `first`.
 pub record AreDrawn (v : ℕ) (cw : List ℕ) (x : Strip) (first k n : ℕ) (before after : Columns) : Type 0 where
   pub drawn : (j : ℕ) → k ≤ j → j < k + n
       → IsRowDrawn v cw x first j (has before.right (row_of (side_of v) x j)) (has before.left (row_of (side_of v) x j)) (has after.right (row_of (side_of v) x j)) (has after.left (row_of (side_of v) x j))

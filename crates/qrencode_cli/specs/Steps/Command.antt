@@ -70,13 +70,14 @@ abbrev pub IsEarly : Fault → Type 0
 IsEarly Write = ⊥
 IsEarly _ = Unit {0}
 
--- The result is a drawing job, or a fault. The job has the drawing that the arguments ask for, if `given` are the bytes
--- that the reader returned. The fault can occur with these arguments and bytes, before any byte of a drawing is written
+-- The result is a drawing job, or a fault. The drawing of the job (`drawing_of_job`) is the one that the arguments ask
+-- for, if `given` are the bytes that the reader returned. The fault can occur with these arguments and bytes, before
+-- any byte of a drawing is written
 abbrev pub IsJobGiven : List Text → List ℕ → Result DrawingJob Fault → Type 0
 IsJobGiven words given result =
     MatchResult result (λ p. HasDrawing words given (drawing_of_job p)) (λ f. IsFault words given f × IsEarly f)
 
--- The step reads the input, unless it is among the arguments, and makes the drawing job. The result is this job, or a
+-- The input is read, unless it is among the arguments, and the drawing job is made. The result is this job, or a
 -- fault that can occur before any byte of the drawing is written
 pub record Prepares (words : List Text) (old new : Reader) (result : Result DrawingJob Fault) : Type 0 where
   pub given : List ℕ

@@ -7,12 +7,12 @@ use Rattle.qrencode_cli.specs.declared.fault.Fault.TheVariants as fault
 use Rattle.qrencode_cli.specs.declared.settings.UsageFault.{UsageFault}
 use Rattle.qrencode_cli.specs.declared.settings.UsageFault.TheVariants as usage
 
--- The fault of a run that finds this fault in its arguments
+-- The `Fault` of a run that finds the given `UsageFault` in its arguments
 abbrev pub fault_of_words : UsageFault → Fault
 fault_of_words usage.Memory = fault.Memory
 fault_of_words f = fault.Usage f
 
--- The fault of a run whose input is not encoded because of this fault
+-- The `Fault` of a run whose input is not encoded because of the given `EncodeFault`
 abbrev pub fault_of_input : EncodeFault → Fault
 fault_of_input encode.Memory = fault.Memory
 fault_of_input f = fault.Encode f

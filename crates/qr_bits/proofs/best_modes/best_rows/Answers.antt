@@ -1,7 +1,7 @@
-use Rattle.std.proofs.Common.{◌≡◌, ℕ, ◌+◌, ◌-◌, ◌<◌, ◌≤◌, suc, [], ◌∷◌, length, get_or, take, drop, refl, arith}
+use Rattle.std.proofs.Common.{◌≡◌, ℕ, ◌+◌, ◌-◌, ◌<◌, ◌≤◌, suc, [], ◌∷◌, length, get_or, take, drop, refl, arith, rules}
 use Rattle.std.proofs.Math.{Seq.drop-length, Seq.drop-cons, Nat.le_refl}
 use Rattle.std.proofs.lemmas.List.{reverse-append, take_all, length-drop}
-use Rattle.qr_bits.specs.{Modes.is_kanji_pair, Steps.RunState.begins_with_pair, Steps.BestModes.IsRow, Steps.BestModes.bits_at}
+use Rattle.qr_bits.specs.{Modes.is_kanji_pair, Steps.RunState.begins_with_pair, Steps.BestModes.IsRow}
 use Rattle.qr_bits.specs.{Steps.RunState.is_gs1, declared.interpretation.Interpretation.Interpretation}
 use Rattle.qr_bits.proofs.lemmas.best_modes.TableLemmas.{some-interpretation, best-none, best-more, small-more, small-row, zeros, zeros-small}
 use Rattle.qr_bits.proofs.best_modes.best_rows.Goals as goal
@@ -9,7 +9,7 @@ use Rattle.qr_bits.proofs.best_modes.best_rows.Goals as goal
 -- n rows are in the table, and k bytes have none yet
 rows : (n k l : ℕ) → n + k ≡ l
     → (0 < k → (suc (k - 1) ≡ k) × (k - 1 < l) × (n + 1 + (k - 1) ≡ l)) × (k ≤ 0 → (k ≡ 0) × (n ≡ l)) × (l ≤ 113425 → n ≤ 113425)
-rows n k l e = (λ h. (omega arith, omega arith, omega arith), λ h. (omega arith, omega arith), λ h. omega arith)
+rows n k l e = search rules
 
 none : (n l : ℕ) → n ≡ 0 → n + l ≡ l
 none n l e = omega arith
@@ -19,7 +19,7 @@ loop-i-init c = record {
   len = none _ _ c.in_ok-table.ensures.len;
   small = zeros-small _;
   best = λ n g. rw (drop-length c.args.input.now, c.in_ok-table.ensures.items) (best-none n c.args.version c.args.rule is_kanji_pair _ zeros);
-  flags = λ g. rw (drop-length c.args.input.now, c.in_ok-table.ensures.items) refl;
+  flags = search (rules, drop-length);
 }
 
 pub row_of-modes-requires : goal.row_of-modes-requires
@@ -39,12 +39,10 @@ loop-i-preserved c =
       len = rw c.in_ok-push.ensures.len at.2;
       small = λ p. rw c.in_ok-push.ensures.len (small-more some.0 c.args.version c.args.rule _ _ _ c.loop-i.rest _ _ c.loop-i.invariant.small (chosen some.0 some.1) p);
       best = λ n g. rw (d, c.in_ok-push.ensures.items, reverse-append c.loop-i.table.items (c.row_of-modes.result.0 ∷ [])) (best-more n c.args.version c.args.rule is_kanji_pair _ _ _ _ _ _ (c.loop-i.invariant.best n g) (chosen n g));
-      flags = λ g.
-          let flag = rw g at c.row_of-modes.ensures.flag in
-          rw (d, c.in_ok-push.ensures.items, reverse-append c.loop-i.table.items (c.row_of-modes.result.0 ∷ []), flag, c.loop-i.invariant.flags g) refl;
+      flags = search (arith, reverse-append);
     }
 
 pub returns : goal.returns
 returns c =
     let all = (rows _ _ _ c.loop-i.invariant.len).1 c.loop-i-test.false in
-    (all.1, λ n g p ks h. (bits_at c.loop-i.rest p, (rw all.0 at (c.loop-i.invariant.best n g)) p ks h), λ g. rw all.0 at (c.loop-i.invariant.flags g))
+    search arith

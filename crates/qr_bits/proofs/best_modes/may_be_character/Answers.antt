@@ -1,29 +1,28 @@
-use Rattle.std.proofs.Common.{◌≡◌, ℕ, Bool, true, false, ◌&&◌, ◌==◌, refl, sym, ◌∙◌, arith}
+use Rattle.std.proofs.Common.{◌≡◌, ℕ, Bool, true, false, ◌&&◌, ◌==◌, refl, sym, ◌∙◌, arith, rules}
 use Rattle.std.proofs.lemmas.Bool.{eqb-true}
 use Rattle.qr_bits.specs.declared.{interpretation.Interpretation.Interpretation, modes.Mode.TheVariants.Alphanumeric, modes.Rule.Rule}
 use Rattle.qr_bits.specs.Interpretation.{character_for, percent, separator}
 use Rattle.qr_bits.specs.Modes.{characters, is_alphanumeric, may_use}
 use Rattle.qr_bits.specs.Steps.RunState.{is_gs1, may_begin}
 use Rattle.qr_bits.proofs.best_modes.may_be_character.Goals as goal
-use Rattle.qr_bits.proofs.best_modes.may_be_character.Goals.{then-gs1, else-gs1}
 
-percent_is : is_alphanumeric percent ≡ true
+percent-is : is_alphanumeric percent ≡ true
 unfolding is_alphanumeric characters
-percent_is = refl
+percent-is = refl
 
-separator_not : is_alphanumeric separator ≡ false
+separator-not : is_alphanumeric separator ≡ false
 unfolding is_alphanumeric characters
-separator_not = refl
+separator-not = refl
 
 -- the character for a byte is the byte itself, or `%` for the separator
 character : (i : Interpretation) (r : Rule) (x : ℕ) (pair : Bool) → may_begin r x pair Alphanumeric ≡ false
     → (is_gs1 i && x == separator && may_use r Alphanumeric) ≡ may_begin r (character_for i x Alphanumeric) pair Alphanumeric
 unfolding may_begin
-character i r x pair h = let p = percent_is in grind (arith, eqb-true)
+character i r x pair h = let p = percent-is in grind (arith, eqb-true)
 
 own : (i : Interpretation) (r : Rule) (x : ℕ) (pair : Bool) → may_begin r x pair Alphanumeric ≡ true → may_begin r (character_for i x Alphanumeric) pair Alphanumeric ≡ true
 unfolding may_begin
-own i r x pair h = let s = separator_not in grind (arith, eqb-true)
+own i r x pair h = let s = separator-not in grind (arith, eqb-true)
 
 pub returns-then-may_begin : goal.returns-then-may_begin
 returns-then-may_begin c = λ i pair g. sym (own i c.args.rule c.args.byte pair (sym (c.may_begin.ensures pair) ∙ c.if-may_begin.true))
@@ -34,5 +33,4 @@ returns-then-byte-eq-SEPARATOR c = λ i pair g.
     let x = c.args.byte in
     let none : may_begin r x pair Alphanumeric ≡ false = sym (c.may_begin.ensures pair) ∙ c.if-may_begin.false in
     let is = character i r x pair none in
-    let used = c.may_use.ensures in
-    elim c.if-gs1.branch [ then-gs1 w ↦ grind arith | else-gs1 w ↦ grind arith ]
+    search rules

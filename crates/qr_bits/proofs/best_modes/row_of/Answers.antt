@@ -1,10 +1,9 @@
-use Rattle.std.proofs.Common.{◌≡◌, true, false, ◌&&◌, refl, sym, ◌∙◌}
+use Rattle.std.proofs.Common.{◌≡◌, true, false, ◌&&◌, sym, ◌∙◌, rules}
 use Rattle.std.proofs.Math.Bool.{and-false}
 use Rattle.std.proofs.lemmas.Bool.{false≢true}
 use Rattle.qr_bits.specs.{declared.modes.Mode.TheVariants.Alphanumeric, Interpretation.character_for, Steps.RunState.may_begin, Steps.Segmentation.is_escaped}
 use Rattle.qr_bits.proofs.lemmas.best_modes.{ChoiceLemmas.{digit-itself, digit-written, own-character}, TableLemmas.{no-flag}}
 use Rattle.qr_bits.proofs.best_modes.row_of.Goals as goal
-use Rattle.qr_bits.proofs.best_modes.row_of.Goals.{else-digit-via-then-digit+else-not-pair, else-digit-via-else-digit, then-gs1, else-gs1}
 
 pub returns-then-not-pair-clause-row : goal.returns-then-not-pair-clause-row
 returns-then-not-pair-clause-row c = λ i g.
@@ -17,7 +16,7 @@ returns-then-not-pair-clause-row c = λ i g.
 pub returns-then-not-pair-clause-flag : goal.returns-then-not-pair-clause-flag
 returns-then-not-pair-clause-flag c =
     let digit = sym (c.may_begin-digit.ensures false) ∙ c.if-digit.true in
-    rw (no-flag _ c.choices.ensures.low, digit-itself c.args.rule c.args.byte false digit) (sym (and-false c.args.gs1))
+    search (rules, no-flag, digit-itself, and-false)
 
 pub returns-then-pair-clause-row : goal.returns-then-pair-clause-row
 returns-then-pair-clause-row c = λ i g p.
@@ -31,30 +30,18 @@ pub returns-then-may_begin-clause-row : goal.returns-then-may_begin-clause-row
 returns-then-may_begin-clause-row c = λ i g.
     let r = c.args.rule in
     let x = c.args.byte in
-    let none : c.may_begin-digit.result ≡ false = elim c.else-digit.branch [
-      | else-digit-via-then-digit+else-not-pair w ↦ absurd (false≢true (sym c.if-pair.false ∙ w.if-not-pair.false))
-      | else-digit-via-else-digit w ↦ w.if-digit.false
-    ] in
-    let escaped : (c.args.gs1 && is_escaped Alphanumeric x) ≡ false = elim c.if-gs1.branch [
-      | then-gs1 w ↦ rw (w.if-gs1.true, ← w.is_itself.ensures) (sym w.escaped-is ∙ c.if-escaped.false)
-      | else-gs1 w ↦ rw w.if-gs1.false refl
-    ] in
+    let none : c.may_begin-digit.result ≡ false = search (rules, false≢true) in
+    let escaped : (c.args.gs1 && is_escaped Alphanumeric x) ≡ false = search rules in
     let own = own-character i x (rw g at escaped) in
-    let may : true ≡ may_begin r (character_for i x Alphanumeric) false Alphanumeric = rw own.1 (sym c.if-may_begin.true ∙ c.may_begin.ensures false) in
+    let may : true ≡ may_begin r (character_for i x Alphanumeric) false Alphanumeric = search rules in
     rw c.if-pair.false (c.choices-then-may_begin.ensures.row i r x (sym none ∙ c.may_begin-digit.ensures false) (c.character_choices-characters-then-may_begin.ensures i r x false may (sym own.0)))
 
 pub returns-else-may_begin-clause-row : goal.returns-else-may_begin-clause-row
 returns-else-may_begin-clause-row c = λ i g.
     let r = c.args.rule in
     let x = c.args.byte in
-    let none : c.may_begin-digit.result ≡ false = elim c.else-digit.branch [
-      | else-digit-via-then-digit+else-not-pair w ↦ absurd (false≢true (sym c.if-pair.false ∙ w.if-not-pair.false))
-      | else-digit-via-else-digit w ↦ w.if-digit.false
-    ] in
-    let escaped : (c.args.gs1 && is_escaped Alphanumeric x) ≡ false = elim c.if-gs1.branch [
-      | then-gs1 w ↦ rw (w.if-gs1.true, ← w.is_itself.ensures) (sym w.escaped-is ∙ c.if-escaped.false)
-      | else-gs1 w ↦ rw w.if-gs1.false refl
-    ] in
+    let none : c.may_begin-digit.result ≡ false = search (rules, false≢true) in
+    let escaped : (c.args.gs1 && is_escaped Alphanumeric x) ≡ false = search rules in
     let own = own-character i x (rw g at escaped) in
-    let may : false ≡ may_begin r (character_for i x Alphanumeric) false Alphanumeric = rw own.1 (sym c.if-may_begin.false ∙ c.may_begin.ensures false) in
+    let may : false ≡ may_begin r (character_for i x Alphanumeric) false Alphanumeric = search rules in
     rw c.if-pair.false (c.choices-else-may_begin.ensures.row i r x (sym none ∙ c.may_begin-digit.ensures false) (c.character_choices-characters-else-may_begin.ensures i r x false may (sym own.0)))

@@ -1,4 +1,4 @@
-use Rattle.std.proofs.Common.{◌≡◌, ◌+◌, ◌*◌, ◌<◌, ◌^◌, arith, append_assoc, get_or}
+use Rattle.std.proofs.Common.{◌≡◌, ◌+◌, ◌*◌, ◌<◌, ◌^◌, arith, append_assoc, get_or, rules}
 use Rattle.std.proofs.{Math.Nat.mod-lt, Math.Nat.div-lt_iff_lt-mul, lemmas.Nat.pow_pos, lemmas.List.take_all}
 use Rattle.qr_bits.proofs.lemmas.bits.BitLemmas.{bits_of-take, byte-behind, power-fits}
 use Rattle.qr_bits.proofs.bits.push_bytes.Goals as goal
@@ -7,7 +7,7 @@ pub overflow_cast-bits : goal.overflow_cast-bits
 overflow_cast-bits c =
     let n = 256 * c.from.result + c.from-in-loop-byte.result in
     let small : n < 256 * 2 ^ c.args.width = omega arith in
-    omega (arith, (div-lt_iff_lt-mul {k = 2 ^ c.args.width} {x = n} {y = 256} (pow_pos c.args.width)).1 small)
+    search (arith, div-lt_iff_lt-mul, pow_pos)
 
 pub loop-byte-preserved : goal.loop-byte-preserved
 loop-byte-preserved c =
@@ -24,4 +24,4 @@ loop-byte-preserved c =
     })
 
 pub returns-clause-bits : goal.returns-clause-bits
-returns-clause-bits c = rw (take_all c.loop-byte.byte-index c.args.bytes.now c.loop-byte-test.false) at c.loop-byte.invariant.bits
+returns-clause-bits c = search (rules, take_all)

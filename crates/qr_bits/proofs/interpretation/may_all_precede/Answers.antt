@@ -1,4 +1,4 @@
-use Rattle.std.proofs.Common.{◌≡◌, ℕ, ◌+◌, ◌<◌, true, List, [], ◌∷◌, length, drop, get_or, sym, refl, ap, ◌∙◌, arith}
+use Rattle.std.proofs.Common.{◌≡◌, ℕ, ◌+◌, ◌<◌, true, List, [], ◌∷◌, length, drop, get_or, refl, ap, ◌∙◌, arith, rules}
 use Rattle.std.proofs.Math.Bool.{and-true, and_assoc}
 use Rattle.std.proofs.lemmas.List.{drop_more, get_or-drop, length-drop}
 use Rattle.qr_bits.specs.Interpretation.{are_fields}
@@ -16,15 +16,11 @@ loop-i-preserved c =
     let l = c.loop-i in
     let xs = c.args.firsts.now in
     let i = l.i in
-    let inside : i + 1 < length xs = omega (arith, c.loop-i-test.true, ap length c.requires, length-drop 1 xs) in
-    let first : drop i xs ≡ get_or xs i 0 ∷ drop (i + 1) xs = drop_more xs i 0 (omega (arith, inside)) in
+    let inside : i + 1 < length xs = search (rules, length-drop) in
+    let first : drop i xs ≡ get_or xs i 0 ∷ drop (i + 1) xs = drop_more xs i 0 (omega arith) in
     let second : drop (i + 1) xs ≡ get_or xs (i + 1) 0 ∷ drop (i + 1 + 1) xs = drop_more xs (i + 1) 0 inside in
     let here : get_or c.args.seconds.now i 0 ≡ get_or xs (i + 1) 0 = rw c.requires (get_or-drop 1 xs i 0 ∙ ap (λ (k : ℕ). get_or xs k 0) (omega arith)) in
-    rw (second, c.may_precede-fields.ensures, here) (and_assoc l.fields _ _ ∙ (rw (first, second) at l.invariant))
+    search (rules, and_assoc)
 
 pub returns : goal.returns
-returns c =
-    let l = c.loop-i in
-    let xs = c.args.firsts.now in
-    let left : length (drop l.i xs) < 2 = omega (arith, c.loop-i-test.false, ap length c.requires, length-drop 1 xs, length-drop l.i xs) in
-    sym (and-true l.fields) ∙ (rw (short-fields (drop l.i xs) left) at l.invariant)
+returns c = search (rules, length-drop, and-true, short-fields)

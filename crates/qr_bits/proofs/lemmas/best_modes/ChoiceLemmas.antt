@@ -1,6 +1,6 @@
 -- The best mode for a byte is the one whose number is the least.
 use Rattle.std.proofs.Common.{◌≡◌, ℕ, ◌+◌, ◌*◌, ◌/◌, ◌%◌, ◌<◌, ◌≤◌, Bool, true, false, ◌&&◌, min, refl, sym, ◌∙◌, ⊎_elim, arith}
-use Rattle.std.proofs.lemmas.Bool.{cases_Bool, cases_lt, cond_both, ne_eqb}
+use Rattle.std.proofs.lemmas.Bool.{cases_lt, cond_both, ne_eqb}
 use Rattle.qr_bits.specs.declared.interpretation.Interpretation.{Interpretation, TheVariants.{Default, Gs1, Eci}}
 use Rattle.qr_bits.specs.Interpretation.{character_for, is_doubled}
 use Rattle.qr_bits.proofs.lemmas.interpretation.WrittenLemmas.{doubled-rank, single-byte}
@@ -72,9 +72,7 @@ byte-in i p x = rw (single-byte i x).0 refl
 -- the characters of a byte add at most 33 bits
 pub cost_in-bound : (i : Interpretation) (v : ℕ) (p : RunState) (x : ℕ) (m : Mode) → cost_in i v p x m ≤ 33
 unfolding byte_cost state_after
-cost_in-bound i v p x m = cond_both (is_doubled i x m) _ _ (λ (n : ℕ). n ≤ 33)
-    (λ e. let one = doubled-rank i x m e in two-bound v p m one)
-    (λ _. byte_cost-bound v p m)
+cost_in-bound i v p x m = search (arith, cond_both, doubled-rank, two-bound, byte_cost-bound)
 
 -- after half a pair, kanji mode is the choice
 pub half-choice : (i : Interpretation) (v : ℕ) (r : Rule) (x : ℕ) (pair : Bool) (cost : RunState → ℕ) (c : ℕ) (m : Mode) → m ≡ ranked (c % 4)
@@ -93,10 +91,10 @@ least-choice i v r p x q cost c n chosen e small is =
     let under : (k : Mode) → may_take_in i r p x q k ≡ true → c ≤ 4 * t k + rank k = λ k ok. rw is (least-under may t k (sym (take k) ∙ ok)) in
     let most : c ≤ 4 * t Byte + rank Byte = under Byte (take Byte ∙ byte-used r) in
     let later : cost (state_in i p x Byte) < 10000000 = rw (byte-in i p x) small in
-    let few : c < 4294967295 = omega (arith, most, cost_in-bound i v p x Byte, later) in
+    let few : c < 4294967295 = omega (arith, cost_in-bound i v p x Byte) in
     let taken : IsTaken may t c = rw is (taken-least may t (rw is at few)) in
     let m = taken.0 in
-    let bits : c / 4 ≡ t m = omega (arith, taken.2, rank-below m) in
+    let bits : c / 4 ≡ t m = omega (arith, rank-below m) in
     rw (chosen, ranked-number c (t m) m taken.2) (search (arith, rank-below))
 
 -- As `least-choice`. What is written for the byte makes a difference in alphanumeric mode alone.
@@ -105,9 +103,9 @@ pub row-choice : (i : Interpretation) (v : ℕ) (r : Rule) (p : RunState) (x : �
     (min (character_choice i v r x q rest p)
     (min (choice_number (may_begin r x q Byte) (byte_cost v p Byte + bits_at rest (state_after p Byte)) Byte) (choice_number (may_begin r x q Kanji) (byte_cost v p Kanji + bits_at rest (state_after p Kanji)) Kanji)))
     → IsChoice i v r p x q (bits_at rest) n (c / 4)
-row-choice Default v r p x q rest c n chosen e small is = least-choice Default v r p x q (bits_at rest) c n chosen e small is
-row-choice (Eci k) v r p x q rest c n chosen e small is = least-choice (Eci k) v r p x q (bits_at rest) c n chosen e small is
-row-choice Gs1 v r p x q rest c n chosen e small is = least-choice Gs1 v r p x q (bits_at rest) c n chosen e small is
+row-choice Default v r p x q rest c n chosen e small is = search (arith, least-choice)
+row-choice (Eci k) v r p x q rest c n chosen e small is = search (arith, least-choice)
+row-choice Gs1 v r p x q rest c n chosen e small is = search (arith, least-choice)
 
 -- without the bits of a segment's indicators the number is no larger
 pub number-less : (may : Bool) (m : Mode) (k w n : ℕ) → choice_number may (k + n) m ≤ choice_number may (4 + w + k + n) m
@@ -119,10 +117,7 @@ number-less-two may w n = grind arith
 -- after a whole pair alphanumeric mode takes no more bits than at the start
 pub character-less : (i : Interpretation) (v : ℕ) (r : Rule) (x : ℕ) (q : Bool) (rest : PerState) → character_choice i v r x q rest Character2 ≤ character_choice i v r x q rest Start
 unfolding byte_cost state_after
-character-less i v r x q rest = ⊎_elim
-    (λ (e : is_doubled i x Alphanumeric ≡ true). rw e (number-less-two _ _ _))
-    (λ (e : is_doubled i x Alphanumeric ≡ false). rw e (number-less _ Alphanumeric 6 _ _))
-    (cases_Bool (is_doubled i x Alphanumeric))
+character-less i v r x q rest = search (arith, number-less-two, number-less)
 
 no-escape : (r : Rule) (x : ℕ) (q : Bool) → may_begin r x q Numeric ≡ true → (is_doubled Gs1 x Alphanumeric ≡ false) × (character_for Gs1 x Alphanumeric ≡ x)
 unfolding may_begin
@@ -133,7 +128,7 @@ pub digit-written : (i : Interpretation) (r : Rule) (x : ℕ) (q : Bool) → may
     → (is_doubled i x Alphanumeric ≡ false) × (may_begin r (character_for i x Alphanumeric) q Alphanumeric ≡ true)
 digit-written Default r x q h = (refl, digit-character r x q h)
 digit-written (Eci k) r x q h = (refl, digit-character r x q h)
-digit-written Gs1 r x q h = let own = no-escape r x q h in (own.0, rw own.1 (digit-character r x q h))
+digit-written Gs1 r x q h = search (arith, no-escape, digit-character)
 
 -- each mode writes a digit as itself
 pub digit-itself : (r : Rule) (x : ℕ) (q : Bool) → may_begin r x q Numeric ≡ true → is_escaped Alphanumeric x ≡ false
@@ -156,5 +151,4 @@ on-after p m = grind arith
 
 -- as `on-after`, after the characters of a byte
 pub on-in : (i : Interpretation) (p : RunState) (x : ℕ) (m : Mode) → state_on (state_in i p x m) ≡ state_after (state_in i p x m) m
-on-in i p x m =
-    cond_both (is_doubled i x m) _ _ (λ (q : RunState). state_on q ≡ state_after q m) (λ _. on-after (state_after p m) m) (λ _. on-after p m)
+on-in i p x m = search (arith, cond_both, on-after)

@@ -1,15 +1,14 @@
 -- A table of best modes, filled from the last byte to the first.
-use Rattle.std.proofs.Common.{◌≡◌, ℕ, ◌+◌, ◌*◌, ◌/◌, ◌%◌, ◌^◌, ◌≤◌, Bool, true, List, [], ◌∷◌, ◌++◌, length, replicate, reverse, append_assoc, IsTrue, refl, ap, ◌<◌, false, arith, lit<}
+use Rattle.std.proofs.Common.{◌≡◌, ℕ, ◌+◌, ◌*◌, ◌%◌, ◌≤◌, Bool, true, List, [], ◌∷◌, ◌++◌, length, replicate, reverse, append_assoc, IsTrue, refl, ◌<◌, false, arith, lit<}
 use Rattle.std.proofs.lemmas.{Bool.false≢true, Bool.and_from, Bool.cond_both, List.reverse-append}
 use Rattle.qr_bits.specs.declared.{modes.Mode.Mode, modes.Rule.Rule, run_state.RunState.RunState}
 use Rattle.qr_bits.specs.declared.modes.Mode.TheVariants.{Byte, Kanji}
 use Rattle.qr_bits.specs.declared.interpretation.Interpretation.{Interpretation, TheVariants.{Default, Gs1}}
-use Rattle.qr_bits.specs.Interpretation.{is_doubled}
 use Rattle.qr_bits.specs.Segmentation.{rank}
 use Rattle.qr_bits.specs.declared.run_state.RunState.TheVariants.{Start, Digit1, Digit2, Digit3, Character1, Character2, InBytes, HalfPair, WholePair}
 use Rattle.qr_bits.specs.declared.run_state.PerState.{PerState}
 use Rattle.qr_bits.specs.Steps.RunState.{is_gs1, state_after, state_in, may_take_in, begins_with_pair, may_begin, may_take, may_end, allowed_in, cost_of, cost_of_all, ranked}
-use Rattle.qr_bits.specs.Steps.BestModes.{in_state, bits_at, is_flagged, shift_of, mode_at, follow, follow_in, IsRow, IsSmall}
+use Rattle.qr_bits.specs.Steps.BestModes.{in_state, bits_at, is_flagged, mode_at, follow, follow_in, IsRow, IsSmall}
 use Rattle.qr_bits.proofs.lemmas.run_state.{BestLemmas.BestBelow, BestLemmas.best-step}
 use Rattle.qr_bits.proofs.lemmas.interpretation.WrittenLemmas.{single-byte}
 use Rattle.qr_bits.proofs.lemmas.best_modes.ChoiceLemmas.{byte-used, byte-in, cost_in-bound, take-begin}
@@ -28,8 +27,7 @@ bytes-rest i r test p (x ∷ xs) e = rw (byte-in i p x) (search (arith, and_from
 
 -- no half pair is open after a byte that is not in kanji mode
 pub in-end : (i : Interpretation) (p : RunState) (x : ℕ) (m : Mode) → rank m < 3 → may_end (state_in i p x m) ≡ true
-in-end i p x m k =
-    cond_both (is_doubled i x m) _ _ (λ (q : RunState). may_end q ≡ true) (λ _. may_end-after (state_after p m) m k) (λ _. may_end-after p m k)
+in-end i p x m k = search (arith, cond_both, may_end-after)
 
 -- after a mode that the byte `x` may have, some modes of the later bytes are allowed
 rest-after : (i : Interpretation) (r : Rule) (t : ℕ → ℕ → Bool) (p : RunState) (x : ℕ) (xs : List ℕ) (m : Mode) → may_take_in i r p x (begins_with_pair r t (x ∷ xs)) m ≡ true
@@ -58,9 +56,7 @@ best-more i v r test x xs rows row rest numbers below choice p ks h =
 -- a byte adds at most 33 bits to the bits of a rest
 pub small-more : (i : Interpretation) (v : ℕ) (r : Rule) (x : ℕ) (pair : Bool) (row : ℕ) (rest numbers : PerState) (n : ℕ)
     → ((p : RunState) → bits_at rest p ≤ 33 * n) → IsRow i v r x pair rest row numbers → (p : RunState) → bits_at numbers p ≤ 33 * (n + 1)
-small-more i v r x pair row rest numbers n small choice p =
-    let c = choice p in
-    omega (arith, c.has_bits, cost_in-bound i v p x (mode_at row p), small (state_in i p x (mode_at row p)))
+small-more i v r x pair row rest numbers n small choice p = search (arith, cost_in-bound)
 
 -- numbers of at most 33 bits for each byte are small
 pub small-row : (rest : PerState) (n : ℕ) → n ≤ 113425 → ((p : RunState) → bits_at rest p ≤ 33 * n) → IsSmall rest
@@ -82,7 +78,7 @@ packed n = n.start % 4 + 4 * (n.digit1 % 4 + 4 * (n.digit2 % 4 + 4 * (n.digit3 %
 -- the mode for a state in a row
 pub packed_mode : (n : PerState) (p : RunState) → mode_at (packed n) p ≡ ranked (in_state n p % 4)
 unfolding mode_at in_state
-packed_mode n p = let e : packed n / 2 ^ shift_of p % 4 ≡ in_state n p % 4 = grind arith in cc
+packed_mode n p = search arith
 
 -- the bits of the states are below the flag
 pub no-flag : (row : ℕ) → row < 262144 → is_flagged row ≡ false
@@ -91,7 +87,7 @@ no-flag row h = grind arith
 -- a row with its flag has the same modes
 pub flagged_mode : (row : ℕ) (p : RunState) → mode_at (row + 262144) p ≡ mode_at row p
 unfolding mode_at
-flagged_mode row p = let e : (row + 262144) / 2 ^ shift_of p % 4 ≡ row / 2 ^ shift_of p % 4 = grind arith in cc
+flagged_mode row p = search arith
 
 -- without FNC1 the rows are followed as they stand
 pub follow-default : (p : RunState) (xs rows : List ℕ) → length rows ≡ length xs → follow_in Default p xs rows ≡ follow p rows
@@ -99,7 +95,7 @@ unfolding follow_in follow
 follow-default p [] [] h = refl
 follow-default p [] (row ∷ rows) h = absurd (omega arith)
 follow-default p (x ∷ xs) [] h = absurd (omega arith)
-follow-default p (x ∷ xs) (row ∷ rows) h = ap (λ (r : List Mode). mode_at row p ∷ r) (follow-default (state_after p (mode_at row p)) xs rows (omega arith))
+follow-default p (x ∷ xs) (row ∷ rows) h = cc (follow-default (state_after p (mode_at row p)) xs rows (omega arith))
 
 -- the modes found so far, the mode of one more row, and then the modes of the other rows
 pub led-on : (p : RunState) (items rows : List ℕ) (row : ℕ) (ms all : List Mode) (m : Mode) → items ≡ rows ++ row ∷ [] → m ≡ mode_at row p

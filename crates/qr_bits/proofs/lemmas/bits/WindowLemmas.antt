@@ -35,7 +35,7 @@ unfolding bits_of
 three-bytes x y z rest h k =
     let low : 256 * y + z ≡ y * 2 ^ 8 + z = omega arith in
     let all : 65536 * x + (256 * y + z) ≡ x * 2 ^ 16 + (256 * y + z) = omega arith in
-    cc (low, all, field-join 8 8 y z k, field-join 8 16 x (256 * y + z) (omega arith), append_assoc (field 8 x) (field 16 (256 * y + z)) (bits_of rest), append_assoc (field 8 y) (field 8 z) (bits_of rest))
+    cc (field-join 8 8 y z k, field-join 8 16 x (256 * y + z) (omega arith), append_assoc (field 8 x) (field 16 (256 * y + z)) (bits_of rest), append_assoc (field 8 y) (field 8 z) (bits_of rest))
 
 -- the `w` bits of a number that come before its last `c` bits are a remainder of a quotient
 window : (r w c n : ℕ) (rest : List Bool) → r + w + c ≡ 24 → value (take w (drop r (field 24 n ++ rest))) ≡ n / 2 ^ c % 2 ^ w
@@ -44,9 +44,7 @@ window r w c n rest e =
     let whole : r + (w + c) ≡ 24 = omega arith in
     let split : field 24 n ≡ field r (n / 2 ^ (w + c)) ++ (field w (m % 2 ^ w) ++ field c n) =
     cc (ap (λ k. field k n) whole, field-split r (w + c) n, field-split w c n, field-low w m) in
-    let at : drop r (field 24 n ++ rest) ≡ field w (m % 2 ^ w) ++ (field c n ++ rest) =
-    cc (split, append_assoc (field r (n / 2 ^ (w + c))) (field w (m % 2 ^ w) ++ field c n) rest, append_assoc (field w (m % 2 ^ w)) (field c n) rest, drop-field r (n / 2 ^ (w + c)) (field w (m % 2 ^ w) ++ (field c n ++ rest))) in
-    cc (at, read-field w (m % 2 ^ w) (field c n ++ rest) (mod-lt m (pow_pos w)))
+    search (arith, append_assoc, drop-field, read-field, mod-lt, pow_pos)
 
 -- the number of w bits from i on, of which c bits of three bytes are left
 pub value-window : (bs : List ℕ) (i w c n : ℕ) → i + w ≤ 8 * length bs → i % 8 + w + c ≡ 24
@@ -62,23 +60,21 @@ value-window bs i w c n inside e h k is =
     let same : (get_or xs 0 0 ≡ get_or bs q 0) × (get_or xs 1 0 ≡ get_or bs (q + 1) 0) × (get_or xs 2 0 ≡ get_or bs (q + 2) 0) =
     (rw none at (get_or-drop {A = ℕ} q bs 0 0), get_or-drop q bs 1 0, get_or-drop q bs 2 0) in
     let first : bits_of xs ++ bits_of zeros ≡ field 24 n ++ bits_of t.0 =
-    cc (bits_of-append xs zeros, t.1, three-bytes (get_or xs 0 0) (get_or xs 1 0) (get_or xs 2 0) t.0 (rw same.1 h) (rw same.2 k), same.0, same.1, same.2, is) in
+    cc (bits_of-append xs zeros, three-bytes (get_or xs 0 0) (get_or xs 1 0) (get_or xs 2 0) t.0 (rw same.1 h) (rw same.2 k)) in
     let len : length (bits_of xs) ≡ 8 * length bs - 8 * q = omega (arith, length-bits_of xs, length-drop q bs) in
     let split : 8 * q + r ≡ i = omega arith in
-    let whole : drop i (bits_of bs) ≡ drop r (bits_of xs) = cc (split, drop-drop r (8 * q) (bits_of bs), bits_of-drop q bs) in
+    let whole : drop i (bits_of bs) ≡ drop r (bits_of xs) = cc (drop-drop r (8 * q) (bits_of bs), bits_of-drop q bs) in
     let padded : drop r (bits_of xs ++ bits_of zeros) ≡ drop r (bits_of xs) ++ bits_of zeros = drop-append-le r (bits_of xs) (bits_of zeros) (omega arith) in
     let taken : take w (drop r (bits_of xs) ++ bits_of zeros) ≡ take w (drop r (bits_of xs)) = take-append-le w (drop r (bits_of xs)) (bits_of zeros) (omega (arith, length-drop r (bits_of xs))) in
-    cc (whole, padded, taken, first, window r w c n (bits_of t.0) e)
+    cc (window r w c n (bits_of t.0) e)
 
 -- eight bits lie in two bytes
 pub byte-window : (bs : List ℕ) (i c n : ℕ) → i + 8 ≤ 8 * length bs → i % 8 + c ≡ 8 → get_or bs (i / 8 + 1) 0 < 256 → get_or bs (i / 8 + 2) 0 < 256
     → n ≡ 256 * get_or bs (i / 8) 0 + get_or bs (i / 8 + 1) 0 → value (take 8 (drop i (bits_of bs))) ≡ n / 2 ^ c % 256
 byte-window bs i c n inside e h k is =
-    let last = get_or bs (i / 8 + 2) 0 in
-    let m = 256 * n + last in
-    let all : m ≡ 65536 * get_or bs (i / 8) 0 + (256 * get_or bs (i / 8 + 1) 0 + last) = omega arith in
+    let m = 256 * n + get_or bs (i / 8 + 2) 0 in
     let two : m / 2 ^ 8 ≡ n = omega arith in
-    cc (value-window bs i 8 (8 + c) m inside (omega arith) h k all, pow-add 2 8 c, div-div-eq-div-mul m (2 ^ 8) (2 ^ c), two)
+    search (arith, value-window bs i 8 (8 + c) m, pow-add, div-div-eq-div-mul)
 
 -- one more byte is read
 pub bytes_of-more : (n : ℕ) (bits : List Bool) → bytes_of (n + 1) bits ≡ bytes_of n bits ++ value (take 8 (drop (8 * n) bits)) ∷ []
@@ -87,4 +83,4 @@ bytes_of-more zero bits = refl
 bytes_of-more (suc n) bits =
     let one : suc n + 1 ≡ suc (n + 1) = omega arith in
     let more : 8 * suc n ≡ 8 + 8 * n = omega arith in
-    rw (one, more) (cc (bytes_of-more n (drop 8 bits), drop-drop (8 * n) 8 bits))
+    cc (bytes_of-more n (drop 8 bits), drop-drop (8 * n) 8 bits)

@@ -12,7 +12,7 @@ meant-without m xs = grind arith
 pub meant-plain : (segs : List Segment) (xs : List ℕ) → Suits xs segs → meant_bytes false (plain segs) xs ≡ xs
 unfolding meant_bytes Suits
 meant-plain [] xs h = sym h
-meant-plain (s ∷ ss) xs h = rw (meant-without s.mode (take s.len xs), meant-plain ss (drop s.len xs) h.2) (take-append-drop s.len xs)
+meant-plain (s ∷ ss) xs h = search (arith, meant-without, take-append-drop, meant-plain ss (drop s.len xs) h.2)
 
 pub ecis-plain : (segs : List Segment) (n : ℕ) (xs : List ℕ) → eci_changes false n (plain segs) xs ≡ []
 unfolding eci_changes

@@ -1,6 +1,6 @@
 -- The characters that are written for bytes, and their modes.
-use Rattle.std.proofs.Common.{◌≡◌, ℕ, zero, suc, ◌+◌, ◌*◌, ◌≤◌, List, [], ◌∷◌, length, take, drop, replicate, sum_by, true, false, cond, reverse, ◌++◌, ⊎_elim, refl, sym, arith}
-use Rattle.std.proofs.lemmas.{Bool.cond_both, Bool.and_parts, Bool.and_from, Bool.cases_Bool, List.{length-reverse, reverse-append}, List.Sums.sum_by-cons}
+use Rattle.std.proofs.Common.{◌≡◌, ℕ, zero, suc, ◌+◌, ◌*◌, ◌≤◌, List, [], ◌∷◌, length, take, drop, replicate, sum_by, true, false, cond, reverse, ◌++◌, refl, arith}
+use Rattle.std.proofs.lemmas.{Bool.cond_both, Bool.and_parts, Bool.and_from, List.{length-reverse, reverse-append}, List.Sums.sum_by-cons}
 use Rattle.qr_bits.specs.declared.modes.Mode.{Mode, TheVariants.{Numeric, Byte, Kanji}}
 use Rattle.qr_bits.specs.declared.interpretation.Interpretation.{Interpretation, TheVariants.{Default, Gs1, Eci}}
 use Rattle.qr_bits.specs.Interpretation.{is_doubled, character_for, doubled_gs1, characters_gs1, doubled, characters_in, are_fields, MayWrite}
@@ -56,24 +56,20 @@ pub doubled-append : (i : Interpretation) (xs ys : List ℕ) (ms ks : List Mode)
 doubled-append i [] ys [] ks h = rw (written-none i []).0 refl
 doubled-append i [] ys (m ∷ ms) ks h = absurd (omega arith)
 doubled-append i (x ∷ xs) ys [] ks h = absurd (omega arith)
-doubled-append i (x ∷ xs) ys (m ∷ ms) ks h = ⊎_elim
-    (λ (e : is_doubled i x m ≡ true). rw (doubled-step i x (xs ++ ys) m (ms ++ ks), doubled-step i x xs m ms, e, doubled-append i xs ys ms ks (omega arith)) refl)
-    (λ (e : is_doubled i x m ≡ false). rw (doubled-step i x (xs ++ ys) m (ms ++ ks), doubled-step i x xs m ms, e, doubled-append i xs ys ms ks (omega arith)) refl)
-    (cases_Bool (is_doubled i x m))
+doubled-append i (x ∷ xs) ys (m ∷ ms) ks h =
+    search (arith, doubled-step, cond_both, doubled-append i xs ys ms ks (omega arith))
 
 -- the characters of two lists of bytes are written one after the other
 pub characters-append : (i : Interpretation) (xs ys : List ℕ) (ms ks : List Mode) → length xs ≡ length ms → characters_in i (xs ++ ys) (ms ++ ks) ≡ characters_in i xs ms ++ characters_in i ys ks
 characters-append i [] ys [] ks h = rw (written-none i []).1 refl
 characters-append i [] ys (m ∷ ms) ks h = absurd (omega arith)
 characters-append i (x ∷ xs) ys [] ks h = absurd (omega arith)
-characters-append i (x ∷ xs) ys (m ∷ ms) ks h = ⊎_elim
-    (λ (e : is_doubled i x m ≡ true). rw (characters_in-step i x (xs ++ ys) m (ms ++ ks), characters_in-step i x xs m ms, e, characters-append i xs ys ms ks (omega arith)) refl)
-    (λ (e : is_doubled i x m ≡ false). rw (characters_in-step i x (xs ++ ys) m (ms ++ ks), characters_in-step i x xs m ms, e, characters-append i xs ys ms ks (omega arith)) refl)
-    (cases_Bool (is_doubled i x m))
+characters-append i (x ∷ xs) ys (m ∷ ms) ks h =
+    search (arith, characters_in-step, cond_both, characters-append i xs ys ms ks (omega arith))
 
 -- one character, or two
 pub doubled-one : (i : Interpretation) (x : ℕ) (m : Mode) → doubled i (x ∷ []) (m ∷ []) ≡ cond (is_doubled i x m) (m ∷ m ∷ []) (m ∷ [])
-doubled-one i x m = rw (doubled-step i x [] m [], (written-none i []).0) refl
+doubled-one i x m = search (arith, doubled-step, written-none)
 
 pub characters-one : (i : Interpretation) (x : ℕ) (m : Mode) → characters_in i (x ∷ []) (m ∷ []) ≡ cond (is_doubled i x m) (character_for i x m ∷ character_for i x m ∷ []) (character_for i x m ∷ [])
 characters-one i x m = rw (characters_in-step i x [] m [], (written-none i []).1) refl
@@ -86,10 +82,8 @@ doubled-reverse i (x ∷ xs) [] h = absurd (omega arith)
 doubled-reverse i (x ∷ xs) (m ∷ ms) h =
     let rest = doubled-reverse i xs ms (omega arith) in
     let len : length (reverse xs) ≡ length (reverse ms) = rw (length-reverse xs, length-reverse ms) (omega arith) in
-    ⊎_elim
-    (λ (e : is_doubled i x m ≡ true). rw (reverse-append (x ∷ []) xs, reverse-append (m ∷ []) ms, doubled-append i (reverse xs) (x ∷ []) (reverse ms) (m ∷ []) len, doubled-one i x m, doubled-step i x xs m ms, e, rest) (sym (reverse-append (m ∷ m ∷ []) (doubled i xs ms))))
-    (λ (e : is_doubled i x m ≡ false). rw (reverse-append (x ∷ []) xs, reverse-append (m ∷ []) ms, doubled-append i (reverse xs) (x ∷ []) (reverse ms) (m ∷ []) len, doubled-one i x m, doubled-step i x xs m ms, e, rest) (sym (reverse-append (m ∷ []) (doubled i xs ms))))
-    (cases_Bool (is_doubled i x m))
+    rw (reverse-append (x ∷ []) xs, reverse-append (m ∷ []) ms, doubled-append i (reverse xs) (x ∷ []) (reverse ms) (m ∷ []) len)
+    (search (arith, doubled-one, doubled-step, cond_both, reverse-append (m ∷ m ∷ []) (doubled i xs ms), reverse-append (m ∷ []) (doubled i xs ms)))
 
 -- the characters of bytes in reverse order are their characters in reverse order
 pub characters-reverse : (i : Interpretation) (xs : List ℕ) (ms : List Mode) → length xs ≡ length ms → characters_in i (reverse xs) (reverse ms) ≡ reverse (characters_in i xs ms)
@@ -98,37 +92,28 @@ characters-reverse i [] (m ∷ ms) h = absurd (omega arith)
 characters-reverse i (x ∷ xs) [] h = absurd (omega arith)
 characters-reverse i (x ∷ xs) (m ∷ ms) h =
     let rest = characters-reverse i xs ms (omega arith) in
-    let c = character_for i x m in
     let len : length (reverse xs) ≡ length (reverse ms) = rw (length-reverse xs, length-reverse ms) (omega arith) in
-    ⊎_elim
-    (λ (e : is_doubled i x m ≡ true). rw (reverse-append (x ∷ []) xs, reverse-append (m ∷ []) ms, characters-append i (reverse xs) (x ∷ []) (reverse ms) (m ∷ []) len, characters-one i x m, characters_in-step i x xs m ms, e, rest) (sym (reverse-append (c ∷ c ∷ []) (characters_in i xs ms))))
-    (λ (e : is_doubled i x m ≡ false). rw (reverse-append (x ∷ []) xs, reverse-append (m ∷ []) ms, characters-append i (reverse xs) (x ∷ []) (reverse ms) (m ∷ []) len, characters-one i x m, characters_in-step i x xs m ms, e, rest) (sym (reverse-append (c ∷ []) (characters_in i xs ms))))
-    (cases_Bool (is_doubled i x m))
+    rw (reverse-append (x ∷ []) xs, reverse-append (m ∷ []) ms, characters-append i (reverse xs) (x ∷ []) (reverse ms) (m ∷ []) len)
+    (search (arith, characters-one, characters_in-step, cond_both, reverse-append (character_for i x m ∷ character_for i x m ∷ []) (characters_in i xs ms), reverse-append (character_for i x m ∷ []) (characters_in i xs ms)))
 
 -- there are as many characters more than bytes as modes of characters more than modes of bytes
 pub length-written : (i : Interpretation) (xs : List ℕ) (ms : List Mode) → length (characters_in i xs ms) + length ms ≡ length (doubled i xs ms) + length xs
-length-written i [] ms = rw ((written-none i ms).0, (written-none i ms).1) (omega arith)
-length-written i (x ∷ xs) [] = rw ((unwritten i x xs).0, (unwritten i x xs).1) (omega arith)
-length-written i (x ∷ xs) (m ∷ ms) = ⊎_elim
-    (λ (e : is_doubled i x m ≡ true). rw (doubled-step i x xs m ms, characters_in-step i x xs m ms, e) (omega (arith, length-written i xs ms)))
-    (λ (e : is_doubled i x m ≡ false). rw (doubled-step i x xs m ms, characters_in-step i x xs m ms, e) (omega (arith, length-written i xs ms)))
-    (cases_Bool (is_doubled i x m))
+length-written i [] ms = search (arith, written-none)
+length-written i (x ∷ xs) [] = search (arith, unwritten)
+length-written i (x ∷ xs) (m ∷ ms) =
+    search (arith, doubled-step, characters_in-step, cond_both, length-written i xs ms)
 
 -- no byte is left out
 pub characters-longer : (i : Interpretation) (xs : List ℕ) (ms : List Mode) → length xs ≤ length (characters_in i xs ms)
 characters-longer i [] ms = omega arith
 characters-longer i (x ∷ xs) [] = rw (unwritten i x xs).1 (omega arith)
-characters-longer i (x ∷ xs) (m ∷ ms) =
-    rw (characters_in-step i x xs m ms)
-    (cond_both (is_doubled i x m) _ _ (λ (r : List ℕ). length (x ∷ xs) ≤ length r) (λ _. omega (arith, characters-longer i xs ms)) (λ _. omega (arith, characters-longer i xs ms)))
+characters-longer i (x ∷ xs) (m ∷ ms) = search (arith, characters_in-step, cond_both, characters-longer i xs ms)
 
 -- each byte is at most two characters
 pub characters-most : (i : Interpretation) (xs : List ℕ) (ms : List Mode) → length (characters_in i xs ms) ≤ 2 * length xs
 characters-most i [] ms = rw (written-none i ms).1 (omega arith)
 characters-most i (x ∷ xs) [] = rw (unwritten i x xs).1 (omega arith)
-characters-most i (x ∷ xs) (m ∷ ms) =
-    rw (characters_in-step i x xs m ms)
-    (cond_both (is_doubled i x m) _ _ (λ (r : List ℕ). length r ≤ 2 * length (x ∷ xs)) (λ _. omega (arith, characters-most i xs ms)) (λ _. omega (arith, characters-most i xs ms)))
+characters-most i (x ∷ xs) (m ∷ ms) = search (arith, characters_in-step, cond_both, characters-most i xs ms)
 
 -- the least segmentation has at most twice as many characters as the input has bytes
 pub least-most : (i : Interpretation) (v : ℕ) (r : Rule) (xs ys : List ℕ) (segs : List Segment) → IsLeastSegmentation i v r xs ys segs → length ys ≤ 2 * length xs
@@ -153,12 +138,12 @@ IsItself i m = (x : ℕ) → (is_doubled i x m ≡ false) × (character_for i x 
 same-characters : (i : Interpretation) (m : Mode) (xs : List ℕ) (n : ℕ) → IsItself i m → characters_in i xs (replicate n m) ≡ xs
 same-characters i m [] n h = (written-none i (replicate n m)).1
 same-characters i m (x ∷ xs) zero h = (unwritten i x xs).1
-same-characters i m (x ∷ xs) (suc n) h = rw (characters_in-step i x xs m (replicate n m), (h x).0, (h x).1, same-characters i m xs n h) refl
+same-characters i m (x ∷ xs) (suc n) h = search (arith, characters_in-step, same-characters i m xs n h)
 
 same-modes : (i : Interpretation) (m : Mode) (xs : List ℕ) (n : ℕ) → IsItself i m → doubled i xs (replicate n m) ≡ replicate n m
 same-modes i m [] n h = (written-none i (replicate n m)).0
 same-modes i m (x ∷ xs) zero h = (unwritten i x xs).0
-same-modes i m (x ∷ xs) (suc n) h = rw (doubled-step i x xs m (replicate n m), (h x).0, same-modes i m xs n h) refl
+same-modes i m (x ∷ xs) (suc n) h = search (arith, doubled-step, same-modes i m xs n h)
 
 itself-bytes : (i : Interpretation) → IsItself i Byte
 itself-bytes i x = ((single-byte i x).0, (same-character i x).0)

@@ -21,7 +21,7 @@ length-pads : (n : ℕ) → length (pads n) ≡ n
 unfolding pads
 length-pads zero = refl
 length-pads (suc zero) = refl
-length-pads (suc (suc n)) = ap (λ (k : ℕ). suc (suc k)) (length-pads n)
+length-pads (suc (suc n)) = cc (length-pads n)
 
 length-padded : (n : ℕ) (stream : List Bool) → length stream ≤ 8 * n → length (padded n stream) ≡ 8 * n
 unfolding padded

@@ -1,5 +1,5 @@
 -- The characters of segments stand for the input, under its interpretation.
-use Rattle.std.proofs.Common.{◌≡◌, ℕ, ◌+◌, ◌≤◌, true, List, [], ◌∷◌, ◌++◌, length, take, drop, sum_by, Option, None, refl, sym, ap, ◌∙◌, arith}
+use Rattle.std.proofs.Common.{◌≡◌, ℕ, ◌+◌, ◌≤◌, true, List, [], ◌∷◌, ◌++◌, length, take, drop, sum_by, Option, None, refl, sym, arith}
 use Rattle.std.proofs.Math.Nat.{le_refl}
 use Rattle.std.proofs.lemmas.{List.Sums.sum_by-cons, List.nil_from_length, List.{take-append-drop, take-append-le, drop-append-le, take_all, drop_all, length-drop}}
 use Rattle.qr_bits.specs.declared.{modes.Mode.Mode, modes.Rule.Rule, segment.Segment.Segment, header.Header.Header}
@@ -30,10 +30,10 @@ meant-written Byte xs h = refl
 meant-written Kanji xs h = refl
 
 take-front : (xs ys : List ℕ) → take (length xs) (xs ++ ys) ≡ xs
-take-front xs ys = take-append-le (length xs) xs ys (le_refl (length xs)) ∙ take_all (length xs) xs (le_refl (length xs))
+take-front xs ys = search (arith, take-append-le, le_refl, take_all)
 
 drop-front : (xs ys : List ℕ) → drop (length xs) (xs ++ ys) ≡ ys
-drop-front xs ys = drop-append-le (length xs) xs ys (le_refl (length xs)) ∙ ap (λ (r : List ℕ). r ++ ys) (drop_all (length xs) xs (le_refl (length xs)))
+drop-front xs ys = search (arith, drop-append-le, le_refl, drop_all)
 
 -- segments of fields are read back
 segments-meant : (segs : List Segment) (xs : List ℕ) → are_fields xs ≡ true → length xs ≤ sum_by (λ s. s.len) segs → meant_bytes true (plain (segments_of xs segs)) (written_in xs segs) ≡ xs
@@ -42,25 +42,19 @@ segments-meant [] xs h len = sym (nil_from_length xs (omega arith))
 segments-meant (s ∷ ss) xs h len =
     let own = take s.len xs in
     let rest = written_in (drop s.len xs) ss in
-    let later = segments-meant ss (drop s.len xs) (fields-drop s.len xs h) (omega (arith, len, length-drop s.len xs, sum_by-cons (λ (t : Segment). t.len) s ss)) in
-    rw (take-front (written s.mode own) rest, drop-front (written s.mode own) rest, meant-written s.mode own (fields-take s.len xs h), later) (take-append-drop s.len xs)
+    let later = segments-meant ss (drop s.len xs) (fields-drop s.len xs h) (omega (arith, length-drop s.len xs, sum_by-cons (λ (t : Segment). t.len) s ss)) in
+    search (arith, take-front, drop-front, meant-written, fields-take, take-append-drop)
 
 gs1-meant : (xs : List ℕ) (ms : List Mode) → length ms ≡ length xs → are_fields xs ≡ true → meant_bytes true (plain (runs_of (doubled_gs1 xs ms))) (characters_gs1 xs ms) ≡ xs
-gs1-meant xs ms h f =
-    let w = runs-written xs ms (sym h) in
-    rw (w.0, w.1) (segments-meant (runs_of ms) xs f (omega (arith, sum_by-runs_of ms, h)))
+gs1-meant xs ms h f = search (arith, runs-written, segments-meant, sum_by-runs_of)
 
 -- The characters of the least segmentation stand for the input.
 pub least-meant : (i : Interpretation) (v : ℕ) (r : Rule) (xs ys : List ℕ) (segs : List Segment) (h : Option Header) → MayWrite i xs → IsLeastSegmentation i v r xs ys segs
     → (content_of h (items_in i segs) ys ≡ record { header = h; items = items_in i segs; ecis = ecis_in i; bytes = xs })
     × (fnc1_of (items_in i segs) ≡ fnc1_in i)
 unfolding meant_bytes eci_changes fnc1_of
-least-meant Default v r xs ys segs h w is =
-    let suits = covers-suits xs _ is.1.assignment.1 in
-    (rw (is.3, meant-plain segs xs (rw is.2 suits), ecis-plain segs 0 xs) refl, fnc1-plain segs)
-least-meant (Eci n) v r xs ys segs h w is =
-    let suits = covers-suits xs _ is.1.assignment.1 in
-    (rw (is.3, meant-plain segs xs (rw is.2 suits), ecis-plain segs 0 xs) refl, fnc1-plain segs)
+least-meant Default v r xs ys segs h w is = search (arith, covers-suits, meant-plain, ecis-plain, fnc1-plain)
+least-meant (Eci n) v r xs ys segs h w is = search (arith, covers-suits, meant-plain, ecis-plain, fnc1-plain)
 least-meant Gs1 v r xs ys segs h w is =
     let bytes : meant_bytes true (plain segs) ys ≡ xs = rw (is.2, is.3) (gs1-meant xs is.0 (assignment-length Gs1 r xs is.0 is.1.assignment) w) in
     (rw (bytes, ecis-fnc1 segs 0 ys) refl, refl)

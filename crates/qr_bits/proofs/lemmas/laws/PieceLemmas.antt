@@ -1,11 +1,11 @@
 -- Without kanji mode, a piece of an input needs no more bits than the input.
-use Rattle.std.proofs.Common.{◌≡◌, ℕ, ◌+◌, ◌<◌, ◌≤◌, true, false, List, [], ◌∷◌, ◌++◌, refl, sym, ◌∙◌, arith}
+use Rattle.std.proofs.Common.{◌≡◌, ℕ, ◌+◌, ◌<◌, ◌≤◌, true, false, List, [], ◌∷◌, ◌++◌, refl, ◌∙◌, arith}
 use Rattle.std.{proofs.lemmas.Bool.{and_parts, and_from, cond_both, false≢true}, specs.List.list_all}
 use Rattle.qr_bits.specs.{declared.modes.Mode.Mode, Modes.may_use, Modes.is_kanji_pair}
 use Rattle.qr_bits.specs.declared.{modes.Mode.TheVariants.Kanji, modes.Rule.Rule, run_state.RunState.RunState}
 use Rattle.qr_bits.specs.declared.run_state.RunState.TheVariants.{Start, Digit1, Digit2, Digit3, Character1, Character2}
 use Rattle.qr_bits.specs.declared.interpretation.Interpretation.{Interpretation}
-use Rattle.qr_bits.specs.Interpretation.{character_for, characters_in, doubled, is_doubled}
+use Rattle.qr_bits.specs.Interpretation.{characters_in, doubled}
 use Rattle.qr_bits.specs.Segmentation.{rank, HasFit}
 use Rattle.qr_bits.specs.Steps.RunState.{state_after, state_in, byte_cost, begins_with_pair, may_take_in, may_end, allowed_in, cost_of, cost_of_all}
 use Rattle.qr_bits.proofs.lemmas.interpretation.WrittenLemmas.{doubled-step}
@@ -37,7 +37,7 @@ behind-ahead v p (m ∷ ms) = grind (arith, behind-ahead v (state_after p m) ms)
 without-first : (v : ℕ) (m : Mode) (ms : List Mode) → rank m < 3 → cost_of v Start ms ≤ cost_of v Start (m ∷ ms)
 unfolding cost_of byte_cost state_after
 without-first v m [] h = omega arith
-without-first v m (k ∷ ms) h = grind (arith, behind-ahead v Digit1 ms, behind-ahead v Character1 ms)
+without-first v m (k ∷ ms) h = search (arith, behind-ahead)
 
 -- the rule does not allow kanji mode
 abbrev pub IsPlain : Rule → Type 0
@@ -60,25 +60,21 @@ piece-first i v r p (x ∷ xs) ys (m ∷ ms) n u e h =
     let use_ = and_parts (may_use r m) (list_all (may_use r) ms) u in
     let low = plain r m n use_.0 in
     let parts = and_parts (may_take_in i r p x (begins_with_pair r is_kanji_pair (x ∷ (xs ++ ys))) m) _ h in
-    let rest = piece-first i v r (state_in i p x m) xs ys ms n use_.1 (in-end i p x m low) parts.1 in (
-      m ∷ rest.0,
-      and_from _ _ (rw (take-other r p (character_for i x m) (begins_with_pair r is_kanji_pair (x ∷ xs)) (begins_with_pair r is_kanji_pair (x ∷ (xs ++ ys))) m low) parts.0) rest.1,
-      omega (arith, rest.2),
-    )
+    let rest = piece-first i v r (state_in i p x m) xs ys ms n use_.1 (in-end i p x m low) parts.1 in (m ∷ rest.0, search (arith, and_from, take-other), omega arith)
 
 -- what is allowed after a state is allowed at the start, if no half pair is open
 from-start : (i : Interpretation) (r : Rule) (p : RunState) (xs : List ℕ) (ms : List Mode) → may_end p ≡ true → allowed_in i r is_kanji_pair p xs ms ≡ true → allowed_in i r is_kanji_pair Start xs ms ≡ true
 unfolding may_end
 from-start i r p xs ms e h =
-    sym (allowed-written i r is_kanji_pair Start xs ms)
-    ∙ can-take is_kanji_pair r _ _ (is-assignment is_kanji_pair r (characters_in i xs ms) (doubled i xs ms) p e (allowed-written i r is_kanji_pair p xs ms ∙ h)) Start refl
+    let is = is-assignment is_kanji_pair r (characters_in i xs ms) (doubled i xs ms) p e (allowed-written i r is_kanji_pair p xs ms ∙ h) in
+    cc (allowed-written i r is_kanji_pair Start xs ms, can-take is_kanji_pair r _ _ is Start refl)
 
 -- without the first byte there are no more bits
 without-byte : (i : Interpretation) (v : ℕ) (x : ℕ) (xs : List ℕ) (m : Mode) (ms : List Mode) → rank m < 3 → cost_of_all i v Start xs ms ≤ cost_of_all i v Start (x ∷ xs) (m ∷ ms)
 without-byte i v x xs m ms low =
     let ks = doubled i xs ms in
     rw (← cost-written i v Start xs ms, ← cost-written i v Start (x ∷ xs) (m ∷ ms), doubled-step i x xs m ms)
-    (cond_both (is_doubled i x m) _ _ (λ (qs : List Mode). cost_of v Start ks ≤ cost_of v Start qs) (λ _. omega (arith, without-first v m ks low, without-first v m (m ∷ ks) low)) (λ _. without-first v m ks low))
+    (search (arith, cond_both, without-first v m ks low, without-first v m (m ∷ ks) low))
 
 -- if modes of `xs ++ ys` are allowed, some modes of `ys` are allowed too, and add no more bits
 back : (i : Interpretation) (v : ℕ) (r : Rule) (xs ys : List ℕ) (ms : List Mode) → IsPlain r → CanUse r ms → allowed_in i r is_kanji_pair Start (xs ++ ys) ms ≡ true
@@ -91,7 +87,7 @@ back i v r (x ∷ xs) ys (m ∷ ms) n u h =
     let low = plain r m n use_.0 in
     let parts = and_parts (may_take_in i r Start x (begins_with_pair r is_kanji_pair (x ∷ (xs ++ ys))) m) _ h in
     let rest = back i v r xs ys ms n use_.1 (from-start i r (state_in i Start x m) (xs ++ ys) ms (in-end i Start x m low) parts.1) in
-    (rest.0, rest.1, rest.2, omega (arith, rest.3, without-byte i v x (xs ++ ys) m ms low))
+    search (arith, without-byte)
 
 -- If an input fits, each piece of it fits.
 pub piece-fits : (i : Interpretation) (v : ℕ) (r : Rule) (xs ys zs : List ℕ) (n : ℕ) → may_use r Kanji ≡ false → HasFit i v r (xs ++ (ys ++ zs)) n → HasFit i v r ys n
@@ -99,4 +95,4 @@ unfolding may_end
 piece-fits i v r xs ys zs n none fit =
     let b = back i v r xs (ys ++ zs) fit.0 none fit.1.0 (assigned-allowed i r (xs ++ (ys ++ zs)) fit.0 fit.1) in
     let f = piece-first i v r Start ys zs b.0 none b.1 refl b.2 in
-    (f.0, allowed-assigned i r ys f.0 f.1, omega (arith, bits-assigned i v ys f.0, f.2, b.3, bits-assigned i v (xs ++ (ys ++ zs)) fit.0, fit.2))
+    search (arith, allowed-assigned, bits-assigned)

@@ -1,6 +1,6 @@
 -- Bytes in reverse order: their valid assignments are those of the bytes, reversed, with equally many bits. The two bytes of
 -- each kanji pair are exchanged.
-use Rattle.std.proofs.Common.{◌≡◌, ℕ, ◌+◌, ◌-◌, ◌≤◌, ◌<◌, Bool, true, false, ◌&&◌, List, [], ◌∷◌, ◌++◌, reverse, length, take, drop, get_or, refl, sym, ◌∙◌, ap, arith, subst}
+use Rattle.std.proofs.Common.{◌≡◌, ℕ, ◌+◌, ◌-◌, ◌≤◌, ◌<◌, Bool, true, false, ◌&&◌, List, [], ◌∷◌, ◌++◌, reverse, length, take, drop, get_or, refl, ◌∙◌, ap, arith, subst}
 use Rattle.std.proofs.{Math.Nat.le_refl, lemmas.Bool.false≢true, lemmas.List.take-take}
 use Rattle.std.{proofs.lemmas.Bool.Decides.nat_tests, specs.List.list_all, proofs.lemmas.List.Folds.list_all-append}
 use Rattle.std.proofs.lemmas.Bool.{and_parts, and_from}
@@ -73,7 +73,7 @@ bits-append v (s ∷ ss) ts = omega (arith, bits-append v ss ts)
 
 bits-reverse : (v : ℕ) (ss : List Segment) → bits v (reverse ss) ≡ bits v ss
 bits-reverse v [] = refl
-bits-reverse v (s ∷ ss) = rw (reverse-append (s ∷ []) ss) (omega (arith, bits-append v (reverse ss) (s ∷ []), bits-reverse v ss))
+bits-reverse v (s ∷ ss) = rw (reverse-append (s ∷ []) ss) (search (arith, bits-append, bits-reverse v ss))
 
 mirror : (v : ℕ) (t : ℕ → ℕ → Bool) (r : Rule) (xs : List ℕ) (ms : List Mode) → IsAssignmentBy t r xs ms
     → IsAssignmentBy (swapped t) r (reverse xs) (reverse ms) × (bits v (runs_of (reverse ms)) ≡ bits v (runs_of ms))
@@ -87,10 +87,9 @@ mirror-in i v t r xs ms h =
     let len = allowed-length i r t Start xs ms h in
     let by = is-assignment t r (characters_in i xs ms) (doubled i xs ms) Start refl (allowed-written i r t Start xs ms ∙ h) in
     let m = mirror v t r (characters_in i xs ms) (doubled i xs ms) by in
-    let back = rw (← characters-reverse i xs ms len, ← doubled-reverse i xs ms len) at m.0 in
-    let bits_same = rw (← doubled-reverse i xs ms len) at m.1 in (
-      sym (allowed-written i r (swapped t) Start (reverse xs) (reverse ms)) ∙ can-take (swapped t) r (characters_in i (reverse xs) (reverse ms)) (doubled i (reverse xs) (reverse ms)) back Start refl,
-      sym (bits-assigned i v (reverse xs) (reverse ms)) ∙ bits_same ∙ bits-assigned i v xs ms,
+    let back = rw (← characters-reverse i xs ms len, ← doubled-reverse i xs ms len) at m.0 in (
+      cc (allowed-written i r (swapped t) Start (reverse xs) (reverse ms), can-take (swapped t) r _ _ back Start refl),
+      cc (doubled-reverse i xs ms len, bits-assigned i v (reverse xs) (reverse ms), bits-assigned i v xs ms),
     )
 
 -- if the best rest of a reversed prefix has at most n bits, the prefix fits n bits
@@ -100,14 +99,13 @@ prefix-fits i v r xs f cost n below small =
     let best = below Start _ (bytes-rest i r (swapped is_kanji_pair) Start (reverse xs) refl) in
     let back = mirror-in i v (swapped is_kanji_pair) r (reverse xs) (f Start) best.is_allowed in
     let again : allowed_in i r is_kanji_pair Start xs (reverse (f Start)) ≡ true = rw (reverse-reverse xs) at back.0 in
-    let same : cost_of_all i v Start xs (reverse (f Start)) ≡ cost Start = (rw (reverse-reverse xs) at back.1) ∙ best.has_bits in
-    (reverse (f Start), allowed-assigned i r xs (reverse (f Start)) again, rw (bits-assigned i v xs (reverse (f Start)), same) small)
+    search (arith, reverse-reverse, allowed-assigned, bits-assigned)
 
 -- if a prefix fits n bits, the best rest of the reversed prefix has at most n bits
 pub prefix-least : (i : Interpretation) (v : ℕ) (r : Rule) (xs : List ℕ) (f : RunState → List Mode) (cost : RunState → ℕ) (n : ℕ) → BestBelow i v r (swapped is_kanji_pair) (reverse xs) f cost → HasFit i v r xs n → cost Start ≤ n
 prefix-least i v r xs f cost n below fit =
     let back = mirror-in i v is_kanji_pair r xs fit.0 (assigned-allowed i r xs fit.0 fit.1) in
-    omega (arith, (below Start _ back.0).least (reverse fit.0) back.0, back.1, bits-assigned i v xs fit.0, fit.2)
+    search (arith, bits-assigned)
 
 -- what is allowed for the bytes `ys` and then `xs` contains what is allowed for `xs`, which takes no more bits
 later-part : (i : Interpretation) (v : ℕ) (r : Rule) (test : ℕ → ℕ → Bool) (ys xs : List ℕ) (p : RunState) (ks : List Mode) → allowed_in i r test p (ys ++ xs) ks ≡ true
@@ -117,7 +115,7 @@ later-part i v r test [] xs p ks h = (p, ks, h, le_refl _)
 later-part i v r test (y ∷ ys) xs p [] h = absurd (false≢true h)
 later-part i v r test (y ∷ ys) xs p (k ∷ ks) h =
     let more = later-part i v r test ys xs (state_in i p y k) ks (and_parts (may_take_in i r p y (begins_with_pair r test (y ∷ ys ++ xs)) k) _ h).1 in
-    (more.0, more.1, more.2, omega (arith, more.3))
+    (more.0, more.1, more.2, omega arith)
 
 -- if all best rests of a reversed prefix take more than n bits, no prefix at least as long fits n bits
 pub none-longer : (i : Interpretation) (v : ℕ) (r : Rule) (xs : List ℕ) (j k : ℕ) (f : RunState → List Mode) (cost : RunState → ℕ) (n : ℕ) → BestBelow i v r (swapped is_kanji_pair) (reverse (take j xs)) f cost
@@ -127,9 +125,7 @@ none-longer i v r xs j k f cost n below more l fit =
     let cut : reverse (take k xs) ≡ reverse ys ++ reverse (take j xs) = cc (take-take j k xs l, take-append-drop j (take k xs), reverse-append (take j (take k xs)) ys) in
     let back = mirror-in i v is_kanji_pair r (take k xs) fit.0 (assigned-allowed i r (take k xs) fit.0 fit.1) in
     let part = later-part i v r (swapped is_kanji_pair) (reverse ys) (reverse (take j xs)) Start (reverse fit.0) (rw cut at back.0) in
-    let same : cost_of_all i v Start (reverse ys ++ reverse (take j xs)) (reverse fit.0) ≡ cost_of_all i v Start (take k xs) fit.0 = rw cut at back.1 in
-    let least = (below part.0 part.1 part.2).least part.1 part.2 in
-    absurd (omega (arith, least, more part.0, part.3, same, fit.2, bits-assigned i v (take k xs) fit.0))
+    search (arith, bits-assigned)
 
 -- an empty input fits any number of bits
 pub empty-fits : (i : Interpretation) (v : ℕ) (r : Rule) (n : ℕ) → HasFit i v r [] n

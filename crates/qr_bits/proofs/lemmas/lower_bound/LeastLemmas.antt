@@ -53,4 +53,4 @@ unfolding least_bits
 least-held i v r xs room fit =
     let held = segments-held v (characters_in i xs fit.0) _ (covers-by _ _ fit.1.1) in
     let most = characters-sixths i xs fit.0 in
-    omega (arith, held, most, fit.2)
+    omega (arith, most)

@@ -26,7 +26,7 @@ character-place b h = rw (lt-ltb _ _ (found (λ c. c == b) characters h)) refl
 
 pub character-index : (b n : ℕ) → is_alphanumeric b ≡ true → position (λ c. c == b) characters ≡ Some n → (n ≡ character_value b) × (n ≤ 44)
 character-index b n h e =
-    let i : n ≡ character_value b = cc (character-place b h) in (i, omega (arith, character-found b h, i))
+    let i : n ≡ character_value b = cc (character-place b h) in (i, omega (arith, character-found b h))
 
 -- a character is the character of its value
 pub character-again : (b : ℕ) → is_alphanumeric b ≡ true → character (character_value b) ≡ b
@@ -86,5 +86,5 @@ digit-character r b pair h =
     let bounds = and_parts (nat_le 48 b) (nat_le b 57) parts.1 in
     let low : 48 ≤ b = leb-true _ _ bounds.0 in
     let high : b ≤ 57 = leb-true _ _ bounds.1 in
-    let e : 48 + (b - 48) ≡ b = omega arith in
-    and_from _ _ (text-used r parts.0) (rw e at (below-at 10 (λ i. is_alphanumeric (48 + i)) all-digits (b - 48) (omega arith)))
+    let one = below-at 10 (λ i. is_alphanumeric (48 + i)) all-digits (b - 48) (omega arith) in
+    search (arith, and_from, text-used)

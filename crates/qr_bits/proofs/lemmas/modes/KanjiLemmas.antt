@@ -1,6 +1,6 @@
 -- Kanji pairs: a pair that is written as a value is read back, and the other way round.
 use Rattle.std.proofs.lemmas.Bool.{Decides.nat_tests, le-leb, lt-leb, and_parts, and_from, false≢true}
-use Rattle.std.proofs.Common.{◌≡◌, ℕ, zero, suc, ◌+◌, ◌*◌, ◌/◌, ◌%◌, ◌<◌, ◌≤◌, Bool, true, List, [], ◌∷◌, ◌++◌, length, take, drop, Ok, Err, refl, subst, arith, append_assoc}
+use Rattle.std.proofs.Common.{◌≡◌, ℕ, zero, suc, ◌+◌, ◌*◌, ◌/◌, ◌%◌, ◌<◌, ◌≤◌, Bool, true, List, [], ◌∷◌, ◌++◌, length, take, drop, Ok, Err, refl, arith, append_assoc}
 use Rattle.std.proofs.lemmas.List.{length-drop, Elements.All-cons, Elements.All-nil}
 use borrow.Author.Tests.{leb-true}
 use Rattle.qr_bits.specs.{declared.fault.ParseFault.TheVariants.BadValue, Bits.value}
@@ -48,12 +48,11 @@ pairs-takes (suc n) xs bits h e =
     let is = pair-again g (value-take-below 13 bits) (leb-true _ 0xBC c.0) in
     let w = pairs-takes n b.0 (drop 13 bits) (omega (arith, length-drop 13 bits)) b.1 in
     let one : payload_bits Kanji (2 * n) ≡ 13 * n = omega arith in
-    let more : payload_bits Kanji (2 * suc n) ≡ 13 + 13 * n = omega arith in
     let whole = more-written 13 (13 * n) bits (kanji_bits b.0) (omega arith) (rw one at w.whole) in
-    subst (IsWritten Kanji (suc n) bits) (same-ok _ _ b.2) (search (arith, All-cons, and_from))
+    search (arith, same-ok, All-cons, and_from)
 
 -- a kanji pair, and the pairs after it; or a value that no pair has
 pub pairs-step : (n m : ℕ) (bits : List Bool) → n ≡ suc m → let g = value (take 13 bits) in (13 + 13 * m ≡ 13 * n)
     × (g % 0xC0 ≤ 0xBC → pairs_of n bits ≡ (pairs_of m (drop 13 bits) >>= λ xs. Ok (kanji_pair g / 256 ∷ kanji_pair g % 256 ∷ xs))) × (0xBC < g % 0xC0 → pairs_of n bits ≡ Err BadValue)
 unfolding pairs_of
-pairs-step n m bits h = (omega (arith, h), λ l. rw (h, le-leb _ 0xBC l) refl, λ l. rw (h, lt-leb _ 0xBC l) refl)
+pairs-step n m bits h = search (arith, le-leb, lt-leb)

@@ -1,5 +1,5 @@
 -- If the bits of segments fit a symbol, each count fits its field.
-use Rattle.std.proofs.Common.{◌≡◌, ℕ, ◌+◌, ◌-◌, ◌*◌, ◌^◌, ◌<◌, ◌≤◌, Bool, true, false, ◌&&◌, cond, leb, List, [], ◌∷◌, length, drop, ap, arith}
+use Rattle.std.proofs.Common.{◌≡◌, ℕ, ◌+◌, ◌-◌, ◌*◌, ◌^◌, ◌<◌, ◌≤◌, Bool, true, false, ◌&&◌, cond, leb, List, [], ◌∷◌, length, drop, arith}
 use Rattle.std.proofs.lemmas.{Bool.le-leb, Bool.lt-leb, Bool.and_parts, List.length-drop}
 use borrow.Author.Tests.{leb-true}
 use Rattle.qr_layout.{specs.{declared.level.Level.Level, Version.total_codewords_of}, proofs.Facts.{below, below-at}}
@@ -57,7 +57,7 @@ head-least v m h = grind arith
 
 short-large : (v : ℕ) (xs : List ℕ) (segs : List Segment) → 26 < v → CoversBy is_kanji_pair xs segs → bits v segs ≤ 23648 → length xs ≤ 7089
 unfolding CoversBy
-short-large v xs [] h c few = omega (arith, ap length c)
+short-large v xs [] h c few = search arith
 short-large v xs (s ∷ ss) h c few =
     omega (arith, segment-least v s, head-least v s.mode h, bits-least v (drop s.len xs) ss (covers-suits (drop s.len xs) ss (by-covers _ _ c.3)), length-drop s.len xs, c.1)
 
@@ -99,7 +99,7 @@ last-most m v l all a b =
 
 -- no version up to 9 has more room than version 9
 pub capacity-nine : (v : ℕ) (l : Level) → 1 ≤ v → v ≤ 9 → capacity_of v l ≤ capacity_of 9 l
-capacity-nine v l a b = last-most 9 v l (all-nine l) a b
+capacity-nine v l a b = search (arith, last-most, all-nine)
 
 -- no version up to 26 has more room than version 26
 pub capacity-26 : (v : ℕ) (l : Level) → 1 ≤ v → v ≤ 26 → capacity_of v l ≤ capacity_of 26 l
@@ -109,4 +109,4 @@ capacity-26 v l a b = last-most 26 v l (all-26 l) a b
 pub fitting-medium : (i : Interpretation) (v : ℕ) (l : Level) (r : Rule) (xs : List ℕ) → 1 ≤ v → v ≤ 26 → HasFit i v r xs (capacity_of v l) → length xs ≤ 3288
 fitting-medium i v l r xs a b fit =
     let most : most_data v ≤ 1370 = search (arith, groups) in
-    omega (arith, most, fitting-few i v l r xs a (omega arith) fit)
+    omega (arith, fitting-few i v l r xs a (omega arith) fit)

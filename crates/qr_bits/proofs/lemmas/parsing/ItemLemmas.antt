@@ -1,6 +1,6 @@
 -- A parse reads back every stream of items.
-use Rattle.std.proofs.Common.{◌≡◌, ℕ, ◌+◌, ◌-◌, ◌*◌, ◌/◌, ◌%◌, ◌^◌, ◌<◌, ◌≤◌, Bool, true, false, ◌==◌, nat_le, nat_lt, All, List, [], ◌∷◌, ◌++◌, length, take, drop, Ok, refl, sym, ⊎_elim, arith, lit<, append_assoc, subst, inl, inr, ◌&&◌, zero, suc, length-append}
-use Rattle.std.proofs.lemmas.Bool.{le-ltb, lt-ltb, lt-leb, ltb-true, ltb-false, cases_Bool, eqb-true, and_parts}
+use Rattle.std.proofs.Common.{◌≡◌, ℕ, ◌^◌, ◌<◌, ◌≤◌, Bool, true, false, ◌==◌, nat_le, nat_lt, All, List, [], ◌∷◌, ◌++◌, length, take, drop, Ok, refl, ⊎_elim, arith, lit<, append_assoc, subst, inl, zero, suc, length-append}
+use Rattle.std.proofs.lemmas.Bool.{le-ltb, lt-ltb, ltb-true, cases_Bool, eqb-true, and_parts}
 use Rattle.std.proofs.lemmas.List.{length-take-le, take-append-drop}
 use Rattle.std.proofs.lemmas.List.Elements.{All-nil, All-append, All-take, All-drop}
 use Rattle.std.proofs.Math.Seq.{take-append_seam, drop-append_seam}
@@ -8,39 +8,18 @@ use Rattle.qr_bits.specs.declared.interpretation.{Designator.Designator, Item.It
 use Rattle.qr_bits.specs.declared.fault.ParseFault.TheVariants.{BadValue}
 use Rattle.qr_bits.specs.{Bits.{field, value}, Interpretation.{is_application_indicator, may_follow}}
 use Rattle.qr_bits.specs.Stream.{AreItems, DesignatorFits, designator_of, items_stream}
-use Rattle.qr_bits.specs.Parsing.{leading_number, segment_at, application_at, designator_at, ends, item_at, items_at, items_of}
+use Rattle.qr_bits.specs.Parsing.{leading_number, application_at, designator_at, ends, item_at, items_at, items_of}
 use Rattle.qr_bits.proofs.lemmas.stream.StreamLemmas.{drop-field, field-read, read-field}
 use Rattle.qr_bits.proofs.lemmas.parsing.{ParsingLemmas.{bind-ok, guard-ok, same-ok, ended-empty, not_ended, item-shorter, items-end, items-step}, StreamReadingLemmas.{IsSegment, segment-takes, item-again, number-again, number-takes, opens, other-opens}}
 
 -- a designator is read back in as many codewords
 pub number-back : (d : Designator) (rest : List Bool) → DesignatorFits d → designator_at (designator_of d.codewords d.number ++ rest) ≡ Ok (d, rest)
 unfolding designator_at designator_of
-number-back d rest h =
-    let n = d.number in
-    ⊎_elim (λ (e : (d.codewords ≡ 1) × (n < 128)). rw (e.0, number-again 8 n rest (omega (arith, e.1)), lt-ltb _ _ e.1) refl)
-    (λ h.
-    ⊎_elim (λ (e : (d.codewords ≡ 2) × (n < 16384)).
-    let high : 128 + n / 256 < 2 ^ 8 = omega (arith, e.1) in
-    let a : nat_lt (128 + n / 256) 128 ≡ false = le-ltb _ _ (omega arith) in
-    let b : nat_lt (128 + n / 256) 192 ≡ true = lt-ltb _ _ (omega (arith, e.1)) in
-    let whole : 256 * (128 + n / 256 - 128) + n % 256 ≡ n = omega arith in
-    rw (e.0, append_assoc (field 8 (128 + n / 256)) (field 8 (n % 256)) rest, number-again 8 (128 + n / 256) (field 8 (n % 256) ++ rest) high, a, b, number-again 8 (n % 256) rest (omega arith), whole)
-    refl)
-    (λ (e : (d.codewords ≡ 3) × (n < 1000000)).
-    let high : 192 + n / 65536 < 2 ^ 8 = omega (arith, e.1) in
-    let a : nat_lt (192 + n / 65536) 128 ≡ false = le-ltb _ _ (omega arith) in
-    let b : nat_lt (192 + n / 65536) 192 ≡ false = le-ltb _ _ (omega arith) in
-    let g : nat_le 224 (192 + n / 65536) ≡ false = lt-leb _ _ (omega (arith, e.1)) in
-    let whole : 65536 * (192 + n / 65536 - 192) + n % 65536 ≡ n = omega arith in
-    let six : nat_lt n 1000000 ≡ true = lt-ltb _ _ e.1 in
-    rw (e.0, append_assoc (field 8 (192 + n / 65536)) (field 16 (n % 65536)) rest, number-again 8 (192 + n / 65536) (field 16 (n % 65536) ++ rest) high, a, b, g, number-again 16 (n % 65536) rest (omega arith), whole, six)
-    refl)
-    h)
-    h
+number-back d rest h = search (arith, number-again, lt-ltb, le-ltb, append_assoc)
 
-eci_back : (v : ℕ) (may : Bool) (d : Designator) (rest : List Bool) → DesignatorFits d → item_at v may (field 4 7 ++ (designator_of d.codewords d.number ++ rest)) ≡ Ok (Eci d, [], rest)
+eci-back : (v : ℕ) (may : Bool) (d : Designator) (rest : List Bool) → DesignatorFits d → item_at v may (field 4 7 ++ (designator_of d.codewords d.number ++ rest)) ≡ Ok (Eci d, [], rest)
 unfolding item_at
-eci_back v may d rest h = rw (read-field 4 7 (designator_of d.codewords d.number ++ rest) (lit< tt), drop-field 4 7 (designator_of d.codewords d.number ++ rest), number-back d rest h) refl
+eci-back v may d rest h = rw (read-field 4 7 (designator_of d.codewords d.number ++ rest) (lit< tt), drop-field 4 7 (designator_of d.codewords d.number ++ rest), number-back d rest h) refl
 
 first-back : (v : ℕ) (may : Bool) (rest : List Bool) → may ≡ true → item_at v may (field 4 5 ++ rest) ≡ Ok (Fnc1First, [], rest)
 unfolding item_at
@@ -51,7 +30,7 @@ application-small a h = grind arith
 
 application-back : (a : ℕ) (rest : List Bool) → is_application_indicator a ≡ true → application_at (field 8 a ++ rest) ≡ Ok (a, rest)
 unfolding application_at
-application-back a rest h = rw (number-again 8 a rest (application-small a h), h) refl
+application-back a rest h = search (arith, number-again, application-small)
 
 second-back : (v : ℕ) (may : Bool) (a : ℕ) (rest : List Bool) → may ≡ true → is_application_indicator a ≡ true → item_at v may (field 4 9 ++ (field 8 a ++ rest)) ≡ Ok (Fnc1Second a, [], rest)
 unfolding item_at
@@ -68,15 +47,11 @@ items-again v may xs (Data s ∷ is) tail bytes are end =
     let halves : All (λ b. b < 256) part × All (λ b. b < 256) (drop s.len xs) = search (arith, All-take, All-drop) in
     search (arith, append_assoc, item-again, items-step, opens, take-append-drop, items-again v false (drop s.len xs) is tail halves.1 are.3 end)
 items-again v may xs (Eci d ∷ is) tail bytes are end =
-    let rest = items_stream v xs is ++ tail in
-    let n = designator_of d.codewords d.number in
-    rw (append_assoc (field 4 7) (n ++ items_stream v xs is) tail, append_assoc n (items_stream v xs is) tail, items-step v may (field 4 7 ++ (n ++ rest)) (other-opens 7 _ (lit< tt) refl), eci_back v may d rest are.0, items-again v may xs is tail bytes are.1 end) refl
+    search (arith, append_assoc, items-step, other-opens, eci-back, items-again v may xs is tail bytes are.1 end)
 items-again v may xs (Fnc1First ∷ is) tail bytes are end =
-    let rest = items_stream v xs is ++ tail in
-    rw (append_assoc (field 4 5) (items_stream v xs is) tail, items-step v may (field 4 5 ++ rest) (other-opens 5 _ (lit< tt) refl), first-back v may rest are.0, items-again v false xs is tail bytes are.1 end) refl
+    search (arith, append_assoc, items-step, other-opens, first-back, items-again v false xs is tail bytes are.1 end)
 items-again v may xs (Fnc1Second a ∷ is) tail bytes are end =
-    let rest = items_stream v xs is ++ tail in
-    rw (append_assoc (field 4 9) (field 8 a ++ items_stream v xs is) tail, append_assoc (field 8 a) (items_stream v xs is) tail, items-step v may (field 4 9 ++ (field 8 a ++ rest)) (other-opens 9 _ (lit< tt) refl), second-back v may a rest are.0 are.1, items-again v false xs is tail bytes are.2 end) refl
+    search (arith, append_assoc, items-step, other-opens, second-back, items-again v false xs is tail bytes are.2 end)
 
 -- what is read is a designator that fits, and then the rest
 designator-takes : (bits : List Bool) (r : Designator × List Bool) → designator_at bits ≡ Ok r → DesignatorFits r.0 × (bits ≡ designator_of r.0.codewords r.0.number ++ r.1)
@@ -88,26 +63,15 @@ designator-takes bits r h =
     ⊎_elim (λ (e : nat_lt a.0.0 128 ≡ true). let k = rw e at a.2 in
     subst P (same-ok _ _ k) (inl (refl, ltb-true _ _ e), f.1))
     (λ (e : nat_lt a.0.0 128 ≡ false). let k = rw e at a.2 in
-    let least = ltb-false _ _ e in
     ⊎_elim (λ (g : nat_lt a.0.0 192 ≡ true). let m = rw g at k in
-    let below = ltb-true _ _ g in
     let b = bind-ok (leading_number 8 a.0.1) _ r m in
     let l = number-takes 8 a.0.1 b.0 b.1 in
-    let high : 128 + (256 * (a.0.0 - 128) + b.0.0) / 256 ≡ a.0.0 = omega (arith, l.0) in
-    let low : (256 * (a.0.0 - 128) + b.0.0) % 256 ≡ b.0.0 = omega (arith, l.0) in
-    subst P (same-ok _ _ b.2) (inr (inl (refl, omega (arith, l.0))), rw (high, low, append_assoc (field 8 a.0.0) (field 8 b.0.0) b.0.1, ← l.1) f.1))
+    search (arith, same-ok, append_assoc))
     (λ (g : nat_lt a.0.0 192 ≡ false). let m = rw g at k in
     let q = guard-ok (nat_le 224 a.0.0) BadValue _ r m in
-    let some = ltb-false _ _ g in
     let b = bind-ok (leading_number 16 a.0.1) _ r q.1 in
     let l = number-takes 16 a.0.1 b.0 b.1 in
-    let n = 65536 * (a.0.0 - 192) + b.0.0 in
-    let high : 192 + n / 65536 ≡ a.0.0 = omega (arith, l.0) in
-    let low : n % 65536 ≡ b.0.0 = omega (arith, l.0) in
-    ⊎_elim (λ (o : nat_lt n 1000000 ≡ true). let p = rw o at b.2 in
-    subst P (same-ok _ _ p) (inr (inr (refl, ltb-true _ _ o)), rw (high, low, append_assoc (field 8 a.0.0) (field 16 b.0.0) b.0.1, ← l.1) f.1))
-    (λ (o : nat_lt n 1000000 ≡ false). let p = rw o at b.2 in grind arith)
-    (cases_Bool (nat_lt n 1000000)))
+    search (arith, same-ok, ltb-true, append_assoc))
     (cases_Bool (nat_lt a.0.0 192)))
     (cases_Bool (nat_lt a.0.0 128))
 
@@ -127,37 +91,13 @@ unfolding application_at
 application-takes bits a h =
     let n = bind-ok (leading_number 8 bits) _ a h in
     let f = number-takes 8 bits n.0 n.1 in
-    ⊎_elim (λ (e : is_application_indicator n.0.0 ≡ true). let k = rw e at n.2 in
-    subst (λ (t : ℕ × List Bool). (is_application_indicator t.0 ≡ true) × (bits ≡ field 8 t.0 ++ t.1)) (same-ok _ _ k) (e, f.1))
-    (λ (e : is_application_indicator n.0.0 ≡ false). let k = rw e at n.2 in grind arith)
-    (cases_Bool (is_application_indicator n.0.0))
+    search (arith, same-ok)
 
 -- if an item is read, its stream comes first in the bits that were read
 item-takes : (v : ℕ) (may : Bool) (bits : List Bool) (i : Item × List ℕ × List Bool) → 4 ≤ length bits → item_at v may bits ≡ Ok i → IsItem v may bits i.0 i.1 i.2
 unfolding item_at
 item-takes v may bits i four h =
-    let n = value (take 4 bits) in
-    let P : Item × List ℕ × List Bool → Type 0 = λ t. IsItem v may bits t.0 t.1 t.2 in
-    ⊎_elim (λ (e : (n == 7) ≡ true). let k = rw e at h in
-    let d = bind-ok (designator_at (drop 4 bits)) _ i k in
-    let f = designator-takes (drop 4 bits) d.0 d.1 in
-    subst P (same-ok _ _ d.2) (f.0, refl, rw (← f.1) (indicated 7 bits four e)))
-    (λ (e : (n == 7) ≡ false). let k = rw e at h in
-    ⊎_elim (λ (f : (may && n == 5) ≡ true). let m = rw f at k in
-    let both = and_parts may (n == 5) f in
-    subst P (same-ok _ _ m) (both.0, refl, indicated 5 bits four both.1))
-    (λ (f : (may && n == 5) ≡ false). let m = rw f at k in
-    ⊎_elim (λ (g : (may && n == 9) ≡ true). let o = rw g at m in
-    let both = and_parts may (n == 9) g in
-    let a = bind-ok (application_at (drop 4 bits)) _ i o in
-    let w = application-takes (drop 4 bits) a.0 a.1 in
-    subst P (same-ok _ _ a.2) (both.0, w.0, refl, rw (← w.1) (indicated 9 bits four both.1)))
-    (λ (g : (may && n == 9) ≡ false). let o = rw g at m in
-    let s = bind-ok (segment_at v bits) _ i o in
-    subst P (same-ok _ _ s.2) (segment-takes v bits s.0 four s.1))
-    (cases_Bool (may && n == 9)))
-    (cases_Bool (may && n == 5)))
-    (cases_Bool (n == 7))
+    search (arith, bind-ok, designator-takes, same-ok, indicated, and_parts, application-takes, segment-takes)
 
 -- items that were read are their stream, and then an end
 pub record IsItems (v : ℕ) (may : Bool) (bits : List Bool) (items : List Item) (xs : List ℕ) : Type 0 where
@@ -180,16 +120,13 @@ items-more v may bits rest (Data s) is ys zs one others =
     record {
       tail = others.tail;
       bytes = All-append (λ b. b < 256) ys zs one.bytes others.bytes;
-      are = rw (front, back) (omega (arith, length-append ys zs, one.long), one.suited, one.fits, others.are);
+      are = search (arith, length-append);
       whole = rw (front, back) (search (arith, append_assoc));
       end = others.end;
     }
-items-more v may bits rest (Eci d) is ys zs one others =
-    subst (λ (t : List ℕ). IsItems v may bits (Eci d ∷ is) (t ++ zs)) (sym one.1) (record { tail = others.tail; bytes = others.bytes; are = (one.0, others.are); whole = search (arith, append_assoc); end = others.end })
-items-more v may bits rest Fnc1First is ys zs one others =
-    subst (λ (t : List ℕ). IsItems v may bits (Fnc1First ∷ is) (t ++ zs)) (sym one.1) (record { tail = others.tail; bytes = others.bytes; are = (one.0, others.are); whole = search (arith, append_assoc); end = others.end })
-items-more v may bits rest (Fnc1Second a) is ys zs one others =
-    subst (λ (t : List ℕ). IsItems v may bits (Fnc1Second a ∷ is) (t ++ zs)) (sym one.2) (record { tail = others.tail; bytes = others.bytes; are = (one.0, one.1, others.are); whole = search (arith, append_assoc); end = others.end })
+items-more v may bits rest (Eci d) is ys zs one others = search (arith, append_assoc)
+items-more v may bits rest Fnc1First is ys zs one others = search (arith, append_assoc)
+items-more v may bits rest (Fnc1Second a) is ys zs one others = search (arith, append_assoc)
 
 -- if items are read from at most `n` bits, these bits are the stream of the items and then an end
 pub items-takes : (n v : ℕ) (may : Bool) (bits : List Bool) (r : List Item × List ℕ) → length bits ≤ n → items_at n v may bits ≡ Ok r → IsItems v may bits r.0 r.1

@@ -1,10 +1,10 @@
 -- A parse, segment by segment.
-use Rattle.std.proofs.Common.{◌≡◌, ℕ, zero, suc, ◌+◌, ◌≤◌, Bool, true, false, cond, List, [], ◌∷◌, ◌++◌, length, take, drop, Result, Ok, Err, refl, ap, ◌*◌, ◌-◌, ◌==◌, ◌&&◌, nat_lt, nat_le, ⊎_elim, arith}
+use Rattle.std.proofs.Common.{◌≡◌, ℕ, zero, suc, ◌+◌, ◌≤◌, Bool, true, false, cond, List, [], ◌∷◌, ◌++◌, length, take, drop, Result, Ok, Err, refl, ap, ⊎_elim, arith}
 use Rattle.std.proofs.lemmas.Bool.{lt-ltb, le-ltb, ltb-false, or_parts, or_left, and_parts, cases_Bool}
 use Rattle.{std.proofs.lemmas.List.{append-nil, append_assoc, length-drop}, qr_bits.specs.Steps.Parsing.IsFaultOf}
 use Rattle.qr_bits.specs.declared.{modes.Mode.Mode, segment.Segment.Segment, interpretation.Designator.Designator, interpretation.Item.Item, fault.ParseFault.ParseFault}
-use Rattle.qr_bits.specs.Interpretation.{may_follow, is_application_indicator}
-use Rattle.qr_bits.specs.{declared.fault.ParseFault.TheVariants.{Memory, BadValue}, Bits.value, Modes.count_width}
+use Rattle.qr_bits.specs.Interpretation.{may_follow}
+use Rattle.qr_bits.specs.{declared.fault.ParseFault.TheVariants.{Memory}, Bits.value, Modes.count_width}
 use Rattle.qr_bits.specs.Parsing.{◌>>=◌, IsResultOf, mode_of, ends, leading_number, payload_at, segment_at, designator_at, application_at, item_at, items_at, items_of, begins_header, header_at}
 use borrow.Author.Tests.{leb-true}
 
@@ -53,9 +53,7 @@ unfolding ends
 ended-empty bits h = search (arith, or_left, lt-ltb)
 
 short-shorter : (a : ℕ × List Bool) (number : ℕ → ℕ) (n : ℕ) (d : Designator × List Bool) → (leading_number 8 a.1 >>= λ b. Ok (record { number = number b.0; codewords = n }, b.1)) ≡ Ok d → length d.1 ≤ length a.1
-short-shorter a number n d h =
-    let b = bind-ok (leading_number 8 a.1) _ d h in
-    omega (arith, number-shorter _ _ _ b.1, ap (λ (t : Designator × List Bool). length t.1) (same-ok _ _ b.2))
+short-shorter a number n d h = search (arith, bind-ok, number-shorter, same-ok)
 
 -- reading a designator leaves no more bits than there were
 designator-shorter : (bits : List Bool) (d : Designator × List Bool) → designator_at bits ≡ Ok d → length d.1 ≤ length bits
@@ -63,50 +61,18 @@ unfolding designator_at
 designator-shorter bits d h =
     let a = bind-ok (leading_number 8 bits) _ d h in
     let less = number-shorter 8 bits a.0 a.1 in
-    ⊎_elim (λ (e : nat_lt a.0.0 128 ≡ true). let k = rw e at a.2 in omega (arith, less, ap (λ (t : Designator × List Bool). length t.1) (same-ok _ _ k)))
-    (λ (e : nat_lt a.0.0 128 ≡ false). let k = rw e at a.2 in
-    ⊎_elim (λ (f : nat_lt a.0.0 192 ≡ true). let m = rw f at k in omega (arith, less, short-shorter a.0 (λ n. 256 * (a.0.0 - 128) + n) 2 d m))
-    (λ (f : nat_lt a.0.0 192 ≡ false). let m = rw f at k in
-    let g = guard-ok (nat_le 224 a.0.0) BadValue _ d m in
-    let b = bind-ok (leading_number 16 a.0.1) _ d g.1 in
-    let last = number-shorter 16 a.0.1 b.0 b.1 in
-    ⊎_elim (λ (o : nat_lt (65536 * (a.0.0 - 192) + b.0.0) 1000000 ≡ true). let p = rw o at b.2 in omega (arith, less, last, ap (λ (t : Designator × List Bool). length t.1) (same-ok _ _ p)))
-    (λ (o : nat_lt (65536 * (a.0.0 - 192) + b.0.0) 1000000 ≡ false). let p = rw o at b.2 in grind arith)
-    (cases_Bool (nat_lt (65536 * (a.0.0 - 192) + b.0.0) 1000000)))
-    (cases_Bool (nat_lt a.0.0 192)))
-    (cases_Bool (nat_lt a.0.0 128))
+    search (arith, same-ok, short-shorter, guard-ok, bind-ok, number-shorter)
 
 -- reading an application indicator leaves no more bits than there were
 application-shorter : (bits : List Bool) (a : ℕ × List Bool) → application_at bits ≡ Ok a → length a.1 ≤ length bits
 unfolding application_at
-application-shorter bits a h =
-    let n = bind-ok (leading_number 8 bits) _ a h in
-    let less = number-shorter 8 bits n.0 n.1 in
-    ⊎_elim (λ (e : is_application_indicator n.0.0 ≡ true). let k = rw e at n.2 in omega (arith, less, ap (λ (t : ℕ × List Bool). length t.1) (same-ok _ _ k)))
-    (λ (e : is_application_indicator n.0.0 ≡ false). let k = rw e at n.2 in grind arith)
-    (cases_Bool (is_application_indicator n.0.0))
+application-shorter bits a h = search (arith, bind-ok, number-shorter, same-ok)
 
 -- an item has at least the four bits of its indicator
 pub item-shorter : (v : ℕ) (may : Bool) (bits : List Bool) (i : Item × List ℕ × List Bool) → 4 ≤ length bits → item_at v may bits ≡ Ok i → length i.2 + 4 ≤ length bits
 unfolding item_at
 item-shorter v may bits i four h =
-    let rest = length-drop 4 bits in
-    let n = value (take 4 bits) in
-    ⊎_elim (λ (e : (n == 7) ≡ true). let k = rw e at h in
-    let d = bind-ok (designator_at (drop 4 bits)) _ i k in
-    omega (arith, rest, designator-shorter _ _ d.1, ap (λ (t : Item × List ℕ × List Bool). length t.2) (same-ok _ _ d.2)))
-    (λ (e : (n == 7) ≡ false). let k = rw e at h in
-    ⊎_elim (λ (f : (may && n == 5) ≡ true). let m = rw f at k in omega (arith, rest, ap (λ (t : Item × List ℕ × List Bool). length t.2) (same-ok _ _ m)))
-    (λ (f : (may && n == 5) ≡ false). let m = rw f at k in
-    ⊎_elim (λ (g : (may && n == 9) ≡ true). let o = rw g at m in
-    let a = bind-ok (application_at (drop 4 bits)) _ i o in
-    omega (arith, rest, application-shorter _ _ a.1, ap (λ (t : Item × List ℕ × List Bool). length t.2) (same-ok _ _ a.2)))
-    (λ (g : (may && n == 9) ≡ false). let o = rw g at m in
-    let s = bind-ok (segment_at v bits) _ i o in
-    omega (arith, segment-shorter v bits s.0 four s.1, ap (λ (t : Item × List ℕ × List Bool). length t.2) (same-ok _ _ s.2)))
-    (cases_Bool (may && n == 9)))
-    (cases_Bool (may && n == 5)))
-    (cases_Bool (n == 7))
+    search (arith, length-drop, bind-ok, designator-shorter, same-ok, application-shorter, segment-shorter)
 
 -- an item, and then the rest
 abbrev pub step : Bool → Result (Item × List ℕ × List Bool) ParseFault → (Bool → List Bool → Result (List Item × List ℕ) ParseFault) → Result (List Item × List ℕ) ParseFault
@@ -150,7 +116,7 @@ behind-none (Err e) = refl
 -- one more item is read
 pub behind-more : (v : ℕ) (may : Bool) (bits rest : List Bool) (items : List Item) (xs ys : List ℕ) (i : Item) → ends bits ≡ false → item_at v may bits ≡ Ok (i, ys, rest)
     → behind items xs (items_of v may bits) ≡ behind (items ++ i ∷ []) (xs ++ ys) (items_of v (may_follow may i) rest)
-behind-more v may bits rest items xs ys i e h = rw (items-step v may bits e, h) (grind (arith, append_assoc))
+behind-more v may bits rest items xs ys i e h = search (arith, items-step, append_assoc)
 
 -- a fault of the next item is the fault of the whole parse
 pub fault-all : (v : ℕ) (may : Bool) (bits start : List Bool) (items : List Item) (xs : List ℕ) (f : ParseFault) → ends bits ≡ false → IsFaultOf f (item_at v may bits)

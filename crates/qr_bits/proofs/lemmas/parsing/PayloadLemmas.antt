@@ -15,13 +15,13 @@ value-take-below w bs = search (arith, length-take, value-below, pow-le-pow_righ
 pub digits-step : (n m : ℕ) (bs : List Bool) → n ≡ suc (suc (suc m)) → let g = value (take 10 bs) in (10 + payload_bits Numeric m ≡ payload_bits Numeric n)
     × (g < 1000 → digits_of n bs ≡ (digits_of m (drop 10 bs) >>= λ xs. Ok (digit (g / 100) ∷ digit (g / 10) ∷ digit g ∷ xs))) × (1000 ≤ g → digits_of n bs ≡ Err BadValue)
 unfolding digits_of
-digits-step n m bs h = (rw h (search (arith, three-more)), λ l. rw (h, lt-ltb _ 1000 l) refl, λ l. rw (h, le-ltb _ 1000 l) refl)
+digits-step n m bs h = search (arith, three-more, lt-ltb, le-ltb)
 
 -- two characters, and the characters after them; or a number that is too large
 pub characters-step : (n m : ℕ) (bs : List Bool) → n ≡ suc (suc m) → let g = value (take 11 bs) in (11 + payload_bits Alphanumeric m ≡ payload_bits Alphanumeric n)
     × (g < 2025 → characters_of n bs ≡ (characters_of m (drop 11 bs) >>= λ xs. Ok (character (g / 45) ∷ character (g % 45) ∷ xs))) × (2025 ≤ g → characters_of n bs ≡ Err BadValue)
 unfolding characters_of
-characters-step n m bs h = (omega (arith, h), λ l. rw (h, lt-ltb _ 2025 l) refl, λ l. rw (h, le-ltb _ 2025 l) refl)
+characters-step n m bs h = search (arith, lt-ltb, le-ltb)
 
 -- what was read before, and what `read` reads from the first w bits, make the whole
 pub record IsReading (read : Result (List ℕ) ParseFault) (w : ℕ) (out : List ℕ) (bits : List Bool) (whole : Result (List ℕ) ParseFault) (end : List Bool) : Type 0 where
@@ -30,17 +30,13 @@ pub record IsReading (read : Result (List ℕ) ParseFault) (w : ℕ) (out : List
   pub rest : drop w bits ≡ end
 
 after-group : (out new group : List ℕ) (later read : Result (List ℕ) ParseFault) → new ≡ out ++ group → read ≡ (later >>= λ xs. Ok (group ++ xs)) → prepend_read new later ≡ prepend_read out read
-after-group out new group (Ok xs) read o e = rw (o, e) (ap (λ (ys : List ℕ). Ok ys) (append_assoc out group xs))
+after-group out new group (Ok xs) read o e = cc (append_assoc out group xs)
 after-group out new group (Err f) read o e = rw e refl
 
 -- a group of k bits is read
 pub group-read : {w m : ℕ} {out new : List ℕ} {bits rest end : List Bool} {read later whole : Result (List ℕ) ParseFault} (k : ℕ) (group : List ℕ) → IsReading read m out bits whole end
     → k + w ≡ m → rest ≡ drop k bits → new ≡ out ++ group → read ≡ (later >>= λ xs. Ok (group ++ xs)) → IsReading later w new rest whole end
-group-read {w = w} {bits = bits} k group h e r o f = record {
-  reads = after-group _ _ group _ _ o f ∙ h.reads;
-  there = omega (arith, e, h.there, ap length r, length-drop k bits);
-  rest = ap (drop w) r ∙ drop-drop w k bits ∙ ap (λ (i : ℕ). drop i bits) e ∙ h.rest;
-}
+group-read {w = w} {bits = bits} k group h e r o f = search (arith, after-group, length-drop, drop-drop)
 
 -- if the rest fails, the whole fails
 pub fails : {w : ℕ} {out : List ℕ} {bits end : List Bool} {read whole : Result (List ℕ) ParseFault} {f : ParseFault} → IsReading read w out bits whole end → read ≡ Err f → IsFaultOf f whole

@@ -1,6 +1,6 @@
 -- A parse reads back every stream that is written, and what it reads is a stream.
-use Rattle.std.proofs.Common.{◌≡◌, ℕ, zero, suc, ◌+◌, ◌-◌, ◌*◌, ◌/◌, ◌%◌, ◌^◌, ◌<◌, ◌≤◌, Bool, true, false, ◌==◌, nat_le, nat_lt, All, List, [], ◌∷◌, ◌++◌, length, take, drop, Ok, Option, Some, refl, sym, ◌∙◌, ap, subst, ⊎_elim, arith, lit<, append_assoc, length-append}
-use Rattle.std.proofs.lemmas.Bool.{le-ltb, lt-ltb, ltb-true, lt-leb, le-leb, ltb-false, cases_Bool, eqb-true, and_parts}
+use Rattle.std.proofs.Common.{◌≡◌, ℕ, zero, suc, ◌^◌, ◌<◌, ◌≤◌, Bool, true, false, ◌==◌, nat_le, All, List, [], ◌∷◌, ◌++◌, length, take, drop, Ok, Option, Some, refl, subst, ⊎_elim, arith, lit<, append_assoc, length-append}
+use Rattle.std.proofs.lemmas.Bool.{le-ltb, lt-ltb, le-leb, ltb-false, cases_Bool, eqb-true, and_parts}
 use Rattle.std.proofs.lemmas.List.{length-take-le, length-drop, drop-drop, take-append-drop}
 use Rattle.std.proofs.lemmas.List.Elements.{All-nil, All-append, All-take, All-drop}
 use Rattle.std.proofs.Math.Seq.{take-append_seam, drop-append_seam}
@@ -9,7 +9,7 @@ use Rattle.qr_bits.specs.declared.{modes.Mode.Mode, segment.Segment.Segment, hea
 use Rattle.qr_bits.specs.{Bits.{field, value}, Header.{header_indicator, header_stream, HeaderFits}}
 use Rattle.qr_bits.specs.declared.interpretation.{Interpretation.Interpretation, Item.TheVariants.{Data, Eci, Fnc1First}}
 use Rattle.qr_bits.specs.declared.interpretation.Interpretation.TheVariants as written
-use Rattle.qr_bits.specs.Interpretation.{plain, may_follow, meant_bytes, designator, designator_codewords, interpretation_stream, InterpretationFits, items_in}
+use Rattle.qr_bits.specs.Interpretation.{plain, may_follow, designator, designator_codewords, interpretation_stream, InterpretationFits, items_in}
 use Rattle.qr_bits.specs.Modes.{character_count, count_width, byte_count, payload_bits, suits, indicator}
 use Rattle.qr_bits.specs.Stream.{payload, segment_stream, segments_stream, Suits, CountsFit, IsStream}
 use Rattle.qr_bits.specs.Parsing.{values_of, mode_of, ends, leading_number, payload_at, segment_at, designator_at, item_at, items_at, items_of, begins_header, header_at, first_header, content_of, plain_content, parse}
@@ -42,8 +42,8 @@ unfolding payload_at
 payload-takes m n bits p h =
     let g = guard-ok _ _ _ p h in
     let b = bind-ok (values_of m n bits) _ p g.1 in
-    let P : List ℕ × List Bool → Type 0 = λ t. IsWritten m n bits t.0 × (t.1 ≡ drop (payload_bits m (byte_count m n)) bits) in
-    subst P (same-ok (b.0, drop (payload_bits m (byte_count m n)) bits) p b.2) (values-takes m n b.0 bits (ltb-false _ _ g.0) b.1, refl)
+    let w = values-takes m n b.0 bits (ltb-false _ _ g.0) b.1 in
+    search (arith, same-ok)
 
 mode-again : (m : Mode) → mode_of (indicator m) ≡ Ok m
 unfolding mode_of
@@ -84,12 +84,7 @@ segment-from : (v : ℕ) (m : Mode) (bits : List Bool) (n : ℕ × List Bool) (p
     → IsSegment v bits (record { mode = m; len = byte_count m n.0 }) p.0 p.1
 unfolding segment_stream
 segment-from v m bits n p four e number said =
-    let w = said.0 in
-    let count = field (count_width v m) n.0 in
-    let b : n.1 ≡ payload m p.0 ++ p.1 = cc in
-    let tail : drop 4 bits ≡ count ++ (payload m p.0 ++ p.1) = number.1 ∙ ap (λ (t : List Bool). count ++ t) b in
-    let head : take 4 bits ≡ field 4 (indicator m) = sym (field-read 4 bits four) ∙ ap (field 4) e in
-    grind (arith, append_assoc, take-append-drop)
+    let head = field-read 4 bits four in search (arith, append_assoc, take-append-drop)
 
 -- if a segment is read, its stream comes first in the bits that were read
 pub segment-takes : (v : ℕ) (bits : List Bool) (s : Segment × List ℕ × List Bool) → 4 ≤ length bits → segment_at v bits ≡ Ok s → IsSegment v bits s.0 s.1 s.2
@@ -98,8 +93,8 @@ segment-takes v bits s four h =
     let m = bind-ok (mode_of (value (take 4 bits))) _ s h in
     let n = bind-ok (leading_number (count_width v m.0) (drop 4 bits)) _ s m.2 in
     let p = bind-ok (payload_at m.0 n.0.0 n.0.1) _ s n.2 in
-    subst (λ (t : Segment × List ℕ × List Bool). IsSegment v bits t.0 t.1 t.2) (same-ok _ _ p.2)
-    (segment-from v m.0 bits n.0 p.0 four (mode-takes _ _ m.1) (number-takes _ _ _ n.1) (payload-takes _ _ _ _ p.1))
+    let is = segment-from v m.0 bits n.0 p.0 four (mode-takes _ _ m.1) (number-takes _ _ _ n.1) (payload-takes _ _ _ _ p.1) in
+    search (arith, same-ok)
 
 pub opens : (v : ℕ) (m : Mode) (xs : List ℕ) (rest : List Bool) → ends (segment_stream v m xs ++ rest) ≡ false
 unfolding ends
@@ -162,18 +157,12 @@ segments-takes : (n v : ℕ) (may : Bool) (bits : List Bool) (segs : List Segmen
 unfolding items_at
 segments-takes zero v may bits [] xs few h = search (arith, same-ok, segments-none, ended-empty)
 segments-takes zero v may bits (s ∷ ss) xs few h = grind arith
-segments-takes (suc n) v may bits [] xs few h = ⊎_elim (search (arith, same-ok, segments-none)) (λ (e : ends bits ≡ false).
-    let i = bind-ok (item_at v may bits) _ (plain [], xs) (rw e at h) in
-    let q = bind-ok (items_at n v (may_follow may i.0.0) i.0.2) _ (plain [], xs) i.2 in
-    grind arith)
-    (cases_Bool (ends bits))
-segments-takes (suc n) v may bits (s ∷ ss) xs few h = ⊎_elim (λ (e : ends bits ≡ true). let k = rw e at h in grind arith) (λ (e : ends bits ≡ false).
+segments-takes (suc n) v may bits [] xs few h = search (arith, same-ok, segments-none, bind-ok)
+segments-takes (suc n) v may bits (s ∷ ss) xs few h = ⊎_elim (λ (e : ends bits ≡ true). grind arith) (λ (e : ends bits ≡ false).
     let four = not_ended bits e in
     let i = bind-ok (item_at v may bits) _ (plain (s ∷ ss), xs) (rw e at h) in
     let q = bind-ok (items_at n v (may_follow may i.0.0) i.0.2) _ (plain (s ∷ ss), xs) i.2 in
     let less = item-shorter v may bits i.0 four i.1 in
-    let first : i.0.0 ≡ Data s = grind arith in
-    let rest : q.0.0 ≡ plain ss = grind arith in
     let all : i.0.1 ++ q.0.1 ≡ xs = grind arith in
     let segment : segment_at v bits ≡ Ok (s, i.0.1, i.0.2) = search (arith, item-is-segment) in
     subst (λ (t : List ℕ). IsSegments v bits (s ∷ ss) t) all
@@ -202,7 +191,7 @@ header-parts bits long =
     let b = field-read 4 (drop 4 bits) (omega (arith, length-drop 4 bits)) in
     let c = field-read 8 (drop 8 bits) (omega (arith, length-drop 8 bits)) in
     let last = take-append-drop 8 (drop 8 bits) in
-    search (arith, drop-drop, take-append-drop, append_assoc)
+    search arith
 
 -- the stream of a header, with any bits after it, is read as this header
 header-again : (h : Header) (rest : List Bool) → HeaderFits (Some h) → first_header (header_stream (Some h) ++ rest) ≡ Ok (Some h, rest)
@@ -223,11 +212,11 @@ header-again h rest all_fit =
     let b = read-field 4 h.last (q ++ rest) fits.1 in
     let c = read-field 8 h.parity rest fits.2 in
     let d = drop-field 4 header_indicator behind in
-    rw (whole, starts behind, d, header-whole behind long, a, after_p, b, after_l, c, after_q) refl
+    search (arith, starts, header-whole)
 
 none-begins : (v : ℕ) (xs : List ℕ) (segs : List Segment) (tail : List Bool) → ends tail ≡ true → begins_header (segments_stream v xs segs ++ tail) ≡ false
 unfolding begins_header segments_stream ends
-none-begins v xs [] tail e = search (arith, lt-leb, eqb-true, le-ltb, le-leb)
+none-begins v xs [] tail e = search arith
 none-begins v xs (s ∷ ss) tail e = grind (arith, first-four, append_assoc, le-leb)
 
 first-again : (h : Option Header) (rest : List Bool) → HeaderFits h → begins_header rest ≡ false → first_header (header_stream h ++ rest) ≡ Ok (h, rest)
@@ -248,35 +237,13 @@ marked-begins : (v : ℕ) (i : Interpretation) (xs : List ℕ) (segs : List Segm
     → begins_header (interpretation_stream i ++ (segments_stream v xs segs ++ tail)) ≡ false
 unfolding interpretation_stream
 marked-begins v written.Default xs segs tail e = none-begins v xs segs tail e
-marked-begins v (written.Eci n) xs segs tail e = rw (append_assoc (field 4 7) (designator n) (segments_stream v xs segs ++ tail)) (other-begins 7 _ (lit< tt) refl)
+marked-begins v (written.Eci n) xs segs tail e = search (arith, append_assoc, other-begins)
 marked-begins v written.Gs1 xs segs tail e = other-begins 5 _ (lit< tt) refl
 
 -- the shortest designator of a number is read as this number
 designator-again : (n : ℕ) (rest : List Bool) → n < 1000000 → designator_at (designator n ++ rest) ≡ Ok (record { number = n; codewords = designator_codewords n }, rest)
 unfolding designator_at designator
-designator-again n rest h = ⊎_elim (λ (e : nat_lt n 128 ≡ true).
-    let small = ltb-true n 128 e in
-    rw (e, number-again 8 n rest (omega arith), e) refl)
-    (λ (e : nat_lt n 128 ≡ false).
-    let large = ltb-false n 128 e in
-    ⊎_elim (λ (f : nat_lt n 16384 ≡ true).
-    let small = ltb-true n 16384 f in
-    let high : 128 + n / 256 < 2 ^ 8 = omega arith in
-    let a : nat_lt (128 + n / 256) 128 ≡ false = le-ltb _ _ (omega arith) in
-    let b : nat_lt (128 + n / 256) 192 ≡ true = lt-ltb _ _ (omega arith) in
-    let whole : 256 * (128 + n / 256 - 128) + n % 256 ≡ n = omega arith in
-    rw (e, f, append_assoc (field 8 (128 + n / 256)) (field 8 (n % 256)) rest, number-again 8 (128 + n / 256) (field 8 (n % 256) ++ rest) high, a, b, number-again 8 (n % 256) rest (omega arith), whole) refl)
-    (λ (f : nat_lt n 16384 ≡ false).
-    let more = ltb-false n 16384 f in
-    let high : 192 + n / 65536 < 2 ^ 8 = omega arith in
-    let a : nat_lt (192 + n / 65536) 128 ≡ false = le-ltb _ _ (omega arith) in
-    let b : nat_lt (192 + n / 65536) 192 ≡ false = le-ltb _ _ (omega arith) in
-    let d : nat_le 224 (192 + n / 65536) ≡ false = lt-leb _ _ (omega arith) in
-    let whole : 65536 * (192 + n / 65536 - 192) + n % 65536 ≡ n = omega arith in
-    let six : nat_lt n 1000000 ≡ true = lt-ltb _ _ h in
-    rw (e, f, append_assoc (field 8 (192 + n / 65536)) (field 16 (n % 65536)) rest, number-again 8 (192 + n / 65536) (field 16 (n % 65536) ++ rest) high, a, b, d, number-again 16 (n % 65536) rest (omega arith), whole, six) refl)
-    (cases_Bool (nat_lt n 16384)))
-    (cases_Bool (nat_lt n 128))
+designator-again n rest h = search (arith, number-again, lt-ltb, le-ltb, append_assoc)
 
 eci-again : (v : ℕ) (may : Bool) (n : ℕ) (rest : List Bool) → n < 1000000
     → item_at v may (field 4 7 ++ (designator n ++ rest)) ≡ Ok (Eci (record { number = n; codewords = designator_codewords n }), [], rest)
@@ -293,11 +260,9 @@ marked-again : (v : ℕ) (i : Interpretation) (xs : List ℕ) (segs : List Segme
 unfolding interpretation_stream
 marked-again v written.Default xs segs tail six bytes suit fits e = segments-again v true xs segs tail bytes suit fits e
 marked-again v (written.Eci n) xs segs tail six bytes suit fits e =
-    let rest = segments_stream v xs segs ++ tail in
-    rw (append_assoc (field 4 7) (designator n) rest, items-step v true (field 4 7 ++ (designator n ++ rest)) (other-opens 7 _ (lit< tt) refl), eci-again v true n rest six, segments-again v true xs segs tail bytes suit fits e) refl
+    search (arith, append_assoc, items-step, other-opens, eci-again, segments-again)
 marked-again v written.Gs1 xs segs tail six bytes suit fits e =
-    let rest = segments_stream v xs segs ++ tail in
-    rw (items-step v true (field 4 5 ++ rest) (other-opens 5 _ (lit< tt) refl), gs1-again v rest, segments-again v false xs segs tail bytes suit fits e) refl
+    search (arith, items-step, other-opens, gs1-again, segments-again)
 
 fits-of : (h : Header) → h.position < 16 → h.last < 16 → h.parity < 256 → HeaderFits (Some h)
 fits-of h a b d = search arith
@@ -324,10 +289,7 @@ first-takes bits r h = ⊎_elim (λ (e : begins_header bits ≡ true).
 pub parse-again : (v : ℕ) (xs : List ℕ) (segs : List Segment) (h : Option Header) (i : Interpretation) (front tail : List Bool) → IsStream v xs segs h i front → ends tail ≡ true
     → parse v (front ++ tail) ≡ Ok (content_of h (items_in i segs) xs)
 unfolding parse
-parse-again v xs segs h i front tail is e =
-    let rest = interpretation_stream i ++ (segments_stream v xs segs ++ tail) in
-    let whole : front ++ tail ≡ header_stream h ++ rest = rw is.whole (search (arith, append_assoc)) in
-    rw (whole, first-again h rest is.header (marked-begins v i xs segs tail e), marked-again v i xs segs tail is.interpretation is.bytes is.suit is.counts e) refl
+parse-again v xs segs h i front tail is e = search (arith, append_assoc, first-again, marked-begins, marked-again)
 
 -- As `parse-again`, without an ECI header and FNC1.
 pub parse_plain : (v : ℕ) (xs : List ℕ) (segs : List Segment) (h : Option Header) (front tail : List Bool) → IsStream v xs segs h written.Default front → ends tail ≡ true
@@ -345,9 +307,5 @@ parse_takes v bits h segs xs e =
     let a = bind-ok (first_header bits) _ _ e in
     let r = bind-ok (items_at (length a.0.1) v true a.0.1) _ _ a.2 in
     let first = first-takes bits a.0 a.1 in
-    let same : r.0.0 ≡ plain segs = grind arith in
-    let header : a.0.0 ≡ h = grind arith in
     let others = segments-takes (length a.0.1) v true a.0.1 segs r.0.1 (omega arith) (search arith) in
-    let meant : meant_bytes false r.0.0 r.0.1 ≡ xs = grind arith in
-    let bytes : r.0.1 ≡ xs = cc (meant, same, meant-plain segs r.0.1 others.suit) in
-    search (arith, same-ok, append_assoc)
+    search (arith, meant-plain, same-ok, append_assoc)

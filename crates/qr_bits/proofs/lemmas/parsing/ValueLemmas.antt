@@ -1,7 +1,7 @@
 -- The data of a segment: what is written is read back, and what is read is written as the same bits.
-use Rattle.std.proofs.Common.{◌≡◌, ℕ, zero, suc, ◌+◌, ◌*◌, ◌/◌, ◌%◌, ◌<◌, ◌≤◌, Bool, true, All, List, [], ◌∷◌, ◌++◌, length, take, drop, Ok, refl, ap, subst, arith, append_assoc}
+use Rattle.std.proofs.Common.{◌≡◌, ℕ, zero, suc, ◌+◌, ◌*◌, ◌/◌, ◌%◌, ◌<◌, ◌≤◌, Bool, true, All, List, [], ◌∷◌, ◌++◌, length, take, drop, Ok, refl, ap, arith, append_assoc}
 use Rattle.std.proofs.lemmas.Bool.{lt-ltb, ltb-true, and_parts, and_from}
-use Rattle.std.{proofs.lemmas.List.length-drop, proofs.lemmas.List.take-append-drop, specs.List.list_all}
+use Rattle.std.{proofs.lemmas.List.length-drop, specs.List.list_all}
 use Rattle.std.proofs.lemmas.List.Elements.{All-nil, All-cons, All-head, All-tail}
 use Rattle.qr_bits.specs.{declared.modes.Mode.Mode, Stream.character_bits, Stream.payload}
 use Rattle.qr_bits.specs.declared.modes.Mode.TheVariants.{Numeric, Alphanumeric, Byte, Kanji}
@@ -19,7 +19,7 @@ characters-again [] rest h = refl
 characters-again (a ∷ []) rest h =
     let p = (and_parts (is_alphanumeric a) true h).0 in
     let small = character-found a p in
-    let r = read-field 6 (character_value a) rest (omega (arith, small)) in
+    let r = read-field 6 (character_value a) rest (omega arith) in
     search (arith, lt-ltb, character-again)
 characters-again (a ∷ b ∷ xs) rest h =
     let p = and_parts (is_alphanumeric a) _ h in
@@ -27,10 +27,9 @@ characters-again (a ∷ b ∷ xs) rest h =
     let sa = character-found a p.0 in
     let sb = character-found b q.0 in
     let g = 45 * character_value a + character_value b in
-    let low : g < 2025 = omega (arith, sa, sb) in
-    let first : g / 45 ≡ character_value a = omega (arith, sa, sb) in
-    let second : g % 45 ≡ character_value b = omega (arith, sa, sb) in
-    let r = read-field 11 g (character_bits xs ++ rest) (omega (arith, low)) in
+    let first : g / 45 ≡ character_value a = omega arith in
+    let second : g % 45 ≡ character_value b = omega arith in
+    let r = read-field 11 g (character_bits xs ++ rest) (omega arith) in
     let d = drop-field 11 g (character_bits xs ++ rest) in
     search (arith, append_assoc, lt-ltb, character-again, characters-again xs rest q.1)
 
@@ -42,20 +41,17 @@ characters-takes (suc zero) xs bs h e =
     let c = chosen-ok _ _ _ xs e in
     let t = character-taken (value (take 6 bs)) (ltb-true _ _ c.0) in
     let whole = field-read 6 bs h in
-    subst (IsWritten Alphanumeric 1 bs) (same-ok _ _ c.1) (search (arith, All-cons, All-nil, and_from, take-append-drop))
+    search arith
 characters-takes (suc (suc n)) xs bs h e =
     let g = value (take 11 bs) in
     let c = chosen-ok _ _ _ xs e in
     let b = bind-ok (characters_of n (drop 11 bs)) _ xs c.1 in
     let low : g < 2025 = ltb-true _ _ c.0 in
-    let two : suc (suc n) ≡ 2 + n = omega arith in
-    let room : 11 + payload_bits Alphanumeric n ≤ length bs = omega (arith, two-more) in
     let w = characters-takes n b.0 (drop 11 bs) (omega (arith, length-drop 11 bs)) b.1 in
     let i = character-taken (g / 45) (omega arith) in
     let j = character-taken (g % 45) (omega arith) in
-    let back : 45 * (g / 45) + g % 45 ≡ g = omega arith in
     let whole = more-written 11 (payload_bits Alphanumeric n) bs (character_bits b.0) (omega arith) w.whole in
-    rw two (subst (IsWritten Alphanumeric (2 + n) bs) (same-ok _ _ b.2) (search (arith, All-cons, and_from, two-more)))
+    search (arith, two-more, same-ok, All-cons, and_from)
 
 -- bytes that are written are read back
 pub bytes-again : (xs : List ℕ) (t : List Bool) → All (λ b. b < 256) xs → bytes_of (length xs) (bits_of xs ++ t) ≡ xs

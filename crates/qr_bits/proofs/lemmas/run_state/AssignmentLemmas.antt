@@ -25,7 +25,7 @@ Positive-prepend_mode m (s ∷ ss) h = search (arith, cond_both)
 Positive-runs_of : (ms : List Mode) → Positive (runs_of ms)
 unfolding runs_of
 Positive-runs_of [] = tt
-Positive-runs_of (m ∷ ms) = Positive-prepend_mode m (runs_of ms) (Positive-runs_of ms)
+Positive-runs_of (m ∷ ms) = search (arith, Positive-prepend_mode, Positive-runs_of ms)
 
 add-one : (test : ℕ → ℕ → Bool) (m : Mode) (x : ℕ) (xs : List ℕ) (segs : List Segment) → rank m < 3 → suits_by test m (x ∷ []) ≡ true → CoversBy test xs segs → CoversBy test (x ∷ xs) (prepend_mode m segs)
 unfolding CoversBy
@@ -39,7 +39,7 @@ drop-one t m x xs segs k p c = grind arith
 -- cover the other bytes
 drop-pair : (test : ℕ → ℕ → Bool) (x y : ℕ) (xs : List ℕ) (segs : List Segment) → Positive segs → CoversBy test (x ∷ y ∷ xs) (prepend_mode Kanji (prepend_mode Kanji segs)) → (test x y ≡ true) × CoversBy test xs segs
 unfolding CoversBy
-drop-pair test x y xs [] p c = ((and_parts (test x y) true c.2).0, c.3)
+drop-pair test x y xs [] p c = search (arith, and_parts)
 drop-pair test x y xs (s ∷ ss) p c =
     cond_both (3 == rank s.mode) _ _ (λ (r : List Segment). CoversBy test (x ∷ y ∷ xs) (prepend_mode Kanji r) → (test x y ≡ true) × CoversBy test xs (s ∷ ss))
     (λ e c.
@@ -77,14 +77,11 @@ one-can test r m x xs ms k rest h p e =
 pub can-take : (test : ℕ → ℕ → Bool) (r : Rule) (xs : List ℕ) (ms : List Mode) → IsAssignmentBy test r xs ms → CanTake test r xs ms
 unfolding CoversBy runs_of allowed may_take may_begin begins_with_pair state_after may_end
 can-take test r [] ms h p e = grind arith
-can-take test r (x ∷ xs) [] h p e = cc (h.1)
+can-take test r (x ∷ xs) [] h p e = cc
 can-take test r (x ∷ []) (Kanji ∷ ms) h p e = search (arith, alone, Positive-runs_of)
 can-take test r (x ∷ y ∷ xs) (Kanji ∷ []) h p e = absurd (false≢true h.1.2)
 can-take test r (x ∷ y ∷ xs) (Kanji ∷ Kanji ∷ ms) h p e =
-    let uses = and_parts (may_use r Kanji) _ h.0 in
-    let more = and_parts (may_use r Kanji) (list_all (may_use r) ms) uses.1 in
-    let parts = drop-pair test x y xs (runs_of ms) (Positive-runs_of ms) h.1 in
-    search (arith, and_from, take-begin, state_after-whole, can-take test r xs ms (more.1, parts.1) WholePair refl)
+    search (arith, and_parts, drop-pair, Positive-runs_of, and_from, take-begin, state_after-whole, can-take test r xs ms)
 can-take test r (x ∷ y ∷ xs) (Kanji ∷ m ∷ ms) h p e = search (arith, half)
 can-take test r (x ∷ xs) (m ∷ ms) h p e = one-can test r m x xs ms (lit< tt) (can-take test r xs ms) h p e
 

@@ -55,8 +55,7 @@ run-bits : (v : ℕ) (p : RunState) (m : Mode) (n : ℕ) → goes_on p m ≡ tru
     → cost_of v p (replicate n m) + payload_bits m (turn p) ≡ payload_bits m (turn p + n)
 unfolding cost_of
 run-bits v p m zero h = search arith
-run-bits v p m (suc n) h =
-    search (arith, one-more, eq-eqb, state_rank-after, run-bits v (state_after p m) m n (eq-eqb _ _ (state_rank-after p m)))
+run-bits v p m (suc n) h = search (arith, one-more, eq-eqb, state_rank-after, run-bits v (state_after p m) m n)
 
 -- the bits that segments add after a state, where the first segment may go on with the run before it
 abbrev rest_bits : ℕ → RunState → List Segment → ℕ
@@ -79,7 +78,7 @@ run-first v p m (s ∷ ss) =
     let other : goes_on (state_after p m) s.mode ≡ false = rw (state_rank-after p m) e in
     let f = cond-false (goes_on (state_after p m) s.mode) (cost_of v (state_after p m) (replicate s.len s.mode)) (segment_bits v s) other in
     let one = one-run v p m 0 in
-    omega (arith, one, f))
+    omega arith)
 
 rest_bits-runs_of : (v : ℕ) (p : RunState) (ms : List Mode) → cost_of v p ms ≡ rest_bits v p (runs_of ms)
 unfolding cost_of runs_of

@@ -1,7 +1,7 @@
 -- A `%` that alphanumeric mode doubles takes two steps, so that what is known of modes of characters holds for modes of
 -- bytes.
-use Rattle.std.proofs.Common.{◌≡◌, ℕ, ◌<◌, Bool, true, false, ◌&&◌, List, [], ◌∷◌, length, refl, ⊎_elim, arith, lit<}
-use Rattle.std.proofs.lemmas.Bool.{cases_Bool, and_parts, false≢true}
+use Rattle.std.proofs.Common.{◌≡◌, ℕ, ◌<◌, Bool, true, false, ◌&&◌, List, [], ◌∷◌, length, refl, arith, lit<}
+use Rattle.std.proofs.lemmas.Bool.{and_parts, false≢true}
 use Rattle.std.specs.List.{list_all}
 use Rattle.qr_bits.specs.declared.{modes.Mode.Mode, modes.Rule.Rule, run_state.RunState.RunState}
 use Rattle.qr_bits.specs.declared.modes.Mode.TheVariants.{Numeric, Alphanumeric, Byte, Kanji}
@@ -17,10 +17,7 @@ pub cost-written : (i : Interpretation) (v : ℕ) (p : RunState) (xs : List ℕ)
 unfolding cost_of_all cost_of
 cost-written i v p [] ms = rw (written-none i ms).0 refl
 cost-written i v p (x ∷ xs) [] = rw (unwritten i x xs).0 refl
-cost-written i v p (x ∷ xs) (m ∷ ms) = ⊎_elim
-    (λ (e : is_doubled i x m ≡ true). rw (doubled-step i x xs m ms, e, ← cost-written i v (state_after (state_after p m) m) xs ms) (omega arith))
-    (λ (e : is_doubled i x m ≡ false). rw (doubled-step i x xs m ms, e, ← cost-written i v (state_after p m) xs ms) refl)
-    (cases_Bool (is_doubled i x m))
+cost-written i v p (x ∷ xs) (m ∷ ms) = search (arith, doubled-step, cost-written i v (state_in i p x m) xs ms)
 
 -- only kanji mode asks whether a pair begins
 pub take-other : (r : Rule) (p : RunState) (x : ℕ) (q t : Bool) (m : Mode) → rank m < 3 → may_take r p x q m ≡ may_take r p x t m
@@ -61,9 +58,9 @@ kanji-same : (i : Interpretation) (r : Rule) (test : ℕ → ℕ → Bool) (p : 
     → (may_take r p x (begins_with_pair r test (x ∷ characters_in i xs ms)) Kanji && allowed r test (state_after p Kanji) (characters_in i xs ms) (doubled i xs ms))
     ≡ (may_take r p x (begins_with_pair r test (x ∷ xs)) Kanji && allowed_in i r test (state_after p Kanji) xs ms)
 unfolding begins_with_pair
-kanji-same i r test p x [] ms h = rw (h, (written-none i ms).1) refl
+kanji-same i r test p x [] ms h = search (arith, written-none)
 kanji-same i r test p x (y ∷ ys) [] h = rw (h, (unwritten i y ys).1) refl
-kanji-same i r test p x (y ∷ ys) (Kanji ∷ ms) h = rw (h, characters_in-step i y ys Kanji ms, (single-byte i y).1, (same-character i y).1) refl
+kanji-same i r test p x (y ∷ ys) (Kanji ∷ ms) h = search (arith, characters_in-step, single-byte, same-character)
 kanji-same i r test p x (y ∷ ys) (m ∷ ms) h = kanji-before i r test p x y ys m ms _ _ _ (lit< tt) h
 
 -- a byte that is written once may have a mode exactly if its character may
@@ -72,8 +69,8 @@ step-one : (i : Interpretation) (r : Rule) (test : ℕ → ℕ → Bool) (p : Ru
     → allowed r test p (character_for i x m ∷ characters_in i xs ms) (m ∷ doubled i xs ms)
     ≡ (may_take_in i r p x (begins_with_pair r test (x ∷ xs)) m && allowed_in i r test (state_after p m) xs ms)
 unfolding allowed
-step-one i r test p x xs Kanji ms e h = rw (same-character i x).1 (kanji-same i r test p x xs ms h)
-step-one i r test p x xs m ms e h = rw (h, take-other r p (character_for i x m) (begins_with_pair r test (character_for i x m ∷ characters_in i xs ms)) (begins_with_pair r test (x ∷ xs)) m (lit< tt)) refl
+step-one i r test p x xs Kanji ms e h = search (arith, same-character, kanji-same)
+step-one i r test p x xs m ms e h = search (arith, take-other)
 
 -- a byte that is written twice may have a mode exactly if its two characters may
 step-two : (i : Interpretation) (r : Rule) (test : ℕ → ℕ → Bool) (p : RunState) (x : ℕ) (xs : List ℕ) (m : Mode) (ms : List Mode) → rank m < 3
@@ -81,36 +78,23 @@ step-two : (i : Interpretation) (r : Rule) (test : ℕ → ℕ → Bool) (p : Ru
     → allowed r test p (character_for i x m ∷ character_for i x m ∷ characters_in i xs ms) (m ∷ m ∷ doubled i xs ms)
     ≡ (may_take_in i r p x (begins_with_pair r test (x ∷ xs)) m && allowed_in i r test (state_after (state_after p m) m) xs ms)
 unfolding allowed
-step-two i r test p x xs m ms k h =
-    let c = character_for i x m in
-    let q = begins_with_pair r test (c ∷ c ∷ characters_in i xs ms) in
-    let t = begins_with_pair r test (c ∷ characters_in i xs ms) in
-    rw (take-other r p c q (begins_with_pair r test (x ∷ xs)) m k)
-    (again-and _ _ _ _ (take-again r p c (begins_with_pair r test (x ∷ xs)) t m k) h)
+step-two i r test p x xs m ms k h = search (arith, take-other, again-and, take-again)
 
 -- the characters of bytes are allowed exactly if the bytes are
 pub allowed-written : (i : Interpretation) (r : Rule) (test : ℕ → ℕ → Bool) (p : RunState) (xs : List ℕ) (ms : List Mode)
     → allowed r test p (characters_in i xs ms) (doubled i xs ms) ≡ allowed_in i r test p xs ms
 unfolding allowed_in allowed
-allowed-written i r test p [] [] = rw ((written-none i []).0, (written-none i []).1) refl
-allowed-written i r test p [] (m ∷ ms) = rw ((written-none i (m ∷ ms)).0, (written-none i (m ∷ ms)).1) refl
-allowed-written i r test p (x ∷ xs) [] = rw ((unwritten i x xs).0, (unwritten i x xs).1) refl
-allowed-written i r test p (x ∷ xs) (m ∷ ms) = ⊎_elim
-    (λ (e : is_doubled i x m ≡ true).
-    let low : rank m < 3 = omega (arith, doubled-rank i x m e) in
-    rw (doubled-step i x xs m ms, characters_in-step i x xs m ms, e) (step-two i r test p x xs m ms low (allowed-written i r test (state_after (state_after p m) m) xs ms)))
-    (λ (e : is_doubled i x m ≡ false).
-    rw (doubled-step i x xs m ms, characters_in-step i x xs m ms, e) (step-one i r test p x xs m ms e (allowed-written i r test (state_after p m) xs ms)))
-    (cases_Bool (is_doubled i x m))
+allowed-written i r test p [] [] = search (arith, written-none)
+allowed-written i r test p [] (m ∷ ms) = search (arith, written-none)
+allowed-written i r test p (x ∷ xs) [] = search (arith, unwritten)
+allowed-written i r test p (x ∷ xs) (m ∷ ms) =
+    search (arith, doubled-rank, doubled-step, characters_in-step, step-two, step-one, allowed-written i r test (state_after (state_after p m) m) xs ms, allowed-written i r test (state_after p m) xs ms)
 
 -- the rule allows the modes of the characters exactly if it allows those of the bytes
 pub list_all-doubled : (i : Interpretation) (f : Mode → Bool) (xs : List ℕ) (ms : List Mode) → list_all f (doubled i xs ms) ≡ list_all f ms
 list_all-doubled i f [] ms = rw (written-none i ms).0 refl
 list_all-doubled i f (x ∷ xs) [] = rw (unwritten i x xs).0 refl
-list_all-doubled i f (x ∷ xs) (m ∷ ms) = ⊎_elim
-    (λ (e : is_doubled i x m ≡ true). rw (doubled-step i x xs m ms, e) (search (arith, list_all-doubled i f xs ms)))
-    (λ (e : is_doubled i x m ≡ false). rw (doubled-step i x xs m ms, e) (search (arith, list_all-doubled i f xs ms)))
-    (cases_Bool (is_doubled i x m))
+list_all-doubled i f (x ∷ xs) (m ∷ ms) = search (arith, doubled-step, list_all-doubled i f xs ms)
 
 -- modes that are allowed are as many as the bytes
 pub allowed-length : (i : Interpretation) (r : Rule) (test : ℕ → ℕ → Bool) (p : RunState) (xs : List ℕ) (ms : List Mode) → allowed_in i r test p xs ms ≡ true → length xs ≡ length ms

@@ -1,12 +1,12 @@
 -- Lists of segments: their bits, their lengths, and what they cover.
-use Rattle.std.proofs.Common.{◌≡◌, ℕ, ◌+◌, ◌*◌, ◌<◌, ◌≤◌, ◌↔◌, List, [], ◌∷◌, length, get_or, take, drop, refl, sym, ap, inl, inr, arith, IsTrue, All}
+use Rattle.std.proofs.Common.{◌≡◌, ℕ, ◌+◌, ◌*◌, ◌<◌, ◌≤◌, ◌↔◌, List, [], ◌∷◌, length, get_or, take, drop, refl, ap, arith, IsTrue, All}
 use Rattle.std.proofs.lemmas.{List.length-drop, List.drop_all, List.Sums.sum_by-cons}
 use Rattle.std.{proofs.{lemmas.List.Elements.{All-head, All-tail}, Math.Seq.drop-cons}, specs.List.sum_by}
 use Rattle.qr_bits.proofs.lemmas.segment.CoverLemmas.{CoversBy, suits-by, covers-by, by-covers}
 use Rattle.qr_bits.specs.declared.modes.{Mode.Mode, Mode.TheVariants.Numeric, Rule.Rule}
 use Rattle.qr_bits.specs.{declared.segment.Segment.Segment, Stream.Suits, Modes.{count_width, payload_bits, suits}}
 use Rattle.qr_bits.specs.declared.interpretation.Interpretation.{Interpretation}
-use Rattle.qr_bits.specs.Segmentation.{segment_bits, bits, rank, Covers, IsNotAfter, IsLeastSegmentation, HasFit}
+use Rattle.qr_bits.specs.Segmentation.{segment_bits, bits, Covers, IsNotAfter, IsLeastSegmentation, HasFit}
 
 -- a count field has at most 16 bits
 pub count_width-bound : (v : ℕ) (m : Mode) → count_width v m ≤ 16
@@ -31,8 +31,8 @@ bits-most v (s ∷ ss) h =
 
 suits-length : (xs : List ℕ) (segs : List Segment) → Suits xs segs → sum_by (λ s. s.len) segs ≡ length xs
 unfolding Suits
-suits-length xs [] h = ap length (sym h)
-suits-length xs (s ∷ ss) h = omega (arith, sum_by-cons (λ (t : Segment). t.len) s ss, suits-length (drop s.len xs) ss h.2, length-drop s.len xs, h.0)
+suits-length xs [] h = search arith
+suits-length xs (s ∷ ss) h = omega (arith, sum_by-cons (λ (t : Segment). t.len) s ss, suits-length (drop s.len xs) ss h.2, length-drop s.len xs)
 
 -- if segments cover the bytes, no segment is empty, and their lengths add up to the number of bytes
 pub covers-all : (xs : List ℕ) (segs : List Segment) → Covers xs segs → All (λ s. 0 < s.len) segs × (sum_by (λ s. s.len) segs ≡ length xs)
@@ -69,7 +69,7 @@ segment-least v s = omega (arith, payload-least s.mode s.len)
 pub bits-least : (v : ℕ) (xs : List ℕ) (ts : List Segment) → Suits xs ts → 10 * length xs ≤ 3 * bits v ts
 unfolding Suits
 bits-least v xs [] h = omega (arith, ap length h)
-bits-least v xs (s ∷ ss) h = omega (arith, segment-least v s, bits-least v (drop s.len xs) ss h.2, length-drop s.len xs, h.0)
+bits-least v xs (s ∷ ss) h = search (arith, segment-least, bits-least v (drop s.len xs) ss h.2, length-drop)
 
 -- The segments of the least segmentation cover its characters, and fit exactly if some valid assignment fits.
 pub least_fits : (i : Interpretation) (v : ℕ) (r : Rule) (xs ys : List ℕ) (segs : List Segment) → IsLeastSegmentation i v r xs ys segs
@@ -81,11 +81,7 @@ best-one : (ms ks : List Mode) → IsNotAfter ms ks → IsNotAfter ks ms → ms 
 best-one [] [] a b = refl
 best-one [] (k ∷ ks) a b = absurd b
 best-one (m ∷ ms) [] a b = absurd a
-best-one (m ∷ ms) (k ∷ ks) a b =
-    elim a [
-      | inl i ↦ search arith
-      | inr x ↦ elim b [ inl j ↦ (let e = ap rank x.0 in absurd (omega arith)) | inr y ↦ (let e = best-one ms ks x.1 y.1 in let f = x.0 in cc) ]
-    ]
+best-one (m ∷ ms) (k ∷ ks) a b = search (arith, best-one ms ks)
 
 -- There is only one least segmentation.
 pub segmentation-one : (i : Interpretation) (v : ℕ) (r : Rule) (xs ys zs : List ℕ) (ss ts : List Segment) → IsLeastSegmentation i v r xs ys ss → IsLeastSegmentation i v r xs zs ts

@@ -1,5 +1,5 @@
 -- An assignment to bytes is valid exactly if its modes are allowed, one after the other.
-use Rattle.std.proofs.Common.{◌≡◌, ℕ, true, List, length, replicate, refl, sym, ◌∙◌}
+use Rattle.std.proofs.Common.{◌≡◌, ℕ, true, List, length, replicate, refl, sym, ◌∙◌, arith}
 use Rattle.qr_bits.specs.declared.{modes.Mode.{Mode, TheVariants.Byte}, modes.Rule.Rule, interpretation.Interpretation.Interpretation}
 use Rattle.qr_bits.specs.declared.run_state.RunState.{TheVariants.Start}
 use Rattle.qr_bits.specs.Interpretation.{characters_in, doubled}
@@ -13,7 +13,7 @@ use Rattle.qr_bits.proofs.lemmas.best_modes.TableLemmas.{bytes-rest}
 
 -- the bits of an assignment are those that its bytes add
 pub bits-assigned : (i : Interpretation) (v : ℕ) (xs : List ℕ) (ms : List Mode) → bits v (runs_of (doubled i xs ms)) ≡ cost_of_all i v Start xs ms
-bits-assigned i v xs ms = bits-runs_of v (doubled i xs ms) ∙ cost-written i v Start xs ms
+bits-assigned i v xs ms = search (arith, bits-runs_of, cost-written)
 
 -- the modes of a valid assignment are allowed
 pub assigned-allowed : (i : Interpretation) (r : Rule) (xs : List ℕ) (ms : List Mode) → IsAssignment i r xs ms → allowed_in i r is_kanji_pair Start xs ms ≡ true
@@ -27,17 +27,11 @@ pub allowed-assigned : (i : Interpretation) (r : Rule) (xs : List ℕ) (ms : Lis
 unfolding may_end
 allowed-assigned i r xs ms h =
     let is = is-assignment is_kanji_pair r (characters_in i xs ms) (doubled i xs ms) Start refl (allowed-written i r is_kanji_pair Start xs ms ∙ h) in
-    (sym (list_all-doubled i (may_use r) xs ms) ∙ is.0, by-covers _ _ is.1)
+    search (arith, list_all-doubled, by-covers)
 
 -- the modes to which a table leads are the best assignment
 pub assignment-from-table : (i : Interpretation) (v : ℕ) (r : Rule) (xs : List ℕ) (rows : List ℕ) → IsBestTable i v r is_kanji_pair xs rows → IsBestAssignment i v r xs (follow_in i Start xs rows)
 unfolding may_end
 assignment-from-table i v r xs rows table =
     let some = table Start (replicate (length xs) Byte) (bytes-rest i r is_kanji_pair Start xs refl) in
-    let ms = follow_in i Start xs rows in
-    let best = some.1 in
-    record {
-      assignment = allowed-assigned i r xs ms best.is_allowed;
-      least = λ ks h. rw (bits-assigned i v xs ms, bits-assigned i v xs ks, best.has_bits) (best.least ks (assigned-allowed i r xs ks h));
-      first = λ ks h e. best.first ks (assigned-allowed i r xs ks h) (sym (bits-assigned i v xs ks) ∙ e ∙ bits-assigned i v xs ms ∙ best.has_bits);
-    }
+    search (arith, allowed-assigned, bits-assigned, assigned-allowed)

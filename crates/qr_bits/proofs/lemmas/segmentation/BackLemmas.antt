@@ -1,5 +1,5 @@
 -- Segments that grow at their end.
-use Rattle.std.proofs.Common.{◌≡◌, ℕ, zero, suc, ◌+◌, true, ◌==◌, false, List, [], ◌∷◌, ◌++◌, ◌≤◌, ◌<◌, length, replicate, reverse, refl, sym, ap, ◌∙◌, append_assoc, arith, rules}
+use Rattle.std.proofs.Common.{◌≡◌, ℕ, zero, suc, ◌+◌, true, ◌==◌, false, List, [], ◌∷◌, ◌++◌, ◌≤◌, ◌<◌, length, replicate, reverse, refl, sym, ◌∙◌, append_assoc, arith, rules}
 use Rattle.std.proofs.lemmas.{Bool.Decides.nat_tests, List.Sums.sum_by-cons, Bool.and_from, Bool.cond_both, Bool.ne_eqb, Bool.false≢true}
 use Rattle.{qr_bits.specs.{declared.modes.Mode.Mode, contracts.modes.Mode.the_type}, std.specs.List.{list_all, sum_by}}
 use Rattle.qr_bits.specs.{declared.modes.Rule.Rule, declared.segment.Segment.Segment, Modes.may_use}
@@ -53,10 +53,10 @@ pub found-more : {all : List Mode} {most n k : ℕ} {found : List Segment} {m : 
     → new ++ one_segment w i ≡ append_mode (found ++ one_segment m n) w → q ≡ state_after p w → 0 < i → i ≤ n + 1 → IsFound all most new w i q rows j
 found-more {p = p} rows row j i w q new h e l is f state some low = rw state (record {
   modes = h.modes ++ w ∷ [];
-  runs = f ∙ ap (λ (r : List Segment). append_mode r w) h.runs ∙ sym (runs_of-push h.modes w);
+  runs = cc (runs_of-push h.modes w);
   led = led-on p _ _ _ h.modes _ w e is h.led;
-  few = omega (arith, h.few, l, low);
-  first = λ z. absurd (omega (arith, z, some));
+  few = omega arith;
+  first = λ z. absurd (omega arith);
   next = on-after p w;
 })
 

@@ -5,7 +5,6 @@ use Rattle.qr_bits.proofs.lemmas.best_modes.ChoiceLemmas.{byte-used}
 use Rattle.std.{proofs.lemmas.List.take_all, proofs.lemmas.List.length-take-le, proofs.lemmas.Bool.cases_lt, specs.List.list_all}
 use Rattle.qr_bits.specs.declared.modes.{Mode.Mode, Mode.TheVariants.Byte, Rule.Rule, Rule.TheVariants.BytesOnly}
 use Rattle.qr_bits.specs.declared.interpretation.Interpretation.{Interpretation}
-use Rattle.qr_bits.specs.Interpretation.{characters_in, doubled}
 use Rattle.qr_bits.proofs.lemmas.interpretation.WrittenLemmas.{characters-bytes, doubled-bytes, length-written}
 use Rattle.qr_bits.specs.Segmentation.{bits, HasFit, IsAssignment, IsNotAfter, IsLeastSegmentation, IsLongestFit}
 use Rattle.qr_bits.specs.{Modes.may_use, Modes.count_width, Steps.Segmentation.one_segment}
@@ -23,8 +22,7 @@ not-after-self (m ∷ ms) = inr (refl, not-after-self ms)
 
 -- an assignment has a mode for each byte
 pub assignment-length : (i : Interpretation) (r : Rule) (xs : List ℕ) (ks : List Mode) → IsAssignment i r xs ks → length ks ≡ length xs
-assignment-length i r xs ks h =
-    omega (arith, length-written i xs ks, (covers-all (characters_in i xs ks) _ h.1).1, sum_by-runs_of (doubled i xs ks))
+assignment-length i r xs ks h = search (arith, length-written, covers-all, sum_by-runs_of)
 
 one-assignment : (i : Interpretation) (xs : List ℕ) (ks : List Mode) → IsAssignment i BytesOnly xs ks → ks ≡ replicate (length xs) Byte
 one-assignment i xs ks h = rw (← assignment-length i BytesOnly xs ks h) (only-bytes ks h.0)
@@ -32,7 +30,7 @@ one-assignment i xs ks h = rw (← assignment-length i BytesOnly xs ks h) (only-
 -- byte mode for each byte is an assignment
 bytes-assigned : (i : Interpretation) (r : Rule) (xs : List ℕ) → IsAssignment i r xs (replicate (length xs) Byte)
 bytes-assigned i r xs =
-    rw (characters-bytes i xs (length xs), doubled-bytes i xs (length xs)) (search (arith, all-used, byte-used, runs_of-replicate, one-covers))
+    search (arith, characters-bytes, doubled-bytes, all-used, byte-used, runs_of-replicate, one-covers)
 
 -- If only byte mode may be used, the one segment of all bytes is the least segmentation.
 pub bytes-least : (i : Interpretation) (v : ℕ) (xs : List ℕ) → IsLeastSegmentation i v BytesOnly xs xs (one_segment Byte (length xs))
@@ -72,8 +70,4 @@ bytes-fit i v r xs room few =
 
 -- An input that fits in byte mode alone is its own longest prefix that fits.
 pub whole-longest : (i : Interpretation) (v : ℕ) (r : Rule) (xs : List ℕ) (room : ℕ) → 4 + count_width v Byte + 8 * length xs ≤ room → IsLongestFit i v r xs room (length xs)
-whole-longest i v r xs room few = record {
-  inside = le_refl (length xs);
-  fits = rw (take_all (length xs) xs (le_refl (length xs))) (bytes-fit i v r xs room few);
-  longest = λ k h _. h;
-}
+whole-longest i v r xs room few = search (arith, le_refl, take_all, bytes-fit)

@@ -1,5 +1,5 @@
 -- If all bytes are digits, one segment of all digits takes the fewest bits.
-use Rattle.std.proofs.Common.{◌≡◌, ℕ, zero, suc, ◌+◌, ◌*◌, ◌/◌, ◌<◌, ◌≤◌, true, List, [], ◌∷◌, length, drop, replicate, length-drop, refl, sym, ap, arith, inl, inr, lit<, IsTrue}
+use Rattle.std.proofs.Common.{◌≡◌, ℕ, zero, suc, ◌+◌, ◌*◌, ◌/◌, ◌<◌, ◌≤◌, true, List, [], ◌∷◌, length, drop, replicate, length-drop, sym, ap, arith, inl, lit<, IsTrue}
 use Rattle.std.proofs.lemmas.Bool.Decides.{nat_tests}
 use Rattle.qr_bits.specs.declared.modes.{Mode.Mode, Mode.TheVariants.Numeric, Rule.Rule}
 use Rattle.qr_bits.specs.{declared.segment.Segment.Segment, Steps.Segmentation.one_segment}
@@ -23,25 +23,25 @@ segments-more-bits : (v : ℕ) (s : Segment) (ss : List Segment) (xs : List ℕ)
 unfolding CoversBy
 segments-more-bits v s [] xs c =
     let none = ap length c.3 in
-    omega (arith, segment-more v s.mode s.len c.0, length-drop s.len xs, none)
-segments-more-bits v s (t ∷ ts) xs c = omega (arith, segment-more v s.mode s.len c.0, length-drop s.len xs, segments-more-bits v t ts (drop s.len xs) c.3)
+    search (arith, segment-more, length-drop)
+segments-more-bits v s (t ∷ ts) xs c = search (arith, segment-more, length-drop, segments-more-bits v t ts (drop s.len xs) c.3)
 
 digits-fewest : (v : ℕ) (xs : List ℕ) (segs : List Segment) → CoversBy is_kanji_pair xs segs → bits v (one_segment Numeric (length xs)) ≤ bits v segs
 unfolding CoversBy
 digits-fewest v [] segs c = omega arith
-digits-fewest v (x ∷ xs) [] c = absurd (let e = ap length c in omega arith)
+digits-fewest v (x ∷ xs) [] c = search arith
 digits-fewest v (x ∷ xs) (s ∷ ss) c = omega (arith, segments-more-bits v s ss (x ∷ xs) c, digits-bits (length (x ∷ xs)))
 
 digits-first : (n : ℕ) (ks : List Mode) → n ≤ length ks → IsNotAfter (replicate n Numeric) ks
 digits-first zero ks h = tt
 digits-first (suc n) [] h = absurd (omega arith)
-digits-first (suc n) (Numeric ∷ ks) h = inr (refl, digits-first n ks (omega arith))
+digits-first (suc n) (Numeric ∷ ks) h = search (arith, digits-first n ks)
 digits-first (suc n) (_ ∷ ks) h = inl (lit< tt)
 
 one_segment-more : (v k n : ℕ) → k ≤ n → bits v (one_segment Numeric k) ≤ bits v (one_segment Numeric n)
 one_segment-more v zero n h = omega arith
-one_segment-more v (suc k) zero h = absurd (omega arith)
-one_segment-more v (suc k) (suc n) h = omega (arith, digits-bits (suc k), digits-bits (suc n))
+one_segment-more v (suc k) zero h = search arith
+one_segment-more v (suc k) (suc n) h = search (arith, digits-bits)
 
 -- If all bytes are digits, the one segment of all digits is the least segmentation.
 pub digits-least : (i : Interpretation) (v : ℕ) (r : Rule) (xs : List ℕ) → may_use r Numeric ≡ true → IsTrue (suits Numeric xs) → IsLeastSegmentation i v r xs xs (one_segment Numeric (length xs))
@@ -50,10 +50,10 @@ digits-least i v r xs u h =
     let modes = doubled-digits i xs (length xs) in (
       replicate (length xs) Numeric,
       record {
-        assignment = rw (written, modes) (search (arith, all-used, runs_of-replicate, one-covers));
-        least = λ ks k. rw (modes, runs_of-replicate Numeric (length xs))
-            (omega (arith, one_segment-more v (length xs) (length (characters_in i xs ks)) (characters-longer i xs ks), digits-fewest v (characters_in i xs ks) _ (covers-by _ _ k.1)));
-        first = λ ks k _. digits-first (length xs) ks (omega (arith, assignment-length i r xs ks k));
+        assignment = search (arith, all-used, runs_of-replicate, one-covers);
+        least = λ ks k. let longer = one_segment-more v (length xs) (length (characters_in i xs ks)) (characters-longer i xs ks) in
+            search (arith, runs_of-replicate, digits-fewest, covers-by);
+        first = search (arith, digits-first, assignment-length);
       },
       rw modes (sym (runs_of-replicate Numeric (length xs))),
       sym written,

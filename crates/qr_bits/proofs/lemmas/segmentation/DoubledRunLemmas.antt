@@ -23,50 +23,44 @@ pub record IsWritten (xs : List ℕ) (all : List Mode) (i : ℕ) (found : List S
   pub next : state_on p ≡ state_after p m
 
 -- a byte that the mode writes as itself
-pub plain_character : (m : Mode) (x : ℕ) → is_escaped m x ≡ false → (is_doubled Gs1 x m ≡ false) × (character_for Gs1 x m ≡ x)
-plain_character m x h = grind arith
+pub plain-character : (m : Mode) (x : ℕ) → is_escaped m x ≡ false → (is_doubled Gs1 x m ≡ false) × (character_for Gs1 x m ≡ x)
+plain-character m x h = grind arith
 
 -- a byte that alphanumeric mode writes as itself, as the other modes do
 pub unescaped : (m : Mode) (x : ℕ) → is_escaped Alphanumeric x ≡ false → is_escaped m x ≡ false
 unescaped m x h = grind arith
 
 -- of the other bytes `%` is doubled, and `%` is written for the separator
-pub percent_character : (m : Mode) (x : ℕ) → is_escaped m x ≡ true → x ≡ percent → (is_doubled Gs1 x m ≡ true) × (character_for Gs1 x m ≡ percent)
-percent_character m x h e = grind arith
+pub percent-character : (m : Mode) (x : ℕ) → is_escaped m x ≡ true → x ≡ percent → (is_doubled Gs1 x m ≡ true) × (character_for Gs1 x m ≡ percent)
+percent-character m x h e = grind arith
 
-pub separator_character : (m : Mode) (x : ℕ) → is_escaped m x ≡ true → (x ≡ percent → ⊥) → (is_doubled Gs1 x m ≡ false) × (character_for Gs1 x m ≡ percent)
-separator_character m x h e = grind (arith, eqb-true)
+pub separator-character : (m : Mode) (x : ℕ) → is_escaped m x ≡ true → (x ≡ percent → ⊥) → (is_doubled Gs1 x m ≡ false) × (character_for Gs1 x m ≡ percent)
+separator-character m x h e = grind (arith, eqb-true)
 
 -- one more byte that is written as itself
-pub plain_more : (xs chars : List ℕ) (copied i : ℕ) → copied ≤ i → i < length xs
+pub plain-more : (xs chars : List ℕ) (copied i : ℕ) → copied ≤ i → i < length xs
     → chars ++ take ((i + 1) - copied) (drop copied xs) ≡ (chars ++ take (i - copied) (drop copied xs)) ++ get_or xs i 0 ∷ []
-plain_more xs chars copied i h l =
-    let n : (i + 1) - copied ≡ (i - copied) + 1 = omega (arith, h) in
-    let at : copied + (i - copied) ≡ i = omega (arith, h) in
-    let one = take_more (drop copied xs) (i - copied) 0 (omega (arith, length-drop copied xs, h, l)) in
-    let same : get_or (drop copied xs) (i - copied) 0 ≡ get_or xs i 0 = get_or-drop copied xs (i - copied) 0 ∙ ap (λ (k : ℕ). get_or xs k 0) at in
-    rw (n, one, same) (sym (append_assoc chars (take (i - copied) (drop copied xs)) (get_or xs i 0 ∷ [])))
+plain-more xs chars copied i h l =
+    let one = take_more (drop copied xs) (i - copied) 0 (omega (arith, length-drop copied xs)) in
+    search (arith, length-drop, get_or-drop, append_assoc)
 
 -- what is written after byte `i` and before the next is nothing
-pub escaped_more : (xs chars : List ℕ) (i : ℕ) → chars ++ take ((i + 1) - (i + 1)) (drop (i + 1) xs) ≡ chars
-escaped_more xs chars i = let n : (i + 1) - (i + 1) ≡ 0 = omega arith in rw n (append-nil chars)
+pub escaped-more : (xs chars : List ℕ) (i : ℕ) → chars ++ take ((i + 1) - (i + 1)) (drop (i + 1) xs) ≡ chars
+escaped-more xs chars i = search (arith, append-nil)
 
 -- the modes of one more byte, and so its segment, which has one or two characters more
-runs_more : (ds : List Mode) (found : List Segment) (m : Mode) (n : ℕ) (d : Bool) → 0 < n → found ++ one_segment m n ≡ append_mode (runs_of ds) m
+runs-more : (ds : List Mode) (found : List Segment) (m : Mode) (n : ℕ) (d : Bool) → 0 < n → found ++ one_segment m n ≡ append_mode (runs_of ds) m
     → found ++ one_segment m (cond d (n + 1) n) ≡ runs_of (ds ++ cond d (m ∷ m ∷ []) (m ∷ []))
-runs_more ds found m n true h e =
-    rw (← append_assoc ds (m ∷ []) (m ∷ []), runs_of-push (ds ++ m ∷ []) m, runs_of-push ds m, ← e) (sym (run-same found m n (λ z. absurd (omega (arith, h, z)))))
-runs_more ds found m n false h e = e ∙ sym (runs_of-push ds m)
+runs-more ds found m n true h e =
+    rw (← append_assoc ds (m ∷ []) (m ∷ []), runs_of-push (ds ++ m ∷ []) m, runs_of-push ds m, ← e) (sym (run-same found m n (λ z. absurd (omega arith))))
+runs-more ds found m n false h e = e ∙ sym (runs_of-push ds m)
 
 -- the flag of the next row, and those of the others
 pub flags-next : (xs : List ℕ) (i : ℕ) {rows : List ℕ} (later : List ℕ) (row : ℕ) → AreFlagged (drop i xs) (reverse rows) → i < length xs → rows ≡ later ++ row ∷ []
     → (is_flagged row ≡ is_escaped Alphanumeric (get_or xs i 0)) × AreFlagged (drop (i + 1) xs) (reverse later)
 flags-next xs i {rows} later row h inside last =
     let both : is_flagged row ∷ map is_flagged (reverse later) ≡ is_escaped Alphanumeric (get_or xs i 0) ∷ map (is_escaped Alphanumeric) (drop (i + 1) xs) =
-    rw (last, reverse-append later (row ∷ []), drop_more xs i 0 inside) at h in (
-      ap (λ (flags : List Bool). get_or flags 0 false) both,
-      ap (λ (flags : List Bool). drop 1 flags) both,
-    )
+    rw (last, reverse-append later (row ∷ []), drop_more xs i 0 inside) at h in search arith
 
 -- one more byte, of the mode `w`
 pub written_more : {xs : List ℕ} {all : List Mode} {i : ℕ} {found : List Segment} {m : Mode} {n : ℕ} {p : RunState} {rows chars : List ℕ} {copied : ℕ}
@@ -80,19 +74,19 @@ written_more {xs} {all} {i} {found} {m} {n} {p} {rows} {chars} {copied} later ro
     let x = get_or xs i 0 in
     let next : drop i xs ≡ x ∷ drop (i + 1) xs = drop_more xs i 0 inside in
     let more : take (i + 1) xs ≡ take i xs ++ x ∷ [] = take_more xs i 0 inside in
-    let len : length (take i xs) ≡ length h.modes = length-take-le i xs (omega (arith, inside)) ∙ sym h.many in
+    let len : length (take i xs) ≡ length h.modes = length-take-le i xs (omega arith) ∙ sym h.many in
     let ds = doubled_gs1 (take i xs) h.modes in
     let modes = doubled-append Gs1 (take i xs) (x ∷ []) h.modes (w ∷ []) len ∙ ap (λ (r : List Mode). ds ++ r) (doubled-one Gs1 x w) in
     let own = characters-append Gs1 (take i xs) (x ∷ []) h.modes (w ∷ []) len ∙ ap (λ (r : List ℕ). characters_gs1 (take i xs) h.modes ++ r) (characters-one Gs1 x w) in
     record {
       modes = h.modes ++ w ∷ [];
-      many = length-append h.modes (w ∷ []) ∙ ap (λ (r : ℕ). r + 1) h.many;
-      runs = rw (count, more, modes) (runs_more ds new w k (is_doubled Gs1 x w) some (run ∙ ap (λ (r : List Segment). append_mode r w) h.runs));
+      many = cc (length-append h.modes (w ∷ []));
+      runs = search (arith, runs-more);
       characters = characters ∙ rw (more, own, h.characters) refl;
       led = rw state (led-on-in Gs1 p x (drop (i + 1) xs) rows later row h.modes all w last is (rw next at h.led));
       flags = (flags-next xs i later row h.flags inside last).1;
       inside = low;
-      short = cond_both (is_doubled Gs1 x w) _ _ (λ (r : ℕ). j ≡ r → j ≤ 2 * (i + 1)) (λ _ e. omega (arith, e, few, h.short)) (λ _ e. omega (arith, e, few, h.short)) count;
-      first = cond_both (is_doubled Gs1 x w) _ _ (λ (r : ℕ). j ≡ r → j ≡ 0 → new ≡ []) (λ _ e z. absurd (omega (arith, e, z, some))) (λ _ e z. absurd (omega (arith, e, z, some))) count;
+      short = search (arith, cond_both);
+      first = search (arith, cond_both);
       next = rw state (on-in Gs1 p x w);
     }

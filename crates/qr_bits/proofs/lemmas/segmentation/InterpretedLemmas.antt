@@ -19,9 +19,7 @@ themselves [] ms h = (refl, refl)
 themselves (x ∷ xs) [] h = (refl, refl)
 themselves (x ∷ xs) (m ∷ ms) h =
     let parts = and_parts (is_itself x) (list_all is_itself xs) h in
-    let one = itself x m parts.0 in
-    let rest = themselves xs ms parts.1 in
-    (rw (one.0, rest.0) refl, rw (one.0, one.1, rest.1) refl)
+    search (arith, itself, themselves xs ms parts.1)
 
 all-themselves : (xs : List ℕ) → not (list_all is_itself xs) ≡ false → list_all is_itself xs ≡ true
 all-themselves xs h = grind arith
@@ -29,17 +27,7 @@ all-themselves xs h = grind arith
 -- if each byte is written as itself, the least segmentation is the same as without an interpretation
 pub least-interpreted : (i : Interpretation) (v : ℕ) (r : Rule) (xs : List ℕ) (segs : List Segment) → (is_gs1 i && not (list_all is_itself xs)) ≡ false → IsLeastSegmentation Default v r xs xs segs → IsLeastSegmentation i v r xs xs segs
 least-interpreted Default v r xs segs w h = h
-least-interpreted (Eci n) v r xs segs w h =
-    (h.0, record { assignment = h.1.assignment; least = h.1.least; first = h.1.first }, h.2, h.3)
+least-interpreted (Eci n) v r xs segs w h = search arith
 least-interpreted Gs1 v r xs segs w h =
     let all = all-themselves xs w in
-    let own = themselves xs h.0 all in (
-      h.0,
-      record {
-        assignment = rw (own.0, own.1) h.1.assignment;
-        least = λ ks k. let other = themselves xs ks all in rw (own.0, other.0) (h.1.least ks (rw (other.0, other.1) at k));
-        first = λ ks k e. let other = themselves xs ks all in h.1.first ks (rw (other.0, other.1) at k) (rw (own.0, other.0) at e);
-      },
-      rw own.0 h.2,
-      rw own.1 h.3,
-    )
+    let own = themselves xs h.0 all in search (arith, themselves)

@@ -58,7 +58,7 @@ to-marked : (r : Rule) (xs : List ℕ) (ms : List Mode) → list_all is_single x
 to-marked r xs ms h a = allowed-assigned Default r (map marked xs) ms (sym (allowed-marked r Start xs ms h) ∙ assigned-allowed Gs1 r xs ms a)
 
 from-marked : (r : Rule) (xs : List ℕ) (ms : List Mode) → list_all is_single xs ≡ true → IsAssignment Default r (map marked xs) ms → IsAssignment Gs1 r xs ms
-from-marked r xs ms h a = allowed-assigned Gs1 r xs ms (allowed-marked r Start xs ms h ∙ assigned-allowed Default r (map marked xs) ms a)
+from-marked r xs ms h a = search (arith, allowed-assigned, allowed-marked, assigned-allowed)
 
 -- Without `%`, the segments of the marked copy are those of the bytes.
 pub least-marked : (v : ℕ) (r : Rule) (xs : List ℕ) (segs : List Segment) → list_all is_single xs ≡ true
@@ -67,16 +67,7 @@ least-marked v r xs segs single h =
     let ms = h.0 in
     let own = single-modes xs ms single in
     let assignment = from-marked r xs ms single h.1.assignment in
-    let runs = runs-written xs ms (sym (assignment-length Gs1 r xs ms assignment)) in (
-      ms,
-      record {
-        assignment = assignment;
-        least = λ ks k. rw (own, single-modes xs ks single) (h.1.least ks (to-marked r xs ks single k));
-        first = λ ks k e. h.1.first ks (to-marked r xs ks single k) (rw (own, single-modes xs ks single) at e);
-      },
-      rw own h.2,
-      rw h.2 (sym runs.0),
-    )
+    let runs = runs-written xs ms (sym (assignment-length Gs1 r xs ms assignment)) in search (arith, single-modes, to-marked)
 
 -- the lengths of the segments of the least segmentation of the marked copy add up to that of the bytes
 pub marked-length : (v : ℕ) (r : Rule) (xs ys : List ℕ) (segs : List Segment) → IsLeastSegmentation Default v r (map marked xs) ys segs → sum_by (λ s. s.len) segs ≡ length xs
@@ -101,9 +92,9 @@ restored xs segs cs ds b e s ss h is front back all =
     let next : drop s.len (drop b xs) ≡ drop e xs = drop-drop s.len b xs ∙ ap (λ (n : ℕ). drop n xs) (sym is) in
     let rest : drop e cs ≡ drop s.len (drop b cs) = ap (λ (n : ℕ). drop n cs) is ∙ sym (drop-drop s.len b cs) in
     record {
-      so_far = h.so_far ∙ rw (front, next) (sym (append_assoc (take b cs) (written s.mode (take s.len (drop b xs))) (written_in (drop e xs) ss)));
-      rest = back ∙ rest ∙ rw (h.rest, drop-map marked s.len (drop b xs), next) refl;
-      len = omega (arith, is, h.len, sum_by-cons (λ (t : Segment). t.len) s ss);
+      so_far = search (arith, append_assoc);
+      rest = search (arith, drop-map);
+      len = omega (arith, sum_by-cons (λ (t : Segment). t.len) s ss);
       same = all ∙ h.same;
     }
 
@@ -119,18 +110,16 @@ restored-marked xs segs cs b e s ss single h is mode =
 pub restored-copied : (xs : List ℕ) (segs : List Segment) (cs ys : List ℕ) (b e : ℕ) (s : Segment) (ss : List Segment) → IsRestored xs segs cs b (s ∷ ss) → e ≡ b + s.len
     → ys ≡ take (e - b) (drop b xs) → written s.mode (take s.len (drop b xs)) ≡ take s.len (drop b xs) → IsRestored xs segs (put_mid b (e - b) cs ys) e ss
 restored-copied xs segs cs ys b e s ss h is new mode =
-    let n : e - b ≡ s.len = omega (arith, is) in
-    let inside : b + s.len ≤ length xs = omega (arith, h.len, sum_by-cons (λ (t : Segment). t.len) s ss) in
-    let long : length ys ≡ e - b = rw new (length-take-le (e - b) (drop b xs) (omega (arith, length-drop b xs, inside, n))) in
-    let first : b ≤ length cs = omega (arith, h.same, inside) in
+    let n : e - b ≡ s.len = omega arith in
+    let inside : b + s.len ≤ length xs = omega (arith, sum_by-cons (λ (t : Segment). t.len) s ss) in
+    let long : length ys ≡ e - b = rw new (length-take-le (e - b) (drop b xs) (omega (arith, length-drop b xs))) in
+    let first : b ≤ length cs = omega arith in
     restored xs segs cs (put_mid b (e - b) cs ys) b e s ss h is
-    (take-put_mid b (e - b) cs ys e (omega (arith, long, n, is)) first ∙ rw (new, n, mode) refl)
-    (drop-put_mid b (e - b) cs ys e (omega (arith, n, is)) first long)
-    (same_len_mid b (e - b) cs ys (long ∙ sym (length-take-le (e - b) (drop b cs) (omega (arith, length-drop b cs, h.same, inside, n)))))
+    (take-put_mid b (e - b) cs ys e (omega arith) first ∙ rw (new, n, mode) refl)
+    (drop-put_mid b (e - b) cs ys e (omega arith) first long)
+    (same_len_mid b (e - b) cs ys (long ∙ sym (length-take-le (e - b) (drop b cs) (omega (arith, length-drop b cs)))))
 
 -- after the last segment all characters are those that are written
 pub restored-all : (xs : List ℕ) (segs : List Segment) (cs : List ℕ) (b : ℕ) → IsRestored xs segs cs b [] → cs ≡ written_in xs segs
 unfolding written_in
-restored-all xs segs cs b h =
-    let none : drop b xs ≡ [] = drop_all b xs (omega (arith, h.len)) in
-    sym (h.so_far ∙ rw (none, take_all b cs (omega (arith, h.len, h.same))) (append-nil cs))
+restored-all xs segs cs b h = search (arith, drop_all, take_all, append-nil)

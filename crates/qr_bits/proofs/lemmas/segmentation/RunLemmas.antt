@@ -1,5 +1,5 @@
 -- What is written for runs of bytes in GS1 data.
-use Rattle.std.proofs.Common.{◌≡◌, ℕ, ◌+◌, Bool, true, false, cond, ◌==◌, List, [], ◌∷◌, ◌++◌, length, map, take, drop, refl, sym, ap, ◌∙◌, ⊎_elim, arith, suc}
+use Rattle.std.proofs.Common.{◌≡◌, ℕ, ◌+◌, Bool, true, false, cond, ◌==◌, List, [], ◌∷◌, ◌++◌, length, map, take, drop, refl, ⊎_elim, arith, suc}
 use Rattle.std.proofs.lemmas.{Bool.{and_parts, cases_Bool, cond_both, eqb-true}}
 use Rattle.std.specs.List.{list_all}
 use Rattle.qr_bits.specs.declared.{modes.Mode.Mode, segment.Segment.Segment}
@@ -14,8 +14,7 @@ unfolding escaped
 escaped-marked [] h = refl
 escaped-marked (x ∷ xs) h =
     let parts = and_parts (is_single x) (list_all is_single xs) h in
-    let rest : escaped xs ≡ map marked xs = escaped-marked xs parts.1 in
-    grind (arith, eqb-true)
+    search (arith, eqb-true, escaped-marked xs parts.1)
 
 -- the segments that are written for segments of bytes: their lengths count characters
 unfoldable pub segments_of : List ℕ → List Segment → List Segment
@@ -43,8 +42,8 @@ cond-append false c ys zs = refl
 
 cond-length : (b : Bool) (c : ℕ) (ys : List ℕ) (m : Mode) (ss : List Segment)
     → (record { mode = m; len = length (cond b (c ∷ c ∷ ys) (c ∷ ys)) } ∷ ss) ≡ cond b (record { mode = m; len = 1 + (1 + length ys) } ∷ ss) (record { mode = m; len = 1 + length ys } ∷ ss)
-cond-length true c ys m ss = ap (λ (n : ℕ). record { mode = m; len = n } ∷ ss) (omega arith)
-cond-length false c ys m ss = ap (λ (n : ℕ). record { mode = m; len = n } ∷ ss) (omega arith)
+cond-length true c ys m ss = search arith
+cond-length false c ys m ss = search arith
 
 prepend-self : (m : Mode) (n : ℕ) (ss : List Segment) → prepend_mode m (record { mode = m; len = n } ∷ ss) ≡ record { mode = m; len = 1 + n } ∷ ss
 prepend-self m n ss = grind arith
@@ -53,43 +52,35 @@ prepend-self m n ss = grind arith
 characters-grown : (m : Mode) (x : ℕ) (xs : List ℕ) (n : ℕ) (ss : List Segment)
     → written_in (x ∷ xs) (record { mode = m; len = 1 + n } ∷ ss) ≡ cond (is_doubled Gs1 x m) (character_for Gs1 x m ∷ character_for Gs1 x m ∷ written_in xs (record { mode = m; len = n } ∷ ss)) (character_for Gs1 x m ∷ written_in xs (record { mode = m; len = n } ∷ ss))
 unfolding written_in
-characters-grown m x xs n ss = rw (one-suc n, written-more m x (take n xs)) (cond-append (is_doubled Gs1 x m) (character_for Gs1 x m) (written m (take n xs)) (written_in (drop n xs) ss))
+characters-grown m x xs n ss = search (arith, one-suc, written-more, cond-append)
 
 characters-begun : (m : Mode) (x : ℕ) (xs : List ℕ) (ss : List Segment)
     → written_in (x ∷ xs) (record { mode = m; len = 1 } ∷ ss) ≡ cond (is_doubled Gs1 x m) (character_for Gs1 x m ∷ character_for Gs1 x m ∷ written_in xs ss) (character_for Gs1 x m ∷ written_in xs ss)
 unfolding written_in
-characters-begun m x xs ss = rw (written-one m x) (cond-append (is_doubled Gs1 x m) (character_for Gs1 x m) [] (written_in xs ss))
+characters-begun m x xs ss = search (arith, written-one, cond-append)
 
 -- one more byte before segments adds its character once, or twice if it is doubled
 characters-prepend : (m : Mode) (x : ℕ) (xs : List ℕ) (segs : List Segment)
     → written_in (x ∷ xs) (prepend_mode m segs) ≡ cond (is_doubled Gs1 x m) (character_for Gs1 x m ∷ character_for Gs1 x m ∷ written_in xs segs) (character_for Gs1 x m ∷ written_in xs segs)
 characters-prepend m x xs [] = characters-begun m x xs []
 characters-prepend m x xs (s ∷ ss) =
-    let c = character_for Gs1 x m in
-    let rest = written_in xs (s ∷ ss) in
-    cond_both (rank m == rank s.mode) _ _ (λ (r : List Segment). written_in (x ∷ xs) r ≡ cond (is_doubled Gs1 x m) (c ∷ c ∷ rest) (c ∷ rest))
-    (λ e. rw (same-rank m s.mode (eqb-true _ _ e)) (characters-grown s.mode x xs s.len ss)) (λ _. characters-begun m x xs (s ∷ ss))
+    search (arith, cond_both, same-rank, eqb-true, characters-grown, characters-begun)
 
 -- one more byte in the first segment adds one character to it, or two if the byte is doubled
 segments-grown : (m : Mode) (x : ℕ) (xs : List ℕ) (n : ℕ) (ss : List Segment)
     → segments_of (x ∷ xs) (record { mode = m; len = 1 + n } ∷ ss) ≡ cond (is_doubled Gs1 x m) (prepend_mode m (prepend_mode m (segments_of xs (record { mode = m; len = n } ∷ ss)))) (prepend_mode m (segments_of xs (record { mode = m; len = n } ∷ ss)))
 unfolding segments_of
-segments-grown m x xs n ss =
-    let l = length (written m (take n xs)) in
-    let later = segments_of (drop n xs) ss in
-    rw (one-suc n, written-more m x (take n xs), prepend-self m l later, prepend-self m (1 + l) later) (cond-length (is_doubled Gs1 x m) (character_for Gs1 x m) (written m (take n xs)) m later)
+segments-grown m x xs n ss = search (arith, one-suc, written-more, prepend-self, cond-length)
 
 segments-same : (m : Mode) (x : ℕ) (xs : List ℕ) (n : ℕ) (ss : List Segment)
     → segments_of (x ∷ xs) (prepend_mode m (record { mode = m; len = n } ∷ ss)) ≡ cond (is_doubled Gs1 x m) (prepend_mode m (prepend_mode m (segments_of xs (record { mode = m; len = n } ∷ ss)))) (prepend_mode m (segments_of xs (record { mode = m; len = n } ∷ ss)))
-segments-same m x xs n ss = ap (segments_of (x ∷ xs)) (prepend-self m n ss) ∙ segments-grown m x xs n ss
+segments-same m x xs n ss = cc (prepend-self m n ss, segments-grown m x xs n ss)
 
 -- a byte that begins a segment gives it one character, or two if the byte is doubled
 segments-begun : (m : Mode) (x : ℕ) (xs : List ℕ) (ss : List Segment)
     → segments_of (x ∷ xs) (record { mode = m; len = 1 } ∷ ss) ≡ cond (is_doubled Gs1 x m) (prepend_mode m (record { mode = m; len = 1 } ∷ segments_of xs ss)) (record { mode = m; len = 1 } ∷ segments_of xs ss)
 unfolding segments_of
-segments-begun m x xs ss =
-    let later = segments_of xs ss in
-    rw (written-one m x, prepend-self m 1 later) (cond-length (is_doubled Gs1 x m) (character_for Gs1 x m) [] m later)
+segments-begun m x xs ss = search (arith, written-one, prepend-self, cond-length)
 
 -- one more byte before segments adds one character to them, or two if the byte is doubled
 segments-prepend : (m : Mode) (x : ℕ) (xs : List ℕ) (segs : List Segment)
@@ -109,10 +100,4 @@ runs-written [] [] h = (refl, refl)
 runs-written [] (m ∷ ms) h = absurd (omega arith)
 runs-written (x ∷ xs) [] h = absurd (omega arith)
 runs-written (x ∷ xs) (m ∷ ms) h =
-    let rest = runs-written xs ms (omega arith) in (
-      rw (rest.0) (sym (characters-prepend m x xs (runs_of ms))),
-      ⊎_elim
-          (λ (e : is_doubled Gs1 x m ≡ true). rw (e, rest.1) (sym (segments-prepend m x xs (runs_of ms) ∙ rw e refl)))
-          (λ (e : is_doubled Gs1 x m ≡ false). rw (e, rest.1) (sym (segments-prepend m x xs (runs_of ms) ∙ rw e refl)))
-          (cases_Bool (is_doubled Gs1 x m)),
-    )
+    search (arith, characters-prepend, segments-prepend, runs-written xs ms (omega arith))

@@ -1,6 +1,6 @@
 -- Fields and digits: what is written is read back, and what is read is written as the same bits.
 use Rattle.std.{proofs.lemmas.Bool.Decides.nat_tests, specs.List.list_all}
-use Rattle.std.proofs.Common.{◌≡◌, ℕ, zero, suc, ◌+◌, ◌-◌, ◌*◌, ◌/◌, ◌%◌, ◌^◌, ◌<◌, ◌≤◌, Bool, true, false, cond, ◌==◌, All, List, [], ◌∷◌, ◌++◌, length, take, drop, Result, Ok, Err, refl, sym, ◌∙◌, ap, subst, arith, append_assoc}
+use Rattle.std.proofs.Common.{◌≡◌, ℕ, zero, suc, ◌+◌, ◌-◌, ◌*◌, ◌/◌, ◌%◌, ◌^◌, ◌<◌, ◌≤◌, Bool, true, false, cond, ◌==◌, All, List, [], ◌∷◌, ◌++◌, length, take, drop, Result, Ok, Err, refl, sym, ◌∙◌, ap, arith, append_assoc}
 use Rattle.std.proofs.lemmas.{Bool.lt-ltb, Bool.ltb-true, Bool.and_parts, List.Elements.All-nil, List.Elements.All-cons}
 use Rattle.std.proofs.lemmas.List.{length-take-le, length-drop, drop-drop, take-append-drop}
 use Rattle.std.proofs.Math.Seq.{take-append_seam, drop-append_seam}
@@ -72,16 +72,15 @@ pub digits-again : (xs : List ℕ) (rest : List Bool) → AreDigits xs → digit
 unfolding digits_of digit_bits
 digits-again [] rest h = refl
 digits-again (a ∷ []) rest h =
-    let r = read-field 4 (a - 48) rest (omega (arith, h.0, h.1)) in
+    let r = read-field 4 (a - 48) rest (omega arith) in
     grind (arith, lt-ltb)
 digits-again (a ∷ b ∷ []) rest h =
     let g = 10 * (a - 48) + (b - 48) in
-    let r = read-field 7 g rest (omega (arith, h.0, h.1, h.2.0, h.2.1)) in
+    let r = read-field 7 g rest (omega arith) in
     grind (arith, lt-ltb)
 digits-again (a ∷ b ∷ c ∷ xs) rest h =
     let g = 100 * (a - 48) + 10 * (b - 48) + (c - 48) in
-    let three : (digit (g / 100) ≡ a) × (digit (g / 10) ≡ b) × (digit g ≡ c) × (g < 1000) = (omega arith, omega arith, omega arith, omega arith) in
-    let r = read-field 10 g (digit_bits xs ++ rest) (omega (arith, three.3)) in
+    let r = read-field 10 g (digit_bits xs ++ rest) (omega arith) in
     let d = drop-field 10 g (digit_bits xs ++ rest) in
     search (arith, append_assoc, lt-ltb, digits-again xs rest h.2.2.2)
 
@@ -109,14 +108,14 @@ digits-takes (suc zero) xs bs h e =
     let low : g < 10 = ltb-true _ _ c.0 in
     let back : digit g - 48 ≡ g = omega arith in
     let whole : bs ≡ field 4 (value (take 4 bs)) ++ drop 4 bs = cc (field-read 4 bs h, take-append-drop 4 bs) in
-    subst (IsWritten Numeric 1 bs) (same-ok _ _ c.1) (search (arith, All-cons, All-nil, is_digit-digit))
+    search (arith, same-ok, All-cons, All-nil, is_digit-digit)
 digits-takes (suc (suc zero)) xs bs h e =
     let g = value (take 7 bs) in
     let c = chosen-ok _ _ _ xs e in
     let low : g < 100 = ltb-true _ _ c.0 in
     let back : 10 * (digit (g / 10) - 48) + (digit g - 48) ≡ g = omega arith in
     let whole : bs ≡ field 7 (value (take 7 bs)) ++ drop 7 bs = cc (field-read 7 bs h, take-append-drop 7 bs) in
-    subst (IsWritten Numeric 2 bs) (same-ok _ _ c.1) (search (arith, All-cons, All-nil, is_digit-digit))
+    search (arith, same-ok, All-cons, All-nil, is_digit-digit)
 digits-takes (suc (suc (suc n))) xs bs h e =
     let g = value (take 10 bs) in
     let c = chosen-ok _ _ _ xs e in
@@ -125,14 +124,8 @@ digits-takes (suc (suc (suc n))) xs bs h e =
     let three : suc (suc (suc n)) ≡ 3 + n = omega arith in
     let room : 10 + payload_bits Numeric n ≤ length bs = rw (← three-more n, ← three) h in
     let w = digits-takes n b.0 (drop 10 bs) (omega (arith, length-drop 10 bs)) b.1 in
-    let back : 100 * (digit (g / 100) - 48) + 10 * (digit (g / 10) - 48) + (digit g - 48) ≡ g = omega arith in
     let whole = more-written 10 (payload_bits Numeric n) bs (digit_bits b.0) (omega arith) w.whole in
-    rw three (subst (IsWritten Numeric (3 + n) bs) (same-ok _ _ b.2) (record {
-      long = omega (arith, w.long);
-      bytes = search (arith, All-cons);
-      suited = search (arith, is_digit-digit);
-      whole = rw (back, three-more n) whole;
-    }))
+    search (arith, same-ok, All-cons, is_digit-digit, three-more)
 
 -- bytes that suit numeric mode are digits
 pub are-digits : (xs : List ℕ) → list_all is_digit xs ≡ true → AreDigits xs

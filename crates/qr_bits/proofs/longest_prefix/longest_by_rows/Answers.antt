@@ -26,7 +26,7 @@ loop-i-init c = record {
 }
 
 pub row_of-requires : goal.row_of-requires
-row_of-requires c = small-row _ c.loop-i.i (below _ _ _ c.loop-i-test.true c.requires.short) c.loop-i.invariant.small
+row_of-requires c = search (arith, small-row)
 
 pub loop-i-preserved : goal.loop-i-preserved
 unfolding in_state
@@ -45,7 +45,7 @@ loop-i-preserved c =
       | then-from-room w ↦
           rw w.longest-is (record {
             inside = le_refl (i + 1);
-            fits = λ n g. prefix-fits n v r (take (i + 1) xs) _ _ room (b n g) (omega (arith, w.if-from-room.true, c.from.ensures));
+            fits = λ n g. prefix-fits n v r (take (i + 1) xs) _ _ room (b n g) (omega (arith, c.from.ensures));
             longest = λ n g k h _. h;
             small = small;
             best = (c.row_of.result.0 ∷ inv.best.0, b);
@@ -56,7 +56,7 @@ loop-i-preserved c =
             fits = inv.fits;
             longest = λ n g k h fit. ⊎_elim (λ (l : i < k).
                 let e = last i k l h in
-                absurd (omega (arith, prefix-least n v r (take (i + 1) xs) _ _ room (b n g) (rw e at fit), w.if-from-room.false, c.from.ensures)))
+                absurd (omega (arith, prefix-least n v r (take (i + 1) xs) _ _ room (b n g) (rw e at fit), c.from.ensures)))
                 (λ (l : k ≤ i). inv.longest n g k l fit) (cases_lt i k);
             small = small;
             best = (c.row_of.result.0 ∷ inv.best.0, b);
@@ -82,9 +82,9 @@ returns-then-from-room-2 c = λ n g.
     let chosen : IsRow n v r (get_or xs i 0) _ c.loop-i.rest c.row_of.result.0 c.row_of.result.1 = rw c.of-first_choices.ensures at (c.row_of.ensures.row n g) in
     let b = prefix-more n v r xs i _ inv.best.0 _ _ _ c.loop-i-test.true c.ends_with_pair-pair.ensures (inv.best.1 n g) chosen in
     record {
-      inside = omega (arith, inv.inside, c.loop-i-test.true);
+      inside = omega (arith, c.loop-i-test.true);
       fits = inv.fits n g;
       longest = λ k h fit. ⊎_elim (λ (l : i < k).
-          absurd (none-longer n v r xs (i + 1) k _ _ c.args.room b (λ p. omega (arith, c.fewest.ensures p, c.if-from-room-2.true, c.from-else-from-room.ensures)) (omega (arith, l)) fit))
+          absurd (none-longer n v r xs (i + 1) k _ _ c.args.room b (λ p. omega (arith, c.fewest.ensures p, c.if-from-room-2.true, c.from-else-from-room.ensures)) (omega arith) fit))
           (λ (l : k ≤ i). inv.longest n g k l fit) (cases_lt i k);
     }

@@ -1,10 +1,9 @@
+use Rattle.std.proofs.Common.{rules}
 use Rattle.{std.proofs.Common.{arith}, qr_bits.proofs.lemmas.segmentation.{BytesOnlyLemmas.{bytes-longest, whole-longest}}}
 use Rattle.qr_bits.proofs.longest_prefix.longest_fit.Goals as goal
 
 pub returns-then-input-most : goal.returns-then-input-most
-returns-then-input-most c =
-    rw (← c.room-room.ensures.value)
-    (whole-longest c.args.interpretation c.args.version c.args.rule c.args.input.now c.room-room.result (omega (arith, c.bytes_in-most.ensures.fits, c.if-input-most.true)))
+returns-then-input-most c = search (rules, whole-longest)
 
 pub returns-in-BytesOnly : goal.returns-in-BytesOnly
 returns-in-BytesOnly c =

@@ -7,4 +7,4 @@ unfolding least_bits
 returns-clause-least c i v room r fit =
     let inv = c.loop-byte.invariant in
     let all = inv.so_far ∙ ap (sum_by least_sixths) (take_all c.loop-byte.byte-index c.args.input.now (omega arith)) in
-    omega (arith, all, least-held i v r c.args.input.now room fit)
+    omega (arith, least-held i v r c.args.input.now room fit)

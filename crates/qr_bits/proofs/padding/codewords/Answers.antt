@@ -1,5 +1,5 @@
-use Rattle.std.proofs.Common.{◌≡◌, ℕ, ◌+◌, ◌*◌, ◌^◌, ◌<◌, ◌≤◌, ◌++◌, refl, arith, length-append}
-use Rattle.std.proofs.lemmas.List.Elements.{All-from_get_or}
+use Rattle.std.proofs.Common.{◌≡◌, ℕ, ◌+◌, ◌*◌, ◌^◌, ◌<◌, ◌≤◌, ◌++◌, refl, arith, length-append, rules}
+use Rattle.std.specs.Cow.{cow_slice_items}
 use Rattle.qr_bits.specs.{Header.header_stream, Stream.segments_stream, Stream.IsStream}
 use Rattle.qr_bits.specs.Interpretation.{interpretation_stream}
 use Rattle.qr_bits.proofs.lemmas.segment.SegmentLemmas.{covers-all, bits-most, bits-least}
@@ -11,49 +11,49 @@ use Rattle.qr_bits.proofs.padding.codewords.Goals as goal
 -- header and segments have at most as many bits as the data codewords, and the input is short
 room : (h i b k head mark bits most : ℕ) → h ≡ head → i ≡ mark → b ≡ bits → k ≡ most → h + i + b ≤ k
     → (h + i + b ≤ most) × (bits ≤ most) × (most < head + mark + bits → ⊥) × ((n : ℕ) → 10 * n ≤ 3 * bits → most ≤ 23648 → n < 2 ^ 16)
-room h i b k head mark bits most e j f g l = (omega arith, omega arith, λ o. omega arith, λ n m c. omega arith)
+room h i b k head mark bits most e j f g l = search rules
 
 pub bit_len-requires-clause-nonempty : goal.bit_len-requires-clause-nonempty
-bit_len-requires-clause-nonempty c = (covers-all c.args.input.now c.args.segs.now c.requires.covered).0
+bit_len-requires-clause-nonempty c = search (arith, covers-all)
 
 pub bit_len-requires-clause-short : goal.bit_len-requires-clause-short
-bit_len-requires-clause-short c = rw (covers-all c.args.input.now c.args.segs.now c.requires.covered).1 c.requires.short
+bit_len-requires-clause-short c = search (rules, covers-all)
 
 pub overflow_add-used-2 : goal.overflow_add-used-2
-overflow_add-used-2 c =
-    let all = covers-all c.args.input.now c.args.segs.now c.requires.covered in
-    omega (arith, all.1, bits-most c.args.version c.args.segs.now all.0, c.requires.short, c.header_bits.ensures.most, c.interpretation_bits.ensures.most, c.bit_len.ensures)
+overflow_add-used-2 c = search (rules, covers-all, bits-most)
 
 pub returns-then-used-capacity-clause-too_long : goal.returns-then-used-capacity-clause-too_long
-returns-then-used-capacity-clause-too_long c = (λ e. rw (← c.capacity-capacity.ensures.value, ← c.header_bits.ensures.value, ← c.interpretation_bits.ensures.value, ← c.bit_len.ensures) c.if-used-capacity.true, λ h. refl)
+returns-then-used-capacity-clause-too_long c = search rules
 
-pub put_all-requires-clause-short : goal.put_all-requires-clause-short
-put_all-requires-clause-short c =
-    let least = bits-least c.args.version c.args.input.now c.args.segs.now (covers-suits c.args.input.now c.args.segs.now c.requires.covered) in
+pub put_segments-requires-clause-short : goal.put_segments-requires-clause-short
+put_segments-requires-clause-short c =
+    let segs = c.args.segmented.now.segments.items in
+    let least = bits-least c.args.version _ segs (covers-suits _ segs c.requires.covered) in
     let most = capacity-most c.args.version c.args.level (omega arith) (omega arith) in
-    (room _ _ _ _ _ _ _ _ c.header_bits.ensures.value c.interpretation_bits.ensures.value c.bit_len.ensures c.capacity-capacity.ensures.value c.if-used-capacity.false).3 _ least most
+    rw c.deref-2.ensures.value ((room _ _ _ _ _ _ _ _ c.header_bits.ensures.value c.interpretation_bits.ensures.value (rw c.deref.ensures.value at c.bit_len.ensures) c.capacity-capacity.ensures.value c.if-used-capacity.false).3 _ least most)
 
 pub returns-clause-ok : goal.returns-clause-ok
 returns-clause-ok c =
-    let xs = c.args.input.now in
-    let segs = c.args.segs.now in
+    let xs = cow_slice_items c.args.segmented.now.characters in
+    let segs = c.args.segmented.now.segments.items in
     let suit = covers-suits xs segs c.requires.covered in
     let k = c.capacity-capacity.ensures in
-    let left = room _ _ _ _ _ _ _ _ c.header_bits.ensures.value c.interpretation_bits.ensures.value c.bit_len.ensures k.value c.if-used-capacity.false in
+    let bits = rw c.deref.ensures.value at c.bit_len.ensures in
+    let left = room _ _ _ _ _ _ _ _ c.header_bits.ensures.value c.interpretation_bits.ensures.value bits k.value c.if-used-capacity.false in
     let is : IsStream c.args.version xs segs c.args.header c.args.interpretation ((header_stream c.args.header ++ interpretation_stream c.args.interpretation) ++ segments_stream c.args.version xs segs) = record {
-      bytes = All-from_get_or (λ (b : ℕ). b < 256) xs 0 (λ i h. omega (arith, c.type_inv.input i));
+      bytes = rw c.deref-2.ensures.value at c.in_ok-put_segments.ensures.1;
       suit = suit;
       counts = counts_fit c.args.version c.args.level segs (omega arith) (omega arith) left.1;
-      header = λ h e. let r = c.requires.in_range h e in (r.0, r.1, c.in_ok-put_all.ensures.1 h e);
+      header = λ h e. let r = c.requires.in_range h e in (r.0, r.1, c.in_ok-put_header.ensures.1 h e);
       interpretation = c.requires.number;
       whole = refl;
     } in
     is-data c.args.version c.args.level xs segs c.args.header c.args.interpretation _ (c.header_bits.result + c.interpretation_bits.result + c.bit_len.result) c.into_codewords-codewords.result.items _ is
-    (rw (length-append (header_stream c.args.header ++ interpretation_stream c.args.interpretation) (segments_stream c.args.version xs segs), length-append (header_stream c.args.header) (interpretation_stream c.args.interpretation), length-header_stream c.args.header, length-interpretation_stream c.args.interpretation, length-segments_stream c.args.version xs segs suit, c.header_bits.ensures.value, c.interpretation_bits.ensures.value, c.bit_len.ensures) refl)
+    (rw (length-append (header_stream c.args.header ++ interpretation_stream c.args.interpretation) (segments_stream c.args.version xs segs), length-append (header_stream c.args.header) (interpretation_stream c.args.interpretation), length-header_stream c.args.header, length-interpretation_stream c.args.interpretation, length-segments_stream c.args.version xs segs suit, c.header_bits.ensures.value, c.interpretation_bits.ensures.value, bits) refl)
     left.0
-    (rw (c.into_codewords-codewords.ensures, c.in_ok-put_all.ensures.0, c.in_ok-writer.ensures, c.capacity-capacity.ensures.value))
+    (rw (c.into_codewords-codewords.ensures, c.in_ok-fill.ensures, c.in_ok-put.ensures, c.in_ok-put_segments.ensures.0, c.in_ok-put_interpretation.ensures, c.in_ok-put_header.ensures.0, c.in_ok-writer.ensures, c.deref-2.ensures.value, c.deref-3.ensures.value, c.min.ensures, ← c.capacity-capacity.ensures.value))
     (search arith) c.in_ok-pad.ensures.1
 
 pub returns-clause-too_long : goal.returns-clause-too_long
 returns-clause-too_long c =
-    (λ e. cc, λ h. absurd ((room _ _ _ _ _ _ _ _ c.header_bits.ensures.value c.interpretation_bits.ensures.value c.bit_len.ensures c.capacity-capacity.ensures.value c.if-used-capacity.false).2 h))
+    (λ e. cc, λ h. absurd ((room _ _ _ _ _ _ _ _ c.header_bits.ensures.value c.interpretation_bits.ensures.value (rw c.deref.ensures.value at c.bit_len.ensures) c.capacity-capacity.ensures.value c.if-used-capacity.false).2 h))

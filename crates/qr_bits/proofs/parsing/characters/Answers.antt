@@ -1,4 +1,4 @@
-use Rattle.std.proofs.{Common.{◌-◌, [], ◌∷◌, refl, arith}, lemmas.Bool.le-ltb}
+use Rattle.std.proofs.{Common.{◌-◌, [], ◌∷◌, arith, rules}, lemmas.Bool.le-ltb}
 use Rattle.qr_bits.specs.{Parsing.characters_of}
 use Rattle.qr_bits.proofs.lemmas.parsing.PayloadLemmas.{characters-step, group-read, fails}
 use Rattle.qr_bits.proofs.parsing.characters.Goals as goal
@@ -6,7 +6,7 @@ use Rattle.qr_bits.proofs.parsing.characters.Goals as goal
 pub returns-then-pair-ge-PAIRS : goal.returns-then-pair-ge-PAIRS
 returns-then-pair-ge-PAIRS c =
     let s = characters-step c.loop-left.left (c.loop-left.left - 2) c.loop-left.reader (omega (arith, c.loop-left-test.true)) in
-    fails c.loop-left.invariant (s.2 (rw c.take-pair.ensures.value at c.if-pair-ge-PAIRS.true))
+    search (rules, fails)
 
 pub loop-left-preserved : goal.loop-left-preserved
 loop-left-preserved c =
@@ -17,6 +17,4 @@ loop-left-preserved c =
 
 pub returns-then-single-ge-SINGLES : goal.returns-then-single-ge-SINGLES
 unfolding characters_of
-returns-then-single-ge-SINGLES c =
-    let bad = le-ltb _ 45 (rw c.take-single.ensures.value at c.if-single-ge-SINGLES.true) in
-    fails c.loop-left.invariant (rw (c.if-left-eq1.true, bad) refl)
+returns-then-single-ge-SINGLES c = search (rules, le-ltb, fails)

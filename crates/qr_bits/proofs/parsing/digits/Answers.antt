@@ -1,11 +1,11 @@
-use Rattle.std.proofs.Common.{◌-◌, [], ◌∷◌, arith}
+use Rattle.std.proofs.Common.{◌-◌, [], ◌∷◌, arith, rules}
 use Rattle.qr_bits.proofs.lemmas.parsing.PayloadLemmas.{digits-step, group-read, fails}
 use Rattle.qr_bits.proofs.parsing.digits.Goals as goal
 
 pub returns-then-group-ge-THREE_DIGITS : goal.returns-then-group-ge-THREE_DIGITS
 returns-then-group-ge-THREE_DIGITS c =
     let s = digits-step c.loop-left.left (c.loop-left.left - 3) c.loop-left.reader (omega (arith, c.loop-left-test.true)) in
-    fails c.loop-left.invariant (s.2 (rw c.take-group.ensures.value at c.if-group-ge-THREE_DIGITS.true))
+    search (rules, fails)
 
 pub loop-left-preserved : goal.loop-left-preserved
 loop-left-preserved c =

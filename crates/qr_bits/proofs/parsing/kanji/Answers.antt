@@ -1,11 +1,11 @@
-use Rattle.std.proofs.Common.{◌-◌, ◌/◌, ◌%◌, [], ◌∷◌, arith}
+use Rattle.std.proofs.Common.{◌-◌, ◌/◌, ◌%◌, [], ◌∷◌, arith, rules}
 use Rattle.qr_bits.proofs.lemmas.{modes.KanjiLemmas.pairs-step, parsing.PayloadLemmas.{group-read, fails}}
 use Rattle.qr_bits.proofs.parsing.kanji.Goals as goal
 
 pub returns-then-value-gt-LOW_MAX : goal.returns-then-value-gt-LOW_MAX
 returns-then-value-gt-LOW_MAX c =
     let s = pairs-step c.loop-left.left (c.loop-left.left - 1) c.loop-left.reader (omega (arith, c.loop-left-test.true)) in
-    fails c.loop-left.invariant (s.2 (rw c.take-value.ensures.value at c.if-value-gt-LOW_MAX.true))
+    search (rules, fails)
 
 pub loop-left-preserved : goal.loop-left-preserved
 loop-left-preserved c =

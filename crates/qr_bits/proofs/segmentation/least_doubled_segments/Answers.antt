@@ -1,8 +1,8 @@
-use Rattle.std.proofs.Common.{◌≡◌, ◌+◌, ◌-◌, ◌<◌, ◌≤◌, cond, vec_len, [], ◌∷◌, ◌++◌, length, get_or, take, drop, reverse, refl, sym, ◌∙◌, arith}
+use Rattle.std.proofs.Common.{◌≡◌, ◌+◌, ◌-◌, ◌<◌, ◌≤◌, cond, vec_len, [], ◌∷◌, ◌++◌, length, get_or, take, drop, reverse, refl, sym, ◌∙◌, arith, rules}
 use Rattle.std.proofs.{Math.Nat.le_refl, lemmas.{Bool.ne_eqb, List.{append-nil, drop_all, take_all}}}
 use Rattle.qr_bits.specs.declared.{interpretation.Interpretation.TheVariants.Gs1, run_state.RunState.TheVariants.Start}
 use Rattle.qr_bits.specs.{Interpretation.{character_for, characters_gs1, doubled_gs1, is_doubled, percent}, Segmentation.runs_of, Steps.BestModes.follow_in, Steps.Segmentation.{is_escaped}, Steps.RunState.{state_after, state_in, state_on}}
-use Rattle.qr_bits.proofs.lemmas.segmentation.{AssignedLemmas.assignment-from-table, DoubledRunLemmas.{IsWritten, escaped_more, flags-next, percent_character, plain_character, plain_more, separator_character, unescaped, written_more}}
+use Rattle.qr_bits.proofs.lemmas.segmentation.{AssignedLemmas.assignment-from-table, DoubledRunLemmas.{IsWritten, escaped-more, flags-next, percent-character, plain-character, plain-more, separator-character, unescaped, written_more}}
 use Rattle.qr_bits.proofs.lemmas.best_modes.{ChoiceLemmas.on-after}
 use Rattle.qr_bits.proofs.segmentation.least_doubled_segments.Goals as goal
 use Rattle.qr_bits.proofs.segmentation.least_doubled_segments.Goals.{then-is_escaped+in_ok-put_escape+then-input-i-eq37, then-is_escaped+in_ok-put_escape+else-input-i-eq37, else-is_escaped}
@@ -17,18 +17,7 @@ loop-modes-init c =
       all = follow_in Gs1 Start input rows;
       best = assignment-from-table Gs1 c.args.version c.args.rule input rows c.in_ok-table.ensures.1;
       rows = omega (arith, c.in_ok-table.ensures.0);
-      written = rw none (record {
-        modes = [];
-        many = refl;
-        runs = rw c.new-found.ensures.items refl;
-        characters = rw c.in_ok-characters.ensures.items refl;
-        led = refl;
-        flags = c.in_ok-table.ensures.2;
-        inside = omega arith;
-        short = omega arith;
-        first = λ _. c.new-found.ensures.items;
-        next = refl;
-      });
+      written = search arith;
     }
 
 pub loop-row-init : goal.loop-row-init
@@ -38,8 +27,7 @@ loop-row-init c =
     let i = length input - c.len.result - 1 in
     let at : (length input - vec_len l.table ≡ i) × (i < length input) × (length input - vec_len c.pop.new.self ≡ i + 1) × (vec_len c.pop.new.self ≤ length input) =
     let some = c.in-Some.ensures.len in
-    let rows = l.invariant.rows in
-    let len = c.len.ensures in (omega (arith, some, rows, len), omega (arith, some, rows, len), omega (arith, some, rows, len), omega (arith, some, rows)) in
+    search rules in
     let inv : IsWritten input l.invariant.all i l.found.items l.run.mode l.run.len l.run.state l.table.items l.characters.items l.copied = rw at.0 at l.invariant.written in
     let x = get_or input i 0 in
     let m = c.mode_at.result in
@@ -52,28 +40,28 @@ loop-row-init c =
     × (e.characters.items ++ take ((i + 1) - e.copied) (drop e.copied input) ≡ (l.characters.items ++ take (i - l.copied) (drop l.copied input)) ++ cond (is_doubled Gs1 x m) (t ∷ t ∷ []) (t ∷ [])) =
     elim e.branch [
       | then-is_escaped+in_ok-put_escape+then-input-i-eq37 w ↦
-          let own = percent_character m x (sym escaped ∙ w.if-is_escaped.true) w.if-input-i-eq37.true in (
+          let own = percent-character m x (sym escaped ∙ w.if-is_escaped.true) w.if-input-i-eq37.true in (
             rw w.run-is run.1,
             rw (own.0, w.run-is) refl,
             rw (own.0, w.run-is) (w.state_on-run.ensures ∙ rw run.2 (on-after l.run.state m)),
-            omega (arith, w.copied-is),
-            rw (w.characters-is, w.copied-is, own.0, own.1) (escaped_more input _ i ∙ w.in_ok-put_escape.ensures ∙ rw w.if-input-i-eq37.true refl),
+            omega arith,
+            rw (w.characters-is, w.copied-is, own.0, own.1) (escaped-more input _ i ∙ w.in_ok-put_escape.ensures ∙ rw w.if-input-i-eq37.true refl),
           )
       | then-is_escaped+in_ok-put_escape+else-input-i-eq37 w ↦
-          let own = separator_character m x (sym escaped ∙ w.if-is_escaped.true) w.if-input-i-eq37.false in (
+          let own = separator-character m x (sym escaped ∙ w.if-is_escaped.true) w.if-input-i-eq37.false in (
             rw w.run-is run.1,
             rw (own.0, w.run-is) refl,
             rw (own.0, w.run-is) run.2,
-            omega (arith, w.copied-is),
-            rw (w.characters-is, w.copied-is, own.0, own.1) (escaped_more input _ i ∙ w.in_ok-put_escape.ensures ∙ rw (ne_eqb x percent w.if-input-i-eq37.false) refl),
+            omega arith,
+            rw (w.characters-is, w.copied-is, own.0, own.1) (escaped-more input _ i ∙ w.in_ok-put_escape.ensures ∙ rw (ne_eqb x percent w.if-input-i-eq37.false) refl),
           )
       | else-is_escaped w ↦
-          let own = plain_character m x (sym escaped ∙ w.if-is_escaped.false) in (
+          let own = plain-character m x (sym escaped ∙ w.if-is_escaped.false) in (
             rw w.run-is run.1,
             rw (own.0, w.run-is) refl,
             rw (own.0, w.run-is) run.2,
-            omega (arith, w.copied-is, inv.inside),
-            rw (w.characters-is, w.copied-is, own.0, own.1) (plain_more input l.characters.items l.copied i inv.inside at.1),
+            omega arith,
+            rw (w.characters-is, w.copied-is, own.0, own.1) (plain-more input l.characters.items l.copied i inv.inside at.1),
           )
     ] in
     record {
@@ -89,12 +77,12 @@ loop-row-init c =
 pub next_run-requires-in-Some-pop_unflagged-clause-short : goal.next_run-requires-in-Some-pop_unflagged-clause-short
 next_run-requires-in-Some-pop_unflagged-clause-short c =
     let row = c.pop_unflagged.ensures.row c.in-Some-pop_unflagged.row c.in-Some-pop_unflagged.is in
-    omega (arith, row.1, c.loop-row.invariant.written.short, c.loop-row.invariant.rows, c.requires.short)
+    search rules
 
 pub loop-row-smaller : goal.loop-row-smaller
 loop-row-smaller c =
     let row = c.pop_unflagged.ensures.row c.in-Some-pop_unflagged.row c.in-Some-pop_unflagged.is in
-    omega (arith, row.1)
+    omega arith
 
 pub loop-row-preserved : goal.loop-row-preserved
 loop-row-preserved c =
@@ -108,11 +96,11 @@ loop-row-preserved c =
     let row = c.pop_unflagged.ensures.row c.in-Some-pop_unflagged.row c.in-Some-pop_unflagged.is in
     let rows = l.invariant.rows in
     let at : (i < length input) × (length input - vec_len new ≡ i + 1) × (vec_len new ≤ length input) × (vec_len new ≤ vec_len c.pop.new.self) =
-    (omega (arith, row.1, rows), omega (arith, row.1, rows), omega (arith, row.1, rows), omega (arith, row.1, l.invariant.fewer)) in
+    (omega arith, omega arith, omega arith, omega arith) in
     let x = get_or input i 0 in
     let m = c.mode_at-in-Some-pop_unflagged.result in
     let run = c.in_ok-run-2.ensures in
-    let own = plain_character m x (unescaped m x (sym (flags-next input i new.items c.in-Some-pop_unflagged.row inv.flags at.0 row.0).0 ∙ row.2)) in
+    let own = plain-character m x (unescaped m x (sym (flags-next input i new.items c.in-Some-pop_unflagged.row inv.flags at.0 row.0).0 ∙ row.2)) in
     record {
       all = l.invariant.all;
       best = l.invariant.best;
@@ -120,7 +108,7 @@ loop-row-preserved c =
       fewer = at.3;
       written = rw (at.1, run.1)
           (written_more new.items c.in-Some-pop_unflagged.row m c.next_run-in-Some-pop_unflagged.new.found.items c.in_ok-run-2.run'.len c.in_ok-run-2.run'.len c.in_ok-run-2.run'.state chars copied inv at.0
-          row.0 c.mode_at-in-Some-pop_unflagged.ensures run.0 run.3 run.4 (rw own.0 refl) (rw own.0 run.2) (rw (own.0, own.1) (plain_more input chars copied i inv.inside at.0)) (omega (arith, inv.inside)));
+          row.0 c.mode_at-in-Some-pop_unflagged.ensures run.0 run.3 run.4 (rw own.0 refl) (rw own.0 run.2) (rw (own.0, own.1) (plain-more input chars copied i inv.inside at.0)) (omega arith));
     }
 
 pub loop-modes-preserved : goal.loop-modes-preserved
@@ -140,7 +128,7 @@ returns-clause-ok c =
     let i = length input - vec_len l.table in
     let end : i ≡ length input = omega (arith, c.in_default.ensures.cases.0) in
     let none : drop (length input) input ≡ [] = drop_all (length input) input (le_refl (length input)) in
-    let whole : take i input ≡ input = take_all i input (omega (arith, end)) in
+    let whole : take i input ≡ input = take_all i input (omega arith) in
     let all : inv.modes ≡ l.invariant.all = sym (append-nil inv.modes) ∙ (rw (end, none) at inv.led) in (
       inv.modes,
       rw all l.invariant.best,

@@ -8,17 +8,10 @@ use Rattle.qr_bits.proofs.segmentation.least_segments.Goals as goal
 
 pub loop-modes-init : goal.loop-modes-init
 unfolding runs_of state_on state_after
-loop-modes-init c = record {
-  modes = [];
-  runs = rw c.new-found.ensures.items refl;
-  led = refl;
-  few = omega arith;
-  first = λ z. c.new-found.ensures.items;
-  next = refl;
-}
+loop-modes-init c = search arith
 
 pub next_run-requires-clause-short : goal.next_run-requires-clause-short
-next_run-requires-clause-short c = omega (arith, c.loop-modes.invariant.few, c.in-Some.ensures.len, c.in_ok-table.ensures.0, c.requires.short)
+next_run-requires-clause-short c = search arith
 
 pub loop-modes-preserved : goal.loop-modes-preserved
 loop-modes-preserved c =
@@ -29,10 +22,10 @@ pub returns-clause-ok : goal.returns-clause-ok
 unfolding follow
 returns-clause-ok c =
     let i = c.loop-modes.invariant in
-    let none : c.loop-modes.table.items ≡ [] = nil_from_length _ (sym c.loop-modes.table.ok.0 ∙ c.in_default.ensures.cases.0) in
+    let none : c.loop-modes.table.items ≡ [] = search (arith, nil_from_length) in
     let whole : i.modes ≡ follow Start (reverse c.in_ok-table.table.items) = sym (append-nil i.modes) ∙ rw none at i.led in
     let xs = c.args.input.now in
     let rows = reverse c.in_ok-table.table.items in
-    let many : length rows ≡ length xs = length-reverse c.in_ok-table.table.items ∙ sym c.in_ok-table.table.ok.0 ∙ c.in_ok-table.ensures.0 in
+    let many : length rows ≡ length xs = search (arith, length-reverse) in
     let best = assignment-from-table Default c.args.version c.args.rule xs rows c.in_ok-table.ensures.1 in
     (i.modes, rw (whole, ← follow-default Start xs rows many) best, c.in_ok-push_segment.ensures ∙ i.runs, refl)

@@ -1,4 +1,4 @@
-use Rattle.std.proofs.Common.{◌≡◌, ◌+◌, ◌∷◌, [], take, drop, get_or, arith, refl}
+use Rattle.std.proofs.Common.{◌≡◌, ◌+◌, ◌∷◌, take, drop, get_or, arith, refl, rules}
 use Rattle.std.proofs.lemmas.List.{drop_all, drop_more}
 use Rattle.qr_bits.specs.Steps.Segmentation.{written}
 use Rattle.qr_bits.proofs.lemmas.segment.SegmentLemmas.{past_end}
@@ -24,8 +24,4 @@ loop-segment-preserved c =
     ]
 
 pub returns : goal.returns
-returns c =
-    let segs = c.args.segments.now in
-    let l = c.loop-segment in
-    let none : drop l.segment-index segs ≡ [] = drop_all l.segment-index segs c.loop-segment-test.false in
-    restored-all c.args.input.now segs l.characters l.begin (rw none at l.invariant)
+returns c = search (rules, drop_all, restored-all)

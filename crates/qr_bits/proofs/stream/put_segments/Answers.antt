@@ -1,4 +1,5 @@
-use Rattle.std.proofs.Common.{append_assoc, arith, append-nil}
+use Rattle.std.proofs.Common.{◌<◌, ℕ, append_assoc, arith, append-nil, rules}
+use Rattle.std.proofs.lemmas.List.Elements.{All-from_get_or}
 use Rattle.qr_bits.proofs.lemmas.segment.SegmentLemmas.{covers-next, past_end}
 use Rattle.qr_bits.proofs.lemmas.stream.WritingLemmas.{stream-next, stream-end, append-next}
 use Rattle.qr_bits.proofs.stream.put_segments.Goals as goal
@@ -7,8 +8,7 @@ pub split_at-requires : goal.split_at-requires
 split_at-requires c = (covers-next c.loop-segment.rest.now c.args.segs.now c.loop-segment.segment-index past_end c.loop-segment-test.true c.loop-segment.invariant.covered).1
 
 pub put_segment-requires-clause-suited : goal.put_segment-requires-clause-suited
-put_segment-requires-clause-suited c =
-    rw c.split_at.ensures.front (covers-next c.loop-segment.rest.now c.args.segs.now c.loop-segment.segment-index past_end c.loop-segment-test.true c.loop-segment.invariant.covered).2
+put_segment-requires-clause-suited c = search (rules, covers-next, past_end)
 
 pub loop-segment-preserved : goal.loop-segment-preserved
 loop-segment-preserved c =
@@ -23,4 +23,4 @@ loop-segment-preserved c =
     }
 
 pub returns : goal.returns
-returns c = search (arith, stream-end, append-nil)
+returns c = (search (arith, stream-end, append-nil), All-from_get_or (λ (b : ℕ). b < 256) c.args.input.now 0 (λ i h. omega (arith, c.type_inv.input i)))

@@ -37,9 +37,9 @@ Sends-stops a b c h0 h1 x y p (t, (rest, f), q) = (
 )
 
 -- if one part was written and then another, the two together were written
-pub writes_on : (a b c : Writer) (i j k : ℕ) (h0 h1 h2 x y : List ℕ)
+pub writes-on : (a b c : Writer) (i j k : ℕ) (h0 h1 h2 x y : List ℕ)
     → Writes a b i j (h0 ++ x) h1 → Writes b c j k (h1 ++ y) h2 → Writes a c i k (h0 ++ (x ++ y)) h2
-writes_on a b c i j k h0 h1 h2 x y p q = record {
+writes-on a b c i j k h0 h1 h2 x y p q = record {
   sends = Sends-trans a b c h0 h1 h2 x y p.sends q.sends;
   well = λ h. q.well (p.well h);
   offered = let e = p.offered in let f = q.offered in omega arith;
@@ -47,9 +47,9 @@ writes_on a b c i j k h0 h1 h2 x y p q = record {
 }
 
 -- if one part was written and the writer failed in the next, it failed in the two together
-pub writes_stop : (a b c : Writer) (i j : ℕ) (h0 h1 x y : List ℕ)
+pub writes-stop : (a b c : Writer) (i j : ℕ) (h0 h1 x y : List ℕ)
     → Writes a b i j (h0 ++ x) h1 → Stops b c j (h1 ++ y) → Stops a c i (h0 ++ (x ++ y))
-writes_stop a b c i j h0 h1 x y p q = record {
+writes-stop a b c i j h0 h1 x y p q = record {
   prefix = Sends-stops a b c h0 h1 x y p.sends q.prefix;
   most = λ fits. most-on _ _ _ (length p.sends.sent) (length h1) (length (h0 ++ x)) _ (length y) _
       (sym (length-append p.sends.sent h1) ∙ ap (λ l. length l) p.sends.whole) (length-append h1 y)
@@ -61,13 +61,13 @@ writes_stop a b c i j h0 h1 x y p q = record {
 }
 
 -- a prefix of a part is a prefix of the whole
-begins_before : (a b : Option (List ℕ)) (x y : List ℕ) → AppendsBeginning a b x → AppendsBeginning a b (x ++ y)
-begins_before a b x y (s, (rest, e), q) = (s, (rest ++ y, sym (append_assoc s rest y) ∙ ap (λ l. l ++ y) e), q)
+begins-before : (a b : Option (List ℕ)) (x y : List ℕ) → AppendsBeginning a b x → AppendsBeginning a b (x ++ y)
+begins-before a b x y (s, (rest, e), q) = (s, (rest ++ y, sym (append_assoc s rest y) ∙ ap (λ l. l ++ y) e), q)
 
 -- a writer that failed in a part failed in the whole text
-pub stops_before : (a b : Writer) (i : ℕ) (x y : List ℕ) → Stops a b i x → Stops a b i (x ++ y)
-stops_before a b i x y p = record {
-  prefix = begins_before a.taken b.taken x y p.prefix;
+pub stops-before : (a b : Writer) (i : ℕ) (x y : List ℕ) → Stops a b i x → Stops a b i (x ++ y)
+stops-before a b i x y p = record {
+  prefix = begins-before a.taken b.taken x y p.prefix;
   most = λ fits. most-before _ _ (length x) _ (length y) (length-append x y) (p.most fits);
   fault = p.fault;
   within = p.within;
@@ -76,12 +76,12 @@ stops_before a b i x y p = record {
 }
 
 -- a writer that failed in the first of two texts failed in both together
-pub stops_first : (a b : Writer) (i : ℕ) (h x y : List ℕ) → Stops a b i (h ++ x) → Stops a b i (h ++ (x ++ y))
-stops_first a b i h x y p = subst (λ l. Stops a b i l) (append_assoc h x y) (stops_before a b i (h ++ x) y p)
+pub stops-first : (a b : Writer) (i : ℕ) (h x y : List ℕ) → Stops a b i (h ++ x) → Stops a b i (h ++ (x ++ y))
+stops-first a b i h x y p = subst (λ l. Stops a b i l) (append_assoc h x y) (stops-before a b i (h ++ x) y p)
 
 -- if nothing was written, the text that is held is unchanged
-pub writes_none : (a : Writer) (i : ℕ) (h : List ℕ) → Writes a a i i (h ++ []) h
-writes_none a i h = record {
+pub writes-none : (a : Writer) (i : ℕ) (h : List ℕ) → Writes a a i i (h ++ []) h
+writes-none a i h = record {
   sends = record {
     sent = [];
     grows = Appends-nil a.taken;
@@ -108,17 +108,17 @@ formed a b i j h0 h1 h2 x p e = record {
 }
 
 -- one part was written, and the writer failed in the held rest of it, before the next part
-pub stops_between : (a b c : Writer) (i j : ℕ) (h0 h1 x y : List ℕ) → Writes a b i j (h0 ++ x) h1 → Stops b c j h1 → Stops a c i (h0 ++ (x ++ y))
-stops_between a b c i j h0 h1 x y p q = writes_stop a b c i j h0 h1 x y p (stops_before b c j h1 y q)
+pub stops-between : (a b c : Writer) (i j : ℕ) (h0 h1 x y : List ℕ) → Writes a b i j (h0 ++ x) h1 → Stops b c j h1 → Stops a c i (h0 ++ (x ++ y))
+stops-between a b c i j h0 h1 x y p q = writes-stop a b c i j h0 h1 x y p (stops-before b c j h1 y q)
 
 -- after what was held of a text is sent, the whole text was written, or the writer failed in it
 pub emptied : (a b c : Writer) (i : ℕ) (before after : Pen) (text : List ℕ) (r : Result (Unit {0}) DrawFault) → Writes a b i before.interrupted text before.piece
     → Reserves b c before after r → OnOk r (after.piece ≡ [])
     → MatchResult r (λ _. Writes a c i after.interrupted text []) (λ _. Stops a c i text)
 emptied a b c i before after text (Ok t) p q e =
-    let w = writes_on a b c i before.interrupted after.interrupted [] before.piece after.piece text [] p (rw append-nil q) in rw (append-nil, e) at w
+    let w = writes-on a b c i before.interrupted after.interrupted [] before.piece after.piece text [] p (rw append-nil q) in rw (append-nil, e) at w
 emptied a b c i before after text (Err f) p q e =
-    let w = writes_stop a b c i before.interrupted [] before.piece text [] p (rw append-nil q) in rw append-nil at w
+    let w = writes-stop a b c i before.interrupted [] before.piece text [] p (rw append-nil q) in rw append-nil at w
 
 -- a call that writes a text whole promises this
 abbrev pub Written : Writer → Writer → List ℕ → {T : Type 0} → Result T DrawFault → Type 0

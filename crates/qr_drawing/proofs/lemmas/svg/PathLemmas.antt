@@ -11,23 +11,23 @@ use Rattle.qr_drawing.specs.Svg.{background, begins_run, box_path, closing, decl
 use Rattle.qr_drawing.proofs.lemmas.text.LineLemmas.{texts_below-more, texts_below-none, texts_below-same, texts-of-items}
 
 -- a place of the symbol has its colour
-pub is_dark_at_inside : (margin row col : ℕ) (g : Grid) → row < g.side → col < g.side
+pub is_dark_at-inside : (margin row col : ℕ) (g : Grid) → row < g.side → col < g.side
     → is_dark_at margin g (margin + row) (margin + col) ≡ colour g row col
 unfolding is_dark_at
-is_dark_at_inside margin row col g a b =
+is_dark_at-inside margin row col g a b =
     let e : margin + row - margin ≡ row = omega arith in
     let f : margin + col - margin ≡ col = omega arith in
     rw (e, f) (grind (arith, nat_tests))
 
 -- the margin to the left is light
-pub is_dark_at_left : (margin y x : ℕ) (g : Grid) → x < margin → is_dark_at margin g y x ≡ false
+pub is_dark_at-left : (margin y x : ℕ) (g : Grid) → x < margin → is_dark_at margin g y x ≡ false
 unfolding is_dark_at
-is_dark_at_left margin y x g a = grind (arith, nat_tests)
+is_dark_at-left margin y x g a = grind (arith, nat_tests)
 
 -- the margin to the right is light
-pub is_dark_at_right : (margin y x : ℕ) (g : Grid) → margin + g.side ≤ x → is_dark_at margin g y x ≡ false
+pub is_dark_at-right : (margin y x : ℕ) (g : Grid) → margin + g.side ≤ x → is_dark_at margin g y x ≡ false
 unfolding is_dark_at
-is_dark_at_right margin y x g a = grind (arith, nat_tests)
+is_dark_at-right margin y x g a = grind (arith, nat_tests)
 
 -- the margin above is light
 pub is_dark_at_above : (margin y x : ℕ) (g : Grid) → y < margin → is_dark_at margin g y x ≡ false
@@ -95,9 +95,9 @@ module _ (top margin row col : ℕ) (g : Grid) (run : Run) (runs : List Run) (ro
   here k a b = let w = at in elim (cases_lt k (margin + g.side)) [
     | inl lt ↦
         let e : margin + (k - margin) ≡ k = omega arith in
-        ap (is_dark_at margin g (margin + row)) (sym e) ∙ (is_dark_at_inside margin row (k - margin) g row_in (omega arith)
+        ap (is_dark_at margin g (margin + row)) (sym e) ∙ (is_dark_at-inside margin row (k - margin) g row_in (omega arith)
         ∙ (run-colours g row col run runs are (k - margin) (omega arith) (omega arith) ∙ grind (arith, nat_tests)))
-    | inr ge ↦ is_dark_at_right margin (margin + row) k g ge ∙ grind (arith, nat_tests)
+    | inr ge ↦ is_dark_at-right margin (margin + row) k g ge ∙ grind (arith, nat_tests)
   ]
 
   -- the places of the run are dark
@@ -105,17 +105,17 @@ module _ (top margin row col : ℕ) (g : Grid) (run : Run) (runs : List Run) (ro
   all-dark k a b = let w = at in here k (omega arith) (omega arith) ∙ grind (arith, nat_tests)
 
   -- the places before the run have no paths
-  light_run : texts_below (margin + run.start) (run_path top margin g (margin + row)) ≡ texts_below (margin + col) (run_path top margin g (margin + row))
-  light_run =
+  light-run : texts_below (margin + run.start) (run_path top margin g (margin + row)) ≡ texts_below (margin + col) (run_path top margin g (margin + row))
+  light-run =
       let w = at in
-      texts_below-same (margin + col) (margin + run.start) (run_path top margin g (margin + row)) (omega arith)
+      texts_below-same _ _ _ (omega arith)
       (λ k a b. run_path-light top margin (margin + row) k g (here k (omega arith) (omega arith) ∙ grind (arith, nat_tests)))
 
   -- the places after the run's first have no paths
-  dark_run : texts_below (margin + run.end) (run_path top margin g (margin + row)) ≡ texts_below (margin + run.start + 1) (run_path top margin g (margin + row))
-  dark_run =
+  dark-run : texts_below (margin + run.end) (run_path top margin g (margin + row)) ≡ texts_below (margin + run.start + 1) (run_path top margin g (margin + row))
+  dark-run =
       let w = at in
-      texts_below-same (margin + run.start + 1) (margin + run.end) (run_path top margin g (margin + row)) (omega arith)
+      texts_below-same _ _ _ (omega arith)
       (λ k a b. run_path-inner top margin (margin + row) k g (omega arith) (all-dark (k - 1) (omega arith) (omega arith)))
 
   -- the place before the run is not dark
@@ -124,90 +124,86 @@ module _ (top margin row col : ℕ) (g : Grid) (run : Run) (runs : List Run) (ro
     | inl lt ↦ here (margin + run.start - 1) (omega arith) (omega arith) ∙ grind (arith, nat_tests)
     | inr ge ↦ elim (cases_lt 0 col) [
       | inl lt ↦ let h : true ≡ false = sym (run-colours g row col run runs are col (omega arith) (omega arith) ∙ grind (arith, nat_tests)) ∙ light lt in cc
-      | inr z ↦ is_dark_at_left margin (margin + row) (margin + run.start - 1) g (omega arith)
+      | inr z ↦ is_dark_at-left margin (margin + row) (margin + run.start - 1) g (omega arith)
     ]
   ]
 
   -- the length of the run is that of the definition
-  dark_length : run_length margin g (margin + row) (margin + run.start) ≡ run.end - run.start
+  dark-length : run_length margin g (margin + row) (margin + run.start) ≡ run.end - run.start
   unfolding run_length
-  dark_length =
+  dark-length =
       let w = at in
       let e : margin + run.start + (run.end - run.start) ≡ margin + run.end = omega arith in
-      prefix_len-range (is_dark_at margin g (margin + row)) (margin + run.start) (run.end - run.start) (raster_width margin g - (margin + run.start)) (omega arith)
-      (λ k a b. all-dark k a (omega arith)) (λ lt. rw e (here (margin + run.end) (omega arith) (omega arith) ∙ grind (arith, nat_tests)))
+      prefix_len-range (is_dark_at margin g (margin + row)) _ _ _ (omega arith) (λ k a b. all-dark k a (omega arith)) (λ lt. rw e (here (margin + run.end) (omega arith) (omega arith) ∙ grind (arith, nat_tests)))
 
   -- the paths up to the end of the run are those up to column `col` and its box
-  run_added : (0 < col → colour g row col ≡ false)
+  run-added : (0 < col → colour g row col ≡ false)
       → texts_below (margin + run.end) (run_path top margin g (margin + row)) ≡ texts_below (margin + col) (run_path top margin g (margin + row)) ++ box_of top margin row run
-  run_added light =
+  run-added light =
       let w = at in
       let path = run_path-first top margin (margin + row) (margin + run.start) g (all-dark (margin + run.start) (omega arith) (omega arith)) (before-dark light)
-      ∙ ap (box_path (margin + run.start) (top + (margin + row))) dark_length in
-      dark_run ∙ (texts_below-more (margin + run.start) (run_path top margin g (margin + row)) ∙ (λ i. light_run i ++ path i))
+      ∙ ap (box_path (margin + run.start) (top + (margin + row))) dark-length in
+      dark-run ∙ (texts_below-more _ _ ∙ (λ i. light-run i ++ path i))
 
 -- there are no paths to the left of the symbol
-row_begins : (top margin y : ℕ) (g : Grid) → texts_below (margin + 0) (run_path top margin g y) ≡ []
-row_begins top margin y g =
-    texts_below-none (margin + 0) (run_path top margin g y) (λ k lt. run_path-light top margin y k g (is_dark_at_left margin y k g (omega arith)))
+row-begins : (top margin y : ℕ) (g : Grid) → texts_below (margin + 0) (run_path top margin g y) ≡ []
+row-begins top margin y g = texts_below-none _ _ (λ k lt. run_path-light top margin y k g (is_dark_at-left margin y k g (omega arith)))
 
 -- there are no paths in the rest of a row if that rest is light
-row_ends : (top margin row col : ℕ) (g : Grid) → row < g.side → col ≤ g.side → ((c : ℕ) → col ≤ c → colour g row c ≡ false)
+row-ends : (top margin row col : ℕ) (g : Grid) → row < g.side → col ≤ g.side → ((c : ℕ) → col ≤ c → colour g row c ≡ false)
     → row_path top margin g (margin + row) ≡ texts_below (margin + col) (run_path top margin g (margin + row))
 unfolding row_path
-row_ends top margin row col g row_in le light =
-    texts_below-same (margin + col) (raster_width margin g) (run_path top margin g (margin + row)) (omega arith)
+row-ends top margin row col g row_in le light =
+    texts_below-same _ _ _ (omega arith)
     (λ k a b. run_path-light top margin (margin + row) k g (elim (cases_lt k (margin + g.side)) [
       | inl lt ↦
           let e : margin + (k - margin) ≡ k = omega arith in
-          ap (is_dark_at margin g (margin + row)) (sym e) ∙ (is_dark_at_inside margin row (k - margin) g row_in (omega arith) ∙ light (k - margin) (omega arith))
-      | inr ge ↦ is_dark_at_right margin (margin + row) k g ge
+          ap (is_dark_at margin g (margin + row)) (sym e) ∙ (is_dark_at-inside margin row (k - margin) g row_in (omega arith) ∙ light (k - margin) (omega arith))
+      | inr ge ↦ is_dark_at-right margin (margin + row) k g ge
     ]))
 
 -- the paths of a row are those up to column `col` and the boxes of the runs from there on
-boxes_from : (top margin row col : ℕ) (g : Grid) (runs : List Run) → row < g.side → col ≤ g.side → (0 < col → colour g row col ≡ false) → AreRunsFrom g row col runs
+boxes-from : (top margin row col : ℕ) (g : Grid) (runs : List Run) → row < g.side → col ≤ g.side → (0 < col → colour g row col ≡ false) → AreRunsFrom g row col runs
     → row_path top margin g (margin + row) ≡ texts_below (margin + col) (run_path top margin g (margin + row)) ++ flat_map (box_of top margin row) runs
-boxes_from top margin row col g [] row_in le light are = row_ends top margin row col g row_in le (λ c l. are.dark c l) ∙ sym (append-nil _)
-boxes_from top margin row col g (run ∷ runs) row_in le light are =
+boxes-from top margin row col g [] row_in le light are = row-ends top margin row col g row_in le (λ c l. are.dark c l) ∙ sym (append-nil _)
+boxes-from top margin row col g (run ∷ runs) row_in le light are =
     let w = run-in g row col run runs are in
-    boxes_from top margin row run.end g runs row_in w.2 (λ _. run-colours g row col run runs are run.end (omega arith) (omega arith) ∙ grind (arith, nat_tests))
+    boxes-from top margin row run.end g runs row_in w.2 (λ _. run-colours g row col run runs are run.end (omega arith) (omega arith) ∙ grind (arith, nat_tests))
     (other-runs g row col run runs are)
-    ∙ (ap (λ l. l ++ flat_map (box_of top margin row) runs) (run_added top margin row col g run runs row_in are light)
+    ∙ (ap (λ l. l ++ flat_map (box_of top margin row) runs) (run-added top margin row col g run runs row_in are light)
     ∙ append_assoc _ (box_of top margin row run) (flat_map (box_of top margin row) runs))
 
 -- the paths of a row are the boxes of its runs
-pub row_boxes : (top margin row : ℕ) (g : Grid) (runs : List Run) → row < g.side → AreDarkRuns g row runs
+pub row-boxes : (top margin row : ℕ) (g : Grid) (runs : List Run) → row < g.side → AreDarkRuns g row runs
     → row_path top margin g (margin + row) ≡ flat_map (box_of top margin row) runs
-row_boxes top margin row g runs row_in are =
-    boxes_from top margin row 0 g runs row_in (omega arith) (λ some. absurd (omega arith)) (all-runs g row runs are)
-    ∙ ap (λ l. l ++ flat_map (box_of top margin row) runs) (row_begins top margin (margin + row) g)
+row-boxes top margin row g runs row_in are =
+    boxes-from top margin row 0 g runs row_in (omega arith) (λ some. absurd (omega arith)) (all-runs g row runs are)
+    ∙ ap (λ l. l ++ flat_map (box_of top margin row) runs) (row-begins top margin (margin + row) g)
 
 -- a light row has no paths
 row_path-light : (top margin y : ℕ) (g : Grid) → ((x : ℕ) → is_dark_at margin g y x ≡ false) → row_path top margin g y ≡ []
 unfolding row_path texts_below
-row_path-light top margin y g none =
-    texts_below-none (raster_width margin g) (run_path top margin g y) (λ k lt. run_path-light top margin y k g (none k))
+row_path-light top margin y g none = texts_below-none _ _ (λ k lt. run_path-light top margin y k g (none k))
 
 -- there are no paths above the square of a symbol
-pub symbol_begins : (top margin : ℕ) (g : Grid) → texts_below (margin + 0) (row_path top margin g) ≡ []
-symbol_begins top margin g =
-    texts_below-none (margin + 0) (row_path top margin g) (λ k lt. row_path-light top margin k g (λ x. is_dark_at_above margin k x g (omega arith)))
+pub symbol-begins : (top margin : ℕ) (g : Grid) → texts_below (margin + 0) (row_path top margin g) ≡ []
+symbol-begins top margin g =
+    texts_below-none _ _ (λ k lt. row_path-light top margin k g (λ x. is_dark_at_above margin k x g (omega arith)))
 
 -- there are no paths below the square of a symbol
-pub symbol_ends : (top margin row : ℕ) (g : Grid) → row ≡ g.side → symbol_path top margin g ≡ texts_below (margin + row) (row_path top margin g)
+pub symbol-ends : (top margin row : ℕ) (g : Grid) → row ≡ g.side → symbol_path top margin g ≡ texts_below (margin + row) (row_path top margin g)
 unfolding symbol_path
-symbol_ends top margin row g e =
-    rw e (texts_below-same (margin + g.side) (raster_width margin g) (row_path top margin g) (omega arith)
-    (λ k a b. row_path-light top margin k g (λ x. is_dark_at_below margin k x g a)))
+symbol-ends top margin row g e =
+    rw e (texts_below-same _ _ _ (omega arith) (λ k a b. row_path-light top margin k g (λ x. is_dark_at_below margin k x g a)))
 
 -- the square with the index k is that of the symbol with the index k
 pub square_at-item : {T : Type 0} (grid : T → Grid) (xs : List T) (k : ℕ) (x : T) → k < length xs → x ≡ get_or xs k x → square_at (map grid xs) k ≡ grid x
 square_at-item grid xs k x lt is = get_or-map grid xs k x (light 0) lt ∙ ap grid (sym is)
 
 -- the rasters of symbols of one side are as wide as the first
-pub one_width : {T : Type 0} (grid : T → Grid) (margin k : ℕ) (xs : List T) (x : T) → HaveOneSide (map grid xs) → k < length xs → x ≡ get_or xs k x
+pub one-width : {T : Type 0} (grid : T → Grid) (margin k : ℕ) (xs : List T) (x : T) → HaveOneSide (map grid xs) → k < length xs → x ≡ get_or xs k x
     → raster_width margin (grid x) ≡ raster_width margin (square_at (map grid xs) 0)
-one_width grid margin k xs x one lt is =
+one-width grid margin k xs x one lt is =
     let n : length (map grid xs) ≡ length xs = length-map xs grid in
     let here : (square_at (map grid xs) k).side ≡ (square_at (map grid xs) 0).side =
     All-get_or (λ g. g.side ≡ (square_at (map grid xs) 0).side) (map grid xs) k (light 0) (omega arith) one in
@@ -221,31 +217,31 @@ texts-of-symbols grid text xs k e =
     ∙ ap (λ m. texts_below m (λ n. text (square_at (map grid xs) n))) (length-map xs grid ∙ sym e)
 
 -- the paths of all symbols are the paths of the first k, if k is their number
-pub stack_ends : {T : Type 0} (grid : T → Grid) (margin k : ℕ) (xs : List T) → k ≡ length xs → stack_path margin (map grid xs)
+pub stack-ends : {T : Type 0} (grid : T → Grid) (margin k : ℕ) (xs : List T) → k ≡ length xs → stack_path margin (map grid xs)
     ≡ texts_below k (λ n. symbol_path (n * raster_width margin (square_at (map grid xs) n)) margin (square_at (map grid xs) n))
 unfolding stack_path
-stack_ends grid margin k xs e =
+stack-ends grid margin k xs e =
     let n : length (map grid xs) ≡ k = length-map xs grid ∙ sym e in
     ap (λ m. texts_below m (λ n. symbol_path (n * raster_width margin (square_at (map grid xs) n)) margin (square_at (map grid xs) n))) n
 
 -- the path of the symbol with the index k is the path at its top
-pub stack_at : {T : Type 0} (grid : T → Grid) (margin k top : ℕ) (xs : List T) (x : T) → HaveOneSide (map grid xs) → k < length xs → x ≡ get_or xs k x
+pub stack-at : {T : Type 0} (grid : T → Grid) (margin k top : ℕ) (xs : List T) (x : T) → HaveOneSide (map grid xs) → k < length xs → x ≡ get_or xs k x
     → top ≡ k * raster_width margin (square_at (map grid xs) 0)
     → symbol_path (k * raster_width margin (square_at (map grid xs) k)) margin (square_at (map grid xs) k) ≡ symbol_path top margin (grid x)
-stack_at grid margin k top xs x one lt is e =
+stack-at grid margin k top xs x one lt is e =
     let s = square_at-item grid xs k x lt is in
-    rw (s, one_width grid margin k xs x one lt is, e) refl
+    rw (s, one-width grid margin k xs x one lt is, e) refl
 
 -- k + 1 times a number is k times the number and once more
 next-multiple : (k w : ℕ) → k * w + w ≡ (k + 1) * w
 next-multiple k w = let e : k + 1 ≡ suc k = omega arith in rw e (sym (suc-mul k w))
 
 -- the top of the next symbol is the top of this one and its height
-pub next_top : {T : Type 0} (grid : T → Grid) (margin k top width : ℕ) (xs : List T) (x : T) → HaveOneSide (map grid xs) → k < length xs → x ≡ get_or xs k x
+pub next-top : {T : Type 0} (grid : T → Grid) (margin k top width : ℕ) (xs : List T) (x : T) → HaveOneSide (map grid xs) → k < length xs → x ≡ get_or xs k x
     → top ≡ k * raster_width margin (square_at (map grid xs) 0) → width ≡ raster_width margin (grid x)
     → top + width ≡ (k + 1) * raster_width margin (square_at (map grid xs) 0)
-next_top grid margin k top width xs x one lt is e f =
-    let w = f ∙ one_width grid margin k xs x one lt is in
+next-top grid margin k top width xs x one lt is e f =
+    let w = f ∙ one-width grid margin k xs x one lt is in
     rw (e, w) (next-multiple k (raster_width margin (square_at (map grid xs) 0)))
 
 -- a document is the same if its seven pieces are grouped as in the definition and as they are written

@@ -9,31 +9,31 @@ use Rattle.qr_drawing.specs.Steps.Text.{AreDark, bits_text, cell_at, cell_room, 
 use Rattle.qr_drawing.specs.declared.text.{TheConstants.{ASCII_QUADS, HALF_BLOCK_PAIRS}, TextStyle.TextStyle}
 use Rattle.qr_drawing.specs.declared.text.TextStyle.TheVariants.{Plain, Inverse, HalfBlocks}
 use borrow.Rule.Slice.PartMut.{put_mid}
-use Rattle.qr_drawing.proofs.lemmas.text.LineLemmas.{added_more, texts_below-add, texts_below-alike, texts_below-length}
-use Rattle.qr_drawing.proofs.lemmas.svg.PathLemmas.{is_dark_at_inside, is_dark_at_left, is_dark_at_right}
+use Rattle.qr_drawing.proofs.lemmas.text.LineLemmas.{added-more, texts_below-add, texts_below-alike, texts_below-length}
+use Rattle.qr_drawing.proofs.lemmas.svg.PathLemmas.{is_dark_at-inside, is_dark_at-left, is_dark_at-right}
 
 -- no bit of 0 is set: computed
 none-set : all_below 8 (λ k. is_same (has_bit 0 k) false) ≡ true
 unfolding has_bit
 none-set = refl
 
+light-bit : (k : ℕ) → k < 8 → has_bit 0 k ≡ false
+light-bit k lt = same-same _ _ (below-at 8 (λ k. is_same (has_bit 0 k) false) none-set k lt)
+
 -- four cells of modules that are bits of 0 are four light cells
 pub light-quad : (style : TextStyle) → bits_text 4 style 0 0 ≡ texts_below 4 (λ _. cell_text style false false)
 light-quad style =
-    let light : (k : ℕ) → k < 8 → has_bit 0 k ≡ false = λ k lt. same-same (has_bit 0 k) false (below-at 8 (λ k. is_same (has_bit 0 k) false) none-set k lt) in
-    texts_below-alike 4 (λ k. cell_text style (has_bit 0 k) (has_bit 0 k)) (λ _. cell_text style false false)
-    (λ k lt. λ i. cell_text style (light k (omega arith) i) (light k (omega arith) i))
+    texts_below-alike 4 _ _ (λ k lt. let light = light-bit k (omega arith) in λ i. cell_text style (light i) (light i))
 
 -- if a row of the raster is light, the number 0 has the bits of eight of its modules
 pub dark_none : (margin : ℕ) (g : Grid) (y col : ℕ) → ((x : ℕ) → is_dark_at margin g y x ≡ false) → AreDark margin g y col 0
-dark_none margin g y col h k lt inside =
-    same-same (has_bit 0 k) false (below-at 8 (λ k. is_same (has_bit 0 k) false) none-set k lt) ∙ sym (h (margin + (col + k)))
+dark_none margin g y col h k lt inside = light-bit k lt ∙ sym (h (margin + (col + k)))
 
 -- the bits of eight modules of the square are those of eight places of the raster
-pub dark_eight : (margin : ℕ) (g : Grid) (y row col bits : ℕ) → margin + row ≡ y → row < g.side
+pub dark-eight : (margin : ℕ) (g : Grid) (y row col bits : ℕ) → margin + row ≡ y → row < g.side
     → ((k : ℕ) → k < 8 → has_bit bits k ≡ colour g row (col + k)) → AreDark margin g y col bits
-dark_eight margin g y row col bits e inside h k lt col_in =
-    h k lt ∙ sym (ap (λ r. is_dark_at margin g r (margin + (col + k))) (sym e) ∙ is_dark_at_inside margin row (col + k) g inside col_in)
+dark-eight margin g y row col bits e inside h k lt col_in =
+    h k lt ∙ sym (ap (λ r. is_dark_at margin g r (margin + (col + k))) (sym e) ∙ is_dark_at-inside margin row (col + k) g inside col_in)
 
 -- if n cells are added to the cells of `col` columns, the result is the cells of `col` + n columns
 pub added-cells : (style : TextStyle) (margin : ℕ) (g : Grid) (row col n upper lower : ℕ) (h t u : List ℕ) →
@@ -42,23 +42,21 @@ pub added-cells : (style : TextStyle) (margin : ℕ) (g : Grid) (row col n upper
     u ≡ t ++ bits_text n style upper lower →
     u ≡ h ++ texts_below (col + n) (λ i. cell_at style margin g row (margin + i))
 added-cells style margin g row col n upper lower h t u few fits up down p q =
-    added_more h t u col n (λ i. cell_at style margin g row (margin + i)) (λ k. cell_text style (has_bit upper k) (has_bit lower k)) p q
-    (texts_below-alike n (λ k. cell_text style (has_bit upper k) (has_bit lower k)) (λ k. cell_at style margin g row (margin + (col + k)))
-    (λ k lt. λ i. cell_text style (up k (omega arith) (omega arith) i) (down k (omega arith) (omega arith) i)))
+    added-more h t u col n _ _ p q
+    (texts_below-alike n _ _ (λ k lt. λ i. cell_text style (up k (omega arith) (omega arith) i) (down k (omega arith) (omega arith) i)))
 
 -- the texts of n + d cells are those of the n lowest bits and of the d bits after them
 bits-split : (n d : ℕ) (style : TextStyle) (upper lower : ℕ)
     → bits_text (n + d) style upper lower ≡ bits_text n style upper lower ++ bits_text d style (upper / 2 ^ n) (lower / 2 ^ n)
 bits-split n d style upper lower =
     let up : (b k : ℕ) → has_bit b (n + k) ≡ has_bit (b / 2 ^ n) k = λ b k. let e : n + k ≡ k + n = omega arith in ap (has_bit b) e ∙ sym (has_bit-shr b n k) in
-    texts_below-add n d (λ k. cell_text style (has_bit upper k) (has_bit lower k))
-    ∙ ap (λ l. bits_text n style upper lower ++ l) (texts_below-alike d (λ k. cell_text style (has_bit upper (n + k)) (has_bit lower (n + k)))
-    (λ k. cell_text style (has_bit (upper / 2 ^ n) k) (has_bit (lower / 2 ^ n) k)) (λ k lt. λ i. cell_text style (up upper k i) (up lower k i)))
+    texts_below-add n d _
+    ∙ ap (λ l. bits_text n style upper lower ++ l) (texts_below-alike d _ _ (λ k lt. λ i. cell_text style (up upper k i) (up lower k i)))
 
 -- if four cells are added and then four more, eight cells are added
-pub eight_quads : (h t u : List ℕ) (style : TextStyle) (upper lower : ℕ) → t ≡ h ++ bits_text 4 style upper lower
+pub eight-quads : (h t u : List ℕ) (style : TextStyle) (upper lower : ℕ) → t ≡ h ++ bits_text 4 style upper lower
     → u ≡ t ++ bits_text 4 style (upper / 16) (lower / 16) → u ≡ h ++ bits_text 8 style upper lower
-eight_quads h t u style upper lower p q =
+eight-quads h t u style upper lower p q =
     cc (
       q,
       p,
@@ -76,10 +74,9 @@ pub quad-at : (b : ℕ) → b < 16 → get_or ASCII_QUADS b [] ≡ bits_text 4 P
 quad-at b lt = same_text _ _ (sym (below-at 16 (λ b. pointwise nat_eq (get_or ASCII_QUADS b []) (bits_text 4 Plain b 0)) all-quads b lt))
 
 -- the four lowest bits suffice for four modules of a plain text
-pub quad_plain : (upper lower : ℕ) → bits_text 4 Plain (upper % 16) 0 ≡ bits_text 4 Plain upper lower
-quad_plain upper lower =
-    texts_below-alike 4 (λ k. cell_text Plain (has_bit (upper % 16) k) (has_bit 0 k)) (λ k. cell_text Plain (has_bit upper k) (has_bit lower k))
-    (λ k lt. ap (λ b. cell_text Plain b false) (low-bits 4 upper k lt))
+pub quad-plain : (upper lower : ℕ) → bits_text 4 Plain (upper % 16) 0 ≡ bits_text 4 Plain upper lower
+quad-plain upper lower =
+    texts_below-alike 4 _ _ (λ k lt. ap (λ b. cell_text Plain b false) (low-bits 4 upper k lt))
 
 -- the texts of four modules and of the next four, one after the other, are the text of eight modules
 pub eight-joined : (bits : ℕ) (a b : List ℕ) → length a ≡ 8 → a ≡ bits_text 4 Plain (bits % 16) 0 → b ≡ bits_text 4 Plain (bits / 16) 0
@@ -89,7 +86,7 @@ eight-joined bits a b l p q =
     let first : take 8 (a ++ light) ≡ a = ap (λ n. take n (a ++ light)) (sym l) ∙ take-append_seam a light in
     let rest : drop 8 (drop 8 (a ++ light)) ≡ [] = drop_all 8 (drop 8 (a ++ light)) (omega (arith, length-drop 8 (a ++ light), length-append a light, l)) in
     let whole : put_mid 8 8 (a ++ light) b ≡ a ++ b = rw first (ap (λ t. a ++ (b ++ t)) rest ∙ ap (λ t. a ++ t) (append-nil b)) in
-    cc (whole, p, q, quad_plain bits 0, bits-split 4 4 Plain bits 0)
+    cc (whole, p, q, quad-plain bits 0, bits-split 4 4 Plain bits 0)
 
 -- each of the four lowest bits of `15 - bits` is the opposite bit: computed
 all-others : all_below 16 (λ b. all_below 4 (λ k. is_same (has_bit (15 - b) k) (not (has_bit b k)))) ≡ true
@@ -98,12 +95,12 @@ all-others = refl
 
 -- each bit of `15 - bits` is the opposite bit
 other-bit : (b k : ℕ) → b < 16 → k < 4 → has_bit (15 - b) k ≡ not (has_bit b k)
-other-bit b k l m = same-same (has_bit (15 - b) k) (not (has_bit b k)) (below-at 4 (λ k. is_same (has_bit (15 - b) k) (not (has_bit b k))) (below-at 16 (λ b. all_below 4 (λ k. is_same (has_bit (15 - b) k) (not (has_bit b k)))) all-others b l) k m)
+other-bit b k l m = same-same _ _ (below-at 4 (λ k. is_same (has_bit (15 - b) k) (not (has_bit b k))) (below-at 16 (λ b. all_below 4 (λ k. is_same (has_bit (15 - b) k) (not (has_bit b k)))) all-others b l) k m)
 
 -- four modules of an inverse text are written as the opposite modules of a plain text
-pub quad_inverse : (upper lower : ℕ) → bits_text 4 Plain (15 - upper % 16) 0 ≡ bits_text 4 Inverse upper lower
-quad_inverse upper lower =
-    texts_below-alike 4 (λ k. cell_text Plain (has_bit (15 - upper % 16) k) (has_bit 0 k)) (λ k. cell_text Inverse (has_bit upper k) (has_bit lower k))
+pub quad-inverse : (upper lower : ℕ) → bits_text 4 Plain (15 - upper % 16) 0 ≡ bits_text 4 Inverse upper lower
+quad-inverse upper lower =
+    texts_below-alike 4 _ _
     (λ k lt. ap (λ b. cell_text Plain b false) (other-bit (upper % 16) k (omega arith) lt ∙ ap (λ b. not b) (low-bits 4 upper k lt)))
 
 -- the same of eight bits: computed
@@ -112,14 +109,14 @@ unfolding has_bit
 all-eight-others = refl
 
 -- eight cells of a plain text show the upper modules
-pub eight_plain : (upper lower : ℕ) → bits_text 8 Plain upper 0 ≡ bits_text 8 Plain upper lower
-eight_plain upper lower = texts_below-alike 8 (λ k. cell_text Plain (has_bit upper k) (has_bit 0 k)) (λ k. cell_text Plain (has_bit upper k) (has_bit lower k)) (λ k lt. refl)
+pub eight-plain : (upper lower : ℕ) → bits_text 8 Plain upper 0 ≡ bits_text 8 Plain upper lower
+eight-plain upper lower = refl
 
 -- eight cells of an inverse text show the opposite of the upper modules
-pub eight_inverse : (upper lower : ℕ) → upper < 256 → bits_text 8 Plain (255 - upper) 0 ≡ bits_text 8 Inverse upper lower
-eight_inverse upper lower l =
-    texts_below-alike 8 (λ k. cell_text Plain (has_bit (255 - upper) k) (has_bit 0 k)) (λ k. cell_text Inverse (has_bit upper k) (has_bit lower k))
-    (λ k lt. ap (λ b. cell_text Plain b false) (same-same (has_bit (255 - upper) k) (not (has_bit upper k)) (below-at 8 (λ k. is_same (has_bit (255 - upper) k) (not (has_bit upper k)))
+pub eight-inverse : (upper lower : ℕ) → upper < 256 → bits_text 8 Plain (255 - upper) 0 ≡ bits_text 8 Inverse upper lower
+eight-inverse upper lower l =
+    texts_below-alike 8 _ _
+    (λ k lt. ap (λ b. cell_text Plain b false) (same-same _ _ (below-at 8 (λ k. is_same (has_bit (255 - upper) k) (not (has_bit upper k)))
     (below-at 256 (λ b. all_below 8 (λ k. is_same (has_bit (255 - b) k) (not (has_bit b k)))) all-eight-others upper l) k lt)))
 
 -- the bits of two modules and of the two below them, as one number: computed
@@ -147,13 +144,12 @@ half-pair upper lower =
     (below-at 4 (λ b. all_below 2 (test a b)) (below-at 4 (λ a. all_below 4 (λ b. all_below 2 (test a b))) all-pairs a (omega arith)) b (omega arith)) in
     let up : (k : ℕ) → k < 2 → has_bit (a + b * 4) k ≡ has_bit upper k = λ k lt. same-same _ _ (&&-left _ _ (both k lt)) ∙ low-bits 2 upper k lt in
     let down : (k : ℕ) → k < 2 → has_bit (a + b * 4) (2 + k) ≡ has_bit lower k = λ k lt. same-same _ _ (&&-right _ _ (both k lt)) ∙ low-bits 2 lower k lt in
-    texts_below-alike 2 (λ k. half_blocks (has_bit (a + b * 4) k) (has_bit (a + b * 4) (2 + k))) (λ k. cell_text HalfBlocks (has_bit upper k) (has_bit lower k))
-    (λ k lt. λ i. half_blocks (up k lt i) (down k lt i))
+    texts_below-alike 2 _ _ (λ k lt. λ i. half_blocks (up k lt i) (down k lt i))
 
 -- if two characters of half blocks are added and then two more, four characters are added
-pub half_block_pairs : (h t u : List ℕ) (upper lower : ℕ) → t ≡ h ++ pair_text (upper % 4 + lower % 4 * 4)
+pub half-block-pairs : (h t u : List ℕ) (upper lower : ℕ) → t ≡ h ++ pair_text (upper % 4 + lower % 4 * 4)
     → u ≡ t ++ pair_text (upper / 4 % 4 + lower / 4 % 4 * 4) → u ≡ h ++ bits_text 4 HalfBlocks upper lower
-half_block_pairs h t u upper lower p q =
+half-block-pairs h t u upper lower p q =
     let low = bits_text 2 HalfBlocks upper lower in
     let high = bits_text 2 HalfBlocks (upper / 4) (lower / 4) in
     cc (
@@ -185,19 +181,19 @@ room-left h t n d o b room text most e le fits =
 -- if there was room for four characters of half blocks, then after two there is room for two more
 pub room-pair : (h t : List ℕ) (pair : ℕ) → t ≡ h ++ pair_text pair → length h + 12 ≤ 1200 → length t + 6 ≤ 1200
 room-pair h t pair e fits =
-    room-left h t 2 2 4 3 1200 (λ k. half_blocks (has_bit pair k) (has_bit pair (2 + k))) (λ k. cell-length HalfBlocks _ _) e (omega arith) fits
+    room-left h t 2 2 4 3 1200 _ (λ k. cell-length HalfBlocks _ _) e (omega arith) fits
 
 -- if there was room for eight of them, then after four there is room for four more
 pub room-quad : (h t : List ℕ) (upper lower : ℕ) → t ≡ h ++ bits_text 4 HalfBlocks upper lower → length h + 24 ≤ 1200 → length t + 12 ≤ 1200
 room-quad h t upper lower e fits =
-    room-left h t 4 4 8 3 1200 (λ k. cell_text HalfBlocks (has_bit upper k) (has_bit lower k)) (λ k. cell-length HalfBlocks _ _) e (omega arith) fits
+    room-left h t 4 4 8 3 1200 _ (λ k. cell-length HalfBlocks _ _) e (omega arith) fits
 
 -- if there was room for `count` cells of a row, then after `done` of them there is room for n more
 pub room-cells : (style : TextStyle) (margin : ℕ) (g : Grid) (row first done n count : ℕ) (h t : List ℕ) →
     t ≡ h ++ texts_below done (λ i. cell_at style margin g row (first + i)) → done + n ≤ count →
     length h + count * cell_room style ≤ 1200 → length t + n * cell_room style ≤ 1200
 room-cells style margin g row first done n count h t e le fits =
-    room-left h t done n count (cell_room style) 1200 (λ i. cell_at style margin g row (first + i)) (λ k. cell-length style _ _) e le fits
+    room-left h t done n count (cell_room style) 1200 _ (λ k. cell-length style _ _) e le fits
 
 -- the cell in column x of a line is the cell of the definition
 cell-of : (style : TextStyle) (margin : ℕ) (g : Grid) (y x : ℕ) → cell_of style margin g y x ≡ cell_at style margin g (top_row style y) x
@@ -208,8 +204,7 @@ light-cells : (style : TextStyle) (margin : ℕ) (g : Grid) (row first n : ℕ) 
     ((y k : ℕ) → k < n → is_dark_at margin g y (first + k) ≡ false) →
     texts_below n (λ i. cell_at style margin g row (first + i)) ≡ texts_below n (λ _. cell_text style false false)
 light-cells style margin g row first n light =
-    texts_below-alike n (λ i. cell_at style margin g row (first + i)) (λ _. cell_text style false false)
-    (λ k lt. λ i. cell_text style (light row k lt i) (light (row + 1) k lt i))
+    texts_below-alike n _ _ (λ k lt. λ i. cell_text style (light row k lt i) (light (row + 1) k lt i))
 
 -- a line is the margin, the square's columns in groups of four, the columns that are left, the margin and a newline
 pub line-parts : (style : TextStyle) (margin : ℕ) (g : Grid) (y : ℕ) → cells_of_line style margin g y ++ 10 ∷ []
@@ -218,19 +213,23 @@ pub line-parts : (style : TextStyle) (margin : ℕ) (g : Grid) (y : ℕ) → cel
     ++ (texts_below (g.side % 4) (λ i. cell_at style margin g (top_row style y) (margin + g.side / 4 * 4 + i))
     ++ (texts_below margin (λ _. cell_text style false false) ++ 10 ∷ []))
 line-parts style margin g y =
-    let row = top_row style y in
-    let cell = λ (x : ℕ). cell_at style margin g row x in
+    let cell = cell_at style margin g (top_row style y) in
     let fours = g.side / 4 * 4 in
     let light = texts_below margin (λ _. cell_text style false false) in
     let columns = texts_below fours (λ i. cell (margin + i)) in
     let rest = texts_below (g.side % 4) (λ i. cell (margin + fours + i)) in
-    let e : raster_width margin g ≡ margin + fours + g.side % 4 + margin = omega arith in
-    let left : texts_below margin cell ≡ light =
-    texts_below-alike margin cell (λ k. cell (0 + k)) (λ k lt. ap cell (omega arith)) ∙ light-cells style margin g row 0 margin (λ y k lt. is_dark_at_left margin y (0 + k) g (omega arith)) in
-    let right : texts_below margin (λ i. cell (margin + fours + g.side % 4 + i)) ≡ light =
-    light-cells style margin g row (margin + fours + g.side % 4) margin (λ y k lt. is_dark_at_right margin y (margin + fours + g.side % 4 + k) g (omega arith)) in
-    ap (λ l. l ++ 10 ∷ []) (texts_below-alike (raster_width margin g) (cell_of style margin g y) cell (λ k lt. cell-of style margin g y k)
-    ∙ ap (λ n. texts_below n cell) e ∙ texts_below-add (margin + fours + g.side % 4) margin cell
-    ∙ (λ i. (texts_below-add (margin + fours) (g.side % 4) cell ∙ ap (λ l. l ++ rest) (texts_below-add margin fours cell ∙ ap (λ l. l ++ columns) left)) i ++ right i)
-    ∙ append_assoc (light ++ columns) rest light)
-    ∙ append_assoc (light ++ columns) (rest ++ light) (10 ∷ []) ∙ ap (λ l. (light ++ columns) ++ l) (append_assoc rest light (10 ∷ []))
+    let right = margin + fours + g.side % 4 in
+    let e : raster_width margin g ≡ right + margin = omega arith in
+    cc (
+      texts_below-alike (raster_width margin g) (cell_of style margin g y) cell (λ k lt. cell-of style margin g y k),
+      ap (λ n. texts_below n cell) e,
+      texts_below-add right margin cell,
+      texts_below-add (margin + fours) (g.side % 4) cell,
+      texts_below-add margin fours cell,
+      texts_below-alike margin cell (λ k. cell (0 + k)) (λ k lt. ap cell (omega arith)),
+      light-cells style margin g (top_row style y) 0 margin (λ y k lt. is_dark_at-left margin y (0 + k) g (omega arith)),
+      light-cells style margin g (top_row style y) right margin (λ y k lt. is_dark_at-right margin y (right + k) g (omega arith)),
+      append_assoc (light ++ columns) rest light,
+      append_assoc (light ++ columns) (rest ++ light) (10 ∷ []),
+      append_assoc rest light (10 ∷ []),
+    )

@@ -3,7 +3,7 @@ use Rattle.std.proofs.Common.{◌≡◌, ◌++◌, ◌∙◌, ◌<◌, ◌≤◌
 use Rattle.std.proofs.{Math.Nat.suc-mul, lemmas.Grind.flat_map-append, lemmas.List.take_all, lemmas.List.take_more}
 use Rattle.{std.specs.List.{flat_map, range_with_len}, qr_devices.specs.Device.Writer}
 use Rattle.qr_drawing.specs.{Raster.texts_below, Steps.Writing.Stops, Steps.Writing.Writes}
-use Rattle.qr_drawing.proofs.lemmas.pen.WritingLemmas.{stops_first, writes_none, writes_on, writes_stop}
+use Rattle.qr_drawing.proofs.lemmas.pen.WritingLemmas.{stops-first, writes-none, writes-on, writes-stop}
 
 -- n + 1 numbers are n numbers and one more
 range-more : (a n : ℕ) → range_with_len a (n + 1) ≡ range_with_len a n ++ (a + n) ∷ []
@@ -101,25 +101,25 @@ texts-of-items text xs d = cc (
 -- ---- texts that are added
 
 -- before the first place nothing was added
-pub added_none : (h : List ℕ) (f : ℕ → List ℕ) → h ≡ h ++ texts_below 0 f
+pub added-none : (h : List ℕ) (f : ℕ → List ℕ) → h ≡ h ++ texts_below 0 f
 unfolding texts_below
-added_none h f = sym (append-nil h)
+added-none h f = sym (append-nil h)
 
 -- the texts of d places more were added
-pub added_more : (h t u : List ℕ) (n d : ℕ) (f g : ℕ → List ℕ) → t ≡ h ++ texts_below n f → u ≡ t ++ texts_below d g
+pub added-more : (h t u : List ℕ) (n d : ℕ) (f g : ℕ → List ℕ) → t ≡ h ++ texts_below n f → u ≡ t ++ texts_below d g
     → texts_below d g ≡ texts_below d (λ i. f (n + i)) → u ≡ h ++ texts_below (n + d) f
-added_more h t u n d f g p q same =
+added-more h t u n d f g p q same =
     cc (q, p, append_assoc h (texts_below n f) (texts_below d g), same, texts_below-add n d f)
 
 -- the text of the next place was added
-pub added_next : (h t u : List ℕ) (n : ℕ) (f : ℕ → List ℕ) → t ≡ h ++ texts_below n f → u ≡ t ++ f n → u ≡ h ++ texts_below (n + 1) f
-added_next h t u n f p q = cc (q, p, append_assoc h (texts_below n f) (f n), texts_below-more n f)
+pub added-next : (h t u : List ℕ) (n : ℕ) (f : ℕ → List ℕ) → t ≡ h ++ texts_below n f → u ≡ t ++ f n → u ≡ h ++ texts_below (n + 1) f
+added-next h t u n f p q = cc (q, p, append_assoc h (texts_below n f) (f n), texts_below-more n f)
 
 -- ---- texts that are written through the pen
 
 -- before the first text that is not empty nothing was written
-pub put_none : (a : Writer) (i n : ℕ) (h : List ℕ) (text : ℕ → List ℕ) → texts_below n text ≡ [] → Writes a a i i (h ++ texts_below n text) h
-put_none a i n h text e = rw e (writes_none a i h)
+pub put-none : (a : Writer) (i n : ℕ) (h : List ℕ) (text : ℕ → List ℕ) → texts_below n text ≡ [] → Writes a a i i (h ++ texts_below n text) h
+put-none a i n h text e = rw e (writes-none a i h)
 
 -- without places there is no text
 pub no-texts : (text : ℕ → List ℕ) → texts_below 0 text ≡ []
@@ -127,20 +127,20 @@ unfolding texts_below
 no-texts text = refl
 
 -- if the text of place m is written, and the texts from there to n are empty, the texts of n places are written
-pub put_next : (a b c : Writer) (i j k m n : ℕ) (h0 h1 h2 piece : List ℕ) (text : ℕ → List ℕ) →
+pub put-next : (a b c : Writer) (i j k m n : ℕ) (h0 h1 h2 piece : List ℕ) (text : ℕ → List ℕ) →
     text m ≡ piece → texts_below n text ≡ texts_below (m + 1) text →
     Writes a b i j (h0 ++ texts_below m text) h1 → Writes b c j k (h1 ++ piece) h2 →
     Writes a c i k (h0 ++ texts_below n text) h2
-put_next a b c i j k m n h0 h1 h2 piece text here same p q =
-    rw (same, texts_below-more m text) (writes_on a b c i j k h0 h1 h2 (texts_below m text) (text m) p (rw here q))
+put-next a b c i j k m n h0 h1 h2 piece text here same p q =
+    rw (same, texts_below-more m text) (writes-on a b c i j k h0 h1 h2 (texts_below m text) (text m) p (rw here q))
 
 -- if the writer failed in the text of place m of n, it failed in the texts of n places
-pub put_stops : (a b c : Writer) (i j m n : ℕ) (h0 h1 piece : List ℕ) (text : ℕ → List ℕ) →
+pub put-stops : (a b c : Writer) (i j m n : ℕ) (h0 h1 piece : List ℕ) (text : ℕ → List ℕ) →
     text m ≡ piece → m < n → Writes a b i j (h0 ++ texts_below m text) h1 → Stops b c j (h1 ++ piece) →
     Stops a c i (h0 ++ texts_below n text)
-put_stops a b c i j m n h0 h1 piece text here lt p q =
+put-stops a b c i j m n h0 h1 piece text here lt p q =
     let rest = texts_below (n - (m + 1)) (λ i. text (m + 1 + i)) in
     let e : m + 1 + (n - (m + 1)) ≡ n = omega arith in
     let whole : (texts_below m text ++ text m) ++ rest ≡ texts_below n text =
     cc (texts_below-more m text, texts_below-add (m + 1) (n - (m + 1)) text, e) in
-    rw (← whole) (stops_first a c i h0 (texts_below m text ++ text m) rest (writes_stop a b c i j h0 h1 (texts_below m text) (text m) p (rw here q)))
+    rw (← whole) (stops-first a c i h0 (texts_below m text ++ text m) rest (writes-stop a b c i j h0 h1 (texts_below m text) (text m) p (rw here q)))

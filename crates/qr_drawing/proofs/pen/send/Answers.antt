@@ -1,6 +1,6 @@
 use Rattle.std.proofs.Common.{◌≡◌, ◌<◌, ◌≤◌, ◌+◌, ◌-◌, ℕ, List, [], min, length, take, drop, refl, arith}
-use Rattle.{std.proofs.lemmas.List.{length-drop, length-take}, qr_drawing.proofs.lemmas.pen.WritingLemmas.writes_none}
-use Rattle.qr_drawing.proofs.lemmas.pen.SendingLemmas.{sends_more, sends_again, refused-zero, refused-failed, refused-tried}
+use Rattle.{std.proofs.lemmas.List.{length-drop, length-take}, qr_drawing.proofs.lemmas.pen.WritingLemmas.writes-none}
+use Rattle.qr_drawing.proofs.lemmas.pen.SendingLemmas.{sends-more, sends-again, refused-zero, refused-failed, refused-tried}
 use Rattle.qr_drawing.proofs.pen.send.Goals as goal
 
 -- a write offers some bytes, at most 1,200, and no more than are left
@@ -17,7 +17,7 @@ again : (tries : ℕ) → tries < 1000 → (tries ≡ 999 → ⊥) → tries + 1
 again tries lt ne = omega arith
 
 pub offers-init : goal.offers-init
-offers-init g c = record { within = omega arith; few = c.requires; writes = writes_none _ _ [] }
+offers-init g c = record { within = omega arith; few = omega arith; writes = writes-none _ _ [] }
 
 pub returns-then-taken-eq0-clause-writes : goal.returns-then-taken-eq0-clause-writes
 returns-then-taken-eq0-clause-writes g c =
@@ -30,7 +30,7 @@ offers-preserved-in-Ok g c =
     record {
       within = within c.offers.at c.in-Ok.taken _ _ c.in-Ok.ensures.bound o.2;
       few = c.offers.invariant.few;
-      writes = sends_more _ _ _ _ c.offers.at (c.offers.at + c.min-len.result - c.offers.at) _ _ _ _ c.offers.invariant.writes
+      writes = sends-more _ _ _ _ c.offers.at (c.offers.at + c.min-len.result - c.offers.at) _ _ _ _ c.offers.invariant.writes
           c.in-Ok.ensures.bound o.1 c.if-taken-eq0.false refl c.in-Ok.ensures.bytes c.in-Ok.ensures.counted;
     }
 
@@ -41,7 +41,7 @@ offers-preserved g c =
     record {
       within = c.offers.invariant.within;
       few = few;
-      writes = sends_again _ _ _ _ _ _ _ c.offers.invariant.writes o.1 few
+      writes = sends-again _ _ _ _ _ _ _ c.offers.invariant.writes o.1 few
           c.in-Err-Interrupted.ensures.bytes (rw c.in-Err-Interrupted.field-0-is at c.in-Err-Interrupted.ensures.counted);
     }
 

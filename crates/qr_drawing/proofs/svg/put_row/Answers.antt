@@ -1,14 +1,14 @@
 use Rattle.std.proofs.Common.{◌<◌, ◌≤◌, ◌+◌, ◌++◌, [], ◌∷◌, ap, sym, ◌∙◌, append_assoc, append-nil, arith}
 use Rattle.std.proofs.lemmas.{Grind.flat_map-append, List.Elements.{All-head, All-rest}, Result.err_from_is_err_and}
-use Rattle.{std.specs.List.flat_map, qr_drawing.proofs.lemmas.svg.PathLemmas.{box-is, box_of, row_boxes}}
-use Rattle.qr_drawing.proofs.lemmas.pen.WritingLemmas.{formed, stops_between, writes_none, writes_on}
+use Rattle.{std.specs.List.flat_map, qr_drawing.proofs.lemmas.svg.PathLemmas.{box-is, box_of, row-boxes}}
+use Rattle.qr_drawing.proofs.lemmas.pen.WritingLemmas.{formed, stops-between, writes-none, writes-on}
 use Rattle.qr_drawing.proofs.svg.put_row.Goals as goal
 
 pub loop-run-init : goal.loop-run-init
 loop-run-init g c = rw c.into_iter-run-iterator.ensures.into_iter_gives (record {
   within = c.dark_runs-run-items.ensures.within;
-  path = row_boxes c.args.top c.args.raster.now.margin c.args.row c.args.raster.now.matrix.now _ c.requires.row_in c.dark_runs-run-items.ensures;
-  writes = writes_none _ _ _;
+  path = row-boxes c.args.top c.args.raster.now.margin c.args.row c.args.raster.now.matrix.now _ c.requires.row_in c.dark_runs-run-items.ensures;
+  writes = writes-none _ _ _;
 })
 
 pub returns-in_err-reserve : goal.returns-in_err-reserve
@@ -16,7 +16,7 @@ returns-in_err-reserve g c =
     let p = err_from_is_err_and c.from_residual.result c.from_residual.ensures.1 in
     let box = box_of c.args.top c.args.raster.now.margin c.args.row in
     rw (p.1, c.loop-run.invariant.path, flat_map-append box c.loop-run.yielded c.loop-run.run-iterator)
-    (stops_between _ _ _ _ _ c.args.pen.now.piece c.loop-run.pen.piece (flat_map box c.loop-run.yielded) (flat_map box c.loop-run.run-iterator)
+    (stops-between _ _ _ _ _ c.args.pen.now.piece c.loop-run.pen.piece (flat_map box c.loop-run.yielded) (flat_map box c.loop-run.run-iterator)
     c.loop-run.invariant.writes c.in_err-reserve.ensures.writes)
 
 pub overflow_sub-run : goal.overflow_sub-run
@@ -36,7 +36,7 @@ loop-run-preserved g c =
       path = c.loop-run.invariant.path ∙ ap (λ runs. flat_map box (c.loop-run.yielded ++ runs)) c.in-Some.ensures.steps
           ∙ ap (flat_map box) (sym (append_assoc c.loop-run.yielded (run ∷ []) c.next.new.self));
       writes = rw (flat_map-append box c.loop-run.yielded (run ∷ []), append-nil (box run), ← here)
-          (writes_on _ _ _ _ _ _ c.args.pen.now.piece c.loop-run.pen.piece _ (flat_map box c.loop-run.yielded) _ c.loop-run.invariant.writes
+          (writes-on _ _ _ _ _ _ c.args.pen.now.piece c.loop-run.pen.piece _ (flat_map box c.loop-run.yielded) _ c.loop-run.invariant.writes
           (formed _ _ _ _ c.loop-run.pen.piece _ _ _ c.in_ok-reserve.ensures.writes (c.push_box.ensures _ c.text_of_row-row_text.ensures)));
     }
 

@@ -1,23 +1,23 @@
 use Rattle.std.proofs.{Common.{ap, refl, arith}, lemmas.Result.err_from_is_err_and}
 use Rattle.qr_drawing.specs.{Raster.texts_below, Svg.row_path}
-use Rattle.qr_drawing.proofs.lemmas.text.LineLemmas.{put_next, put_none, put_stops}
-use Rattle.qr_drawing.proofs.lemmas.svg.PathLemmas.{symbol_begins, symbol_ends}
+use Rattle.qr_drawing.proofs.lemmas.text.LineLemmas.{put-next, put-none, put-stops}
+use Rattle.qr_drawing.proofs.lemmas.svg.PathLemmas.{symbol-begins, symbol-ends}
 use Rattle.qr_drawing.proofs.svg.put_symbol.Goals as goal
 
 pub loop-row-init : goal.loop-row-init
-loop-row-init g c = put_none _ _ _ _ _ (symbol_begins c.args.top c.args.raster.now.margin c.args.raster.now.matrix.now)
+loop-row-init g c = put-none _ _ _ _ _ (symbol-begins c.args.top c.args.raster.now.margin c.args.raster.now.matrix.now)
 
 pub returns-in_err-put_row : goal.returns-in_err-put_row
 returns-in_err-put_row g c =
     let p = err_from_is_err_and c.from_residual.result c.from_residual.ensures.1 in
-    rw (p.1, symbol_ends c.args.top c.args.raster.now.margin _ c.args.raster.now.matrix.now refl)
-    (put_stops _ _ _ _ _ _ _ _ _ _ (row_path c.args.top c.args.raster.now.margin c.args.raster.now.matrix.now) refl (omega arith) c.loop-row.invariant
+    rw (p.1, symbol-ends c.args.top c.args.raster.now.margin _ c.args.raster.now.matrix.now refl)
+    (put-stops _ _ _ _ _ _ _ _ _ _ (row_path c.args.top c.args.raster.now.margin c.args.raster.now.matrix.now) refl (omega arith) c.loop-row.invariant
     c.in_err-put_row.ensures)
 
 pub loop-row-preserved : goal.loop-row-preserved
 loop-row-preserved g c =
-    put_next _ _ _ _ _ _ _ _ _ _ _ _ (row_path c.args.top c.args.raster.now.margin c.args.raster.now.matrix.now) refl
+    put-next _ _ _ _ _ _ _ _ _ _ _ _ (row_path c.args.top c.args.raster.now.margin c.args.raster.now.matrix.now) refl
     (ap (λ k. texts_below k (row_path c.args.top c.args.raster.now.margin c.args.raster.now.matrix.now)) (omega arith)) c.loop-row.invariant c.in_ok-put_row.ensures
 
 pub returns : goal.returns
-returns g c = rw (symbol_ends c.args.top c.args.raster.now.margin c.loop-row.row c.args.raster.now.matrix.now (omega arith)) c.loop-row.invariant
+returns g c = rw (symbol-ends c.args.top c.args.raster.now.margin c.loop-row.row c.args.raster.now.matrix.now (omega arith)) c.loop-row.invariant

@@ -1,6 +1,6 @@
 use Rattle.std.proofs.Common.{◌≡◌, ◌+◌, ◌*◌, ◌/◌, ◌++◌, ◌∙◌, ap, arith}
 use Rattle.qr_drawing.specs.{Raster.texts_below, Steps.Text.cell_at}
-use Rattle.qr_drawing.proofs.lemmas.text.{LineLemmas.added_none, CellLemmas.added-cells, CellLemmas.room-cells}
+use Rattle.qr_drawing.proofs.lemmas.text.{LineLemmas.added-none, CellLemmas.added-cells, CellLemmas.room-cells}
 use Rattle.qr_drawing.proofs.text.push_columns.Goals as goal
 
 pub eights-init : goal.eights-init
@@ -8,7 +8,7 @@ eights-init c = record {
   end = omega arith;
   within = omega arith;
   whole = omega arith;
-  items = added_none c.args.text.now _;
+  items = added-none c.args.text.now _;
 }
 
 pub push_eight-requires : goal.push_eight-requires

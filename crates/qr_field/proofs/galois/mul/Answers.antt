@@ -1,5 +1,5 @@
 use Rattle.std.proofs.Common.{◌≡◌, ◌⊎◌, ◌+◌, ◌%◌, inl, inr, ◌∙◌, arith}
-use Rattle.qr_field.{specs.Galois.product, proofs.lemmas.logarithm.PowerLemmas.product-of_powers}
+use Rattle.qr_field.{specs.Galois.product, proofs.lemmas.galois.PowerLemmas.product-of_powers}
 use Rattle.qr_field.proofs.lemmas.galois.ProductLemmas.{product-none, product-definition, product-only}
 use Rattle.qr_field.proofs.galois.mul.Goals as goal
 use Rattle.qr_field.proofs.galois.mul.Goals.{then-sum-lt255, else-sum-lt255}

@@ -4,7 +4,7 @@ use Rattle.std.{proofs.lemmas.{Bool.cases_eq, Nat.xor_of_8}, specs.Int.Bits.xor_
 use Rattle.qr_field.specs.{Galois.product, Polynomial.power}
 use Rattle.qr_field.proofs.lemmas.galois.{BitLemmas.xor-cancel, ProductLemmas.{product-lt, product-xor}}
 use Rattle.qr_field.proofs.lemmas.galois.ByteLemmas.{product-by_zero, product-of_zero, product-by_one}
-use Rattle.qr_field.proofs.lemmas.logarithm.PowerLemmas.{power-lt, power-add, power-round, powers-apart, exponent-of}
+use Rattle.qr_field.proofs.lemmas.galois.PowerLemmas.{power-lt, power-add, power-round, powers-apart, exponent-of}
 
 -- a product is 0 if its first factor is 0
 left-none : (a b : ℕ) → b < 256 → a ≡ 0 → product a b ≡ 0

@@ -7,7 +7,7 @@ use Rattle.qr_field.specs.{Galois.product, Steps.Polynomial.value_at, Polynomial
 use Rattle.qr_field.specs.Distance.{difference, differences, erasures, errors}
 use Rattle.qr_field.proofs.lemmas.galois.{BitLemmas.xor-swap, ProductLemmas.{product-lt, product-xor}}
 use Rattle.qr_field.proofs.lemmas.galois.ByteLemmas.{product-by_zero, product-of_zero, product-by_one}
-use Rattle.qr_field.proofs.lemmas.logarithm.PowerLemmas.{power-lt, power-add}
+use Rattle.qr_field.proofs.lemmas.galois.PowerLemmas.{power-lt, power-add}
 use Rattle.qr_field.proofs.lemmas.galois.FieldLemmas.{product-assoc, product-front, product-by_sum, product-factor, powers-sum, sum-none}
 use Rattle.qr_field.proofs.lemmas.polynomial.ListLemmas.{length-plus, bytes-plus}
 use Rattle.qr_field.proofs.lemmas.laws.ValueLemmas.{value-lt, value-zero, value-plus, block-bytes, block-root}

@@ -7,7 +7,7 @@ use Rattle.qr_field.specs.{Galois.product, Steps.Polynomial.value_at}
 use Rattle.qr_field.specs.Polynomial.{IsByte, plus, zeros, scaled, times, power, generator_of, IsCorrection}
 use Rattle.qr_field.proofs.lemmas.galois.{BitLemmas.xor-swap, ProductLemmas.{product-lt, product-xor}}
 use Rattle.qr_field.proofs.lemmas.galois.ByteLemmas.{product-by_zero, product-of_zero, product-by_one, product-of_one}
-use Rattle.qr_field.proofs.lemmas.logarithm.PowerLemmas.{power-lt, power-add}
+use Rattle.qr_field.proofs.lemmas.galois.PowerLemmas.{power-lt, power-add}
 use Rattle.qr_field.proofs.lemmas.galois.FieldLemmas.{product-assoc, product-swap, product-by_sum}
 use Rattle.qr_field.proofs.lemmas.polynomial.ListLemmas.{length-plus, length-times, bytes-scaled}
 use Rattle.qr_field.proofs.lemmas.polynomial.PolynomialLemmas.{generator-shape, bytes-times, bytes-generator}

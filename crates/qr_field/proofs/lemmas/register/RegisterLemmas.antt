@@ -123,6 +123,12 @@ word-bytes v =
     let one : v / 256 ^ 0 ≡ v = omega arith in
     bytes-of 0 8 v ∙ ap (unpacked 8) one
 
+-- the bytes of a half
+half-bytes : (v : ℕ) → to_le_bytes w128 v ≡ unpacked 16 v
+half-bytes v =
+    let one : v / 256 ^ 0 ≡ v = omega arith in
+    bytes-of 0 16 v ∙ ap (unpacked 16) one
+
 -- the coefficients of an upper half are written after those of the lower half, in place of other numbers
 pub joined-halves : (k h l : ℕ) (lower upper others : List ℕ) → l < 256 ^ k → lower ≡ unpacked k l → upper ≡ unpacked k h →
     length others ≡ k → put_mid k k (lower ++ others) upper ≡ unpacked (k + k) (h * 256 ^ k + l)
@@ -241,10 +247,18 @@ unpacked-at (suc n) (suc k) v l = unpacked-at n k (v / 2 ^ 8) (omega arith) ∙ 
 
 -- the bytes of a word as a list
 pub word-byte : (k v : ℕ) → k < 16 → get_or (to_le_bytes w128 v) k 0 ≡ byte_at k v
-word-byte k v l =
-    let one : v / 256 ^ 0 ≡ v = omega arith in
-    let bytes : to_le_bytes w128 v ≡ unpacked 16 v = bytes-of 0 16 v ∙ ap (unpacked 16) one in
-    ap (λ t. get_or t k 0) bytes ∙ unpacked-at 16 k v l
+word-byte k v l = ap (λ t. get_or t k 0) (half-bytes v) ∙ unpacked-at 16 k v l
+
+-- if each byte of r is the double of that of v, the coefficients of r are those of v, doubled
+unpacked-doubled : (n v r : ℕ) → ((k : ℕ) → k < n → byte_at k r ≡ product 2 (byte_at k v)) → unpacked n r ≡ scaled 2 (unpacked n v)
+unfolding unpacked
+unpacked-doubled zero v r is = refl
+unpacked-doubled (suc n) v r is =
+    cc (is 0 (omega arith), unpacked-doubled n (v / 2 ^ 8) (r / 2 ^ 8) (λ k l. sym (byte-next k r) ∙ (is (suc k) (omega arith) ∙ ap (product 2) (byte-next k v))))
+
+-- the doubled bytes of a half
+pub bytes-doubled : (v r : ℕ) → r < 2 ^ 128 → ((k : ℕ) → k < 16 → byte_at k r ≡ product 2 (byte_at k v)) → r ≡ packed (scaled 2 (unpacked 16 v))
+bytes-doubled v r small is = sym (packed-unpacked 16 r small) ∙ ap packed (unpacked-doubled 16 v r is)
 
 -- the bytes of doubled coefficients
 pub byte-doubled : (k v r : ℕ) → k < 16 → r ≡ packed (scaled 2 (unpacked 16 v)) → byte_at k r ≡ product 2 (byte_at k v)

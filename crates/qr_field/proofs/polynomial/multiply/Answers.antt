@@ -1,11 +1,20 @@
-use Rattle.std.proofs.Common.{◌≡◌, ℕ, List, [], ◌∷◌, ◌++◌, length, ap, ◌∙◌, arith}
-use Rattle.{std.{proofs.lemmas.List.length-append, specs.List.refill}, qr_field.specs.Steps.Polynomial.carried}
-use Rattle.qr_field.proofs.lemmas.polynomial.{ListLemmas.refill_same, PolynomialLemmas.length-carried}
+use Rattle.std.proofs.Common.{◌≡◌, [], take, drop, ◌∙◌, arith}
+use Rattle.std.proofs.lemmas.{Grind.common_steps, List.{drop_all, length-set, take_all}}
+use Rattle.qr_field.proofs.lemmas.polynomial.ListLemmas.{refill_same}
 use Rattle.qr_field.proofs.polynomial.multiply.Goals as goal
 
--- the coefficients that `carry` leaves, put back into the array and followed by the last one
-refilled : (xs ws : List ℕ) (r p : ℕ) → ws ++ p ∷ [] ≡ carried 1 xs r → refill (length xs) xs ws ++ p ∷ [] ≡ carried 1 xs r
-refilled xs ws r p e = ap (λ (l : List ℕ). l ++ p ∷ []) (refill_same xs ws (omega (arith, length-append ws (p ∷ []), ap length e, length-carried 1 xs r))) ∙ e
+pub loop-coefficient-init : goal.loop-coefficient-init
+loop-coefficient-init c = let same = c.as_mut_slice-coefficient-items.ensures.value in record { long = cc; carried = cc }
+
+pub loop-coefficient-preserved : goal.loop-coefficient-preserved
+loop-coefficient-preserved c = let i = c.loop-coefficient.invariant in
+    record { long = length-set c.loop-coefficient.coefficient-items _ _ ∙ i.long; carried = grind (arith, common_steps, i.carried, c.mul.ensures.value) }
 
 pub returns : goal.returns
-returns c = c.push.ensures.items ∙ rw c.mul.ensures.value (refilled c.args.coefficients.now.items c.carry-last.new.coefficients c.args.root _ (rw c.as_mut_slice.ensures.value at c.carry-last.ensures))
+returns c =
+    let xs = c.loop-coefficient.coefficient-items in
+    let k = c.loop-coefficient.coefficient-index in
+    let front : take k xs ≡ xs = take_all k xs (omega arith) in
+    let none : drop k xs ≡ [] = drop_all k xs (omega arith) in
+    let whole = rw (front, none) at c.loop-coefficient.invariant.carried in
+    cc (c.push.ensures.items, refill_same c.args.coefficients.now.items xs c.loop-coefficient.invariant.long, c.mul-2.ensures.value, whole)

@@ -32,8 +32,8 @@ list_any-map p f [] = refl
 list_any-map p f (x ∷ xs) = ap (λ b. p (f x) || b) (list_any-map p f xs)
 
 -- a test of a centre, or of none in a corner
-at_centre : (p : Place → Bool) (a b : ℕ) (t : Bool) → list_any p (cond t [] (record { row = a; col = b } ∷ [])) ≡ (not t && p (record { row = a; col = b }))
-at_centre p a b t = grind (arith, nat_tests)
+at-centre : (p : Place → Bool) (a b : ℕ) (t : Bool) → list_any p (cond t [] (record { row = a; col = b } ∷ [])) ≡ (not t && p (record { row = a; col = b }))
+at-centre p a b t = grind (arith, nat_tests)
 
 -- a test of the alignment patterns' centres goes over their rows and then their columns
 pub any-places : (p : Place → Bool) (s : ℕ) (cs : List ℕ) → list_any p (alignment_places s cs) ≡ list_any (λ a. list_any (λ b. not (is_corner_pair s a b) && p (record { row = a; col = b })) cs) cs
@@ -41,7 +41,7 @@ any-places p s cs =
     list_any-flat_map p (λ a. flat_map (λ b. cond (is_corner_pair s a b) [] (record { row = a; col = b } ∷ [])) cs) cs ∙
     list_any-same _ _ (λ a.
     list_any-flat_map p (λ b. cond (is_corner_pair s a b) [] (record { row = a; col = b } ∷ [])) cs ∙
-    list_any-same _ _ (λ b. at_centre p a b (is_corner_pair s a b)) cs) cs
+    list_any-same _ _ (λ b. at-centre p a b (is_corner_pair s a b)) cs) cs
 
 -- a place near one centre, or near none where the centre is in a corner
 one : (r c a b : ℕ) (t : Bool) → (not t && leb (ring_of a b r c) 2) ≡ ((leb (a - 2) r && ltb r (a + 3)) && ((leb (b - 2) c && ltb c (b + 3)) && not t))
@@ -144,8 +144,8 @@ pub region_outside : (v : ℕ) (bs : List Rectangle) → AreFixed v bs → (r c 
 region_outside v bs a r c h k = region-parts v r c h k ∙ ap (λ b. not (b || is_alignment v r c)) (sym (a.places r c h k))
 
 -- the same for the rectangles of a version, with the alignment patterns as rectangles too
-pub region_taken : (v r c : ℕ) → 1 ≤ v → v ≤ 40 → r < side_of v → c < side_of v → is_in_region v r c ≡ not (list_any (is_in_rectangle r c) (taken_rectangles v))
-region_taken v r c l m h k =
+pub region-taken : (v r c : ℕ) → 1 ≤ v → v ≤ 40 → r < side_of v → c < side_of v → is_in_region v r c ≡ not (list_any (is_in_rectangle r c) (taken_rectangles v))
+region-taken v r c l m h k =
     let s = side_of v in
     let p = is_in_rectangle r c in
     let ms = alignment_places s (centres_of v) in
@@ -153,45 +153,45 @@ region_taken v r c l m h k =
     ∙ ap not (ap (λ b. list_any p (fixed_list v) || b) (sym (list_any-map p rectangle_around ms ∙ alignment-rectangles r c ms)) ∙ sym (list_any-append p (fixed_list v) (alignment_rectangles s (centres_of v))))
 
 -- no place below the last row is in the region
-pub region_row_out : (v r c : ℕ) → side_of v ≤ r → false ≡ is_in_region v r c
+pub region-row-out : (v r c : ℕ) → side_of v ≤ r → false ≡ is_in_region v r c
 unfolding is_in_region
-region_row_out v r c h = grind (arith, nat_tests)
+region-row-out v r c h = grind (arith, nat_tests)
 
 -- no place right of the last column is in the region
-pub region_col_out : (v r c : ℕ) → side_of v ≤ c → false ≡ is_in_region v r c
+pub region-col-out : (v r c : ℕ) → side_of v ≤ c → false ≡ is_in_region v r c
 unfolding is_in_region
-region_col_out v r c h = grind (arith, nat_tests)
+region-col-out v r c h = grind (arith, nat_tests)
 
 -- a place inside the square that is in no corner, on no timing pattern and not in the version information
-pub region_free : (v r c : ℕ) → r < side_of v → c < side_of v → is_corner (side_of v) r c ≡ false → is_timing r c ≡ false → is_version_information v r c ≡ false → is_in_region v r c ≡ not (is_alignment v r c)
-region_free v r c h k i j l = rw (region-parts v r c h k, i, j, l) refl
+pub region-free : (v r c : ℕ) → r < side_of v → c < side_of v → is_corner (side_of v) r c ≡ false → is_timing r c ≡ false → is_version_information v r c ≡ false → is_in_region v r c ≡ not (is_alignment v r c)
+region-free v r c h k i j l = rw (region-parts v r c h k, i, j, l) refl
 
 -- the same by the tests of these parts
-pub region_none : (v r c s : ℕ) (e : Bool) → s ≡ side_of v → r < s → c < s → false ≡ is_corner s r c → false ≡ is_timing r c → false ≡ is_version_information v r c → e ≡ is_alignment v r c → not e ≡ is_in_region v r c
-region_none v r c s e y h k i j l m =
-    ap not m ∙ sym (region_free v r c (omega arith) (omega arith) (sym (i ∙ ap (λ z. is_corner z r c) y)) (sym j) (sym l))
+pub region-none : (v r c s : ℕ) (e : Bool) → s ≡ side_of v → r < s → c < s → false ≡ is_corner s r c → false ≡ is_timing r c → false ≡ is_version_information v r c → e ≡ is_alignment v r c → not e ≡ is_in_region v r c
+region-none v r c s e y h k i j l m =
+    ap not m ∙ sym (region-free v r c (omega arith) (omega arith) (sym (i ∙ ap (λ z. is_corner z r c) y)) (sym j) (sym l))
 
 -- a place in the corners, on a timing pattern or in the version information is not in the region
-region_hidden : (v r c : ℕ) → ((is_corner (side_of v) r c ≡ true) ⊎ ((is_timing r c ≡ true) ⊎ (is_version_information v r c ≡ true))) → false ≡ is_in_region v r c
+region-hidden : (v r c : ℕ) → ((is_corner (side_of v) r c ≡ true) ⊎ ((is_timing r c ≡ true) ⊎ (is_version_information v r c ≡ true))) → false ≡ is_in_region v r c
 unfolding is_in_region
-region_hidden v r c h = hidden (ltb r (side_of v) && ltb c (side_of v)) (is_corner (side_of v) r c) (is_timing r c) (is_version_information v r c) (is_alignment v r c) h
+region-hidden v r c h = hidden (ltb r (side_of v) && ltb c (side_of v)) (is_corner (side_of v) r c) (is_timing r c) (is_version_information v r c) (is_alignment v r c) h
   where
     hidden : (x a b d e : Bool) → ((a ≡ true) ⊎ ((b ≡ true) ⊎ (d ≡ true))) → false ≡ (x && not (((a || b) || d) || e))
     hidden x a b d e h = grind (arith, nat_tests)
 
 -- a place in the corners is not in the region
-pub region_corners : (v r c : ℕ) → is_corner (side_of v) r c ≡ true → false ≡ is_in_region v r c
-region_corners v r c h = region_hidden v r c (inl h)
+pub region-corners : (v r c : ℕ) → is_corner (side_of v) r c ≡ true → false ≡ is_in_region v r c
+region-corners v r c h = region-hidden v r c (inl h)
 
 -- a place on a timing pattern is not in the region
-pub region_timing : (v r c : ℕ) → is_timing r c ≡ true → false ≡ is_in_region v r c
-region_timing v r c h = region_hidden v r c (inr (inl h))
+pub region-timing : (v r c : ℕ) → is_timing r c ≡ true → false ≡ is_in_region v r c
+region-timing v r c h = region-hidden v r c (inr (inl h))
 
 -- a place in the version information is not in the region
-pub region_version : (v r c : ℕ) → is_version_information v r c ≡ true → false ≡ is_in_region v r c
-region_version v r c h = region_hidden v r c (inr (inr h))
+pub region-version : (v r c : ℕ) → is_version_information v r c ≡ true → false ≡ is_in_region v r c
+region-version v r c h = region-hidden v r c (inr (inr h))
 
-pub ruleset region_out = (region_row_out, region_col_out, region_corners, region_timing, region_version)
+pub ruleset region_out = (region-row-out, region-col-out, region-corners, region-timing, region-version)
 
 -- the square round a centre is inside a symbol of side s
 abbrev is_inside : ℕ → Place → Bool

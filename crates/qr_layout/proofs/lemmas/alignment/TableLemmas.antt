@@ -40,8 +40,8 @@ abbrev pub centres_agree : ℕ → Bool
 centres_agree n = is_same (take (cond (eqb n 0) 0 ((n + 1) / 7 + 2)) (get_or CENTRES n [])) (get_or centre_table n [])
 
 -- the two tables are the same, computed
-all_agree : below 40 centres_agree ≡ true
-all_agree = refl
+all-agree : below 40 centres_agree ≡ true
+all-agree = refl
 
 -- the centres of the version at an index
 centre-list-of : (i : ℕ) → centres_of (i + 1) ≡ get_or centre_table i []
@@ -50,7 +50,7 @@ centre-list-of i = ap (λ k. get_or centre_table k []) (let e : i + 1 - 1 ≡ i 
 
 -- the centres that the code takes from its table are those of the definition
 pub centres-agree : (v i many : ℕ) → v ≤ 40 → i + 1 ≡ v → many ≡ cond (eqb i 0) 0 ((i + 1) / 7 + 2) → take many (get_or CENTRES i []) ≡ centres_of v
-centres-agree v i many l f e = rw (e, ← f) (is_same-same (take (cond (eqb i 0) 0 ((i + 1) / 7 + 2)) (get_or CENTRES i [])) (get_or centre_table i []) (below-at 40 centres_agree all_agree i (omega arith)) ∙ sym (centre-list-of i))
+centres-agree v i many l f e = rw (e, ← f) (is_same-same (take (cond (eqb i 0) 0 ((i + 1) / 7 + 2)) (get_or CENTRES i [])) (get_or centre_table i []) (below-at 40 centres_agree all-agree i (omega arith)) ∙ sym (centre-list-of i))
 
 -- the forty lists are no longer than seven, computed
 few-centres : below 40 (λ i. leb (length (centres_of (i + 1))) 7) ≡ true

@@ -5,7 +5,7 @@ use Rattle.std.{proofs.lemmas.Bool.{cases_lt, Decides.nat_tests}, specs.List.{li
 use Rattle.qr_layout.specs.{Region.is_in_region, declared.rectangles.Rectangle.Rectangle, Order.places_passing}
 use Rattle.qr_layout.specs.Version.{total_codewords_of, remainder_bits_of, module_count_of}
 use Rattle.qr_layout.specs.{Rectangles.is_in_rectangle, Steps.Rectangles.taken_rectangles, Version.side_of, Alignment.centres_of}
-use Rattle.qr_layout.proofs.lemmas.alignment.{AlignmentLemmas.region_taken, TableLemmas.below}
+use Rattle.qr_layout.proofs.lemmas.alignment.{AlignmentLemmas.region-taken, TableLemmas.below}
 use Rattle.qr_layout.proofs.lemmas.order.CountLemmas.{sum_below, sum_below-same, places-sum}
 
 -- the row goes through the rectangle
@@ -145,7 +145,7 @@ any-filter r c (b ∷ bs) = ap (λ z. z || list_any (is_in_rectangle r c) bs) (i
 
 -- a place inside the square is in the region if no rectangle of its row contains it
 region-free : (v r c : ℕ) → 1 ≤ v → v ≤ 40 → r < side_of v → c < side_of v → is_in_region v r c ≡ not (list_any (is_in_columns c) (filter (is_in_rows r) (taken_rectangles v)))
-region-free v r c l m h k = region_taken v r c l m h k ∙ ap not (any-filter r c (taken_rectangles v))
+region-free v r c l m h k = region-taken v r c l m h k ∙ ap not (any-filter r c (taken_rectangles v))
 
 -- the places of the region, counted row by row
 pub region-count : (v : ℕ) → 1 ≤ v → v ≤ 40 → places_passing (side_of v) (is_in_region v) ≡ free_of (side_of v) (taken_rectangles v)

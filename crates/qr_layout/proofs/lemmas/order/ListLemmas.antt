@@ -99,16 +99,16 @@ abbrev pub AllIn : {X : Type 0} → List X → List X → Type 0
 AllIn {X} xs ys = (x : X) → Mem x xs → Mem x ys
 
 -- two rising lists with the same items are equal
-pub one_rising : {X : Type 0} (R : X → X → Type 0) → ((x y : X) → R x y → R y x → ⊥) → (xs ys : List X) → Rises R xs → Rises R ys → AllIn xs ys → AllIn ys xs → xs ≡ ys
-one_rising R a [] [] r s f g = refl
-one_rising R a [] (y ∷ ys) r s f g = absurd (g y (inl refl))
-one_rising R a (x ∷ xs) [] r s f g = absurd (f x (inl refl))
-one_rising R a (x ∷ xs) (y ∷ ys) r s f g =
+pub one-rising : {X : Type 0} (R : X → X → Type 0) → ((x y : X) → R x y → R y x → ⊥) → (xs ys : List X) → Rises R xs → Rises R ys → AllIn xs ys → AllIn ys xs → xs ≡ ys
+one-rising R a [] [] r s f g = refl
+one-rising R a [] (y ∷ ys) r s f g = absurd (g y (inl refl))
+one-rising R a (x ∷ xs) [] r s f g = absurd (f x (inl refl))
+one-rising R a (x ∷ xs) (y ∷ ys) r s f g =
     let e : y ≡ x = elim (f x (inl refl)) [
       | inl e ↦ e
       | inr m ↦ elim (g y (inl refl)) [ inl e ↦ sym e | inr n ↦ search (arith, Mem-at) ]
     ] in
-    let t = one_rising R a xs ys r.1 s.1
+    let t = one-rising R a xs ys r.1 s.1
     (λ z m. elim (f z (inr m)) [ inl k ↦ search (arith, Mem-at) | inr n ↦ n ])
     (λ z m. elim (g z (inr m)) [ inl k ↦ search (arith, Mem-at) | inr n ↦ n ]) in
     λ i. sym e i ∷ t i

@@ -6,7 +6,7 @@ use Rattle.qr_layout.specs.Order.{Key, key_of, is_before, IsOrder, places_passin
 use Rattle.qr_layout.specs.Version.{total_codewords_of, remainder_bits_of, module_count_of}
 use Rattle.qr_layout.specs.{Region.is_in_region, Region.InRegion, Version.side_of, Alignment.centres_of, Laws.region_size}
 use Rattle.qr_layout.proofs.lemmas.{alignment.TableLemmas.{below, below-from}, region.RegionLemmas.{row-in, col-in}}
-use Rattle.qr_layout.proofs.lemmas.order.ListLemmas.{Mem, Rises, Distinct, Mem-at, All-of-Mem, All-rec, Mem-left, Mem-right, Mem-append, Rises-of-pairs, one_rising, Mem-of-Contains}
+use Rattle.qr_layout.proofs.lemmas.order.ListLemmas.{Mem, Rises, Distinct, Mem-at, All-of-Mem, All-rec, Mem-left, Mem-right, Mem-append, Rises-of-pairs, one-rising, Mem-of-Contains}
 use Rattle.qr_layout.proofs.lemmas.order.{CountLemmas.count-of, PathLemmas.before-parts}
 use Rattle.qr_layout.proofs.lemmas.order.FastCountLemmas.{region-count, agrees, agrees-40}
 
@@ -36,8 +36,8 @@ pub order-has : (v : ℕ) (ms : List Place) → IsOrder v ms → (m : Place) →
 order-has v ms o m h = Mem-of-Contains ms m (o.complete m h)
 
 -- there is only one order
-pub only_order : (v : ℕ) (ms ns : List Place) → IsOrder v ms → IsOrder v ns → ms ≡ ns
-only_order v ms ns o p = search (arith, one_rising, asym, Rises-of-pairs, order-has, order-mem)
+pub only-order : (v : ℕ) (ms ns : List Place) → IsOrder v ms → IsOrder v ns → ms ≡ ns
+only-order v ms ns o p = search (arith, one-rising, asym, Rises-of-pairs, order-has, order-mem)
 
 -- the region of each version has as many places as its codewords and remainder bits need
 count-at : (v : ℕ) → 1 ≤ v → v ≤ 40 → places_passing (side_of v) (is_in_region v) ≡ module_count_of v

@@ -8,7 +8,7 @@ use Rattle.qr_layout.specs.Region.{is_alignment, is_corner, is_in_region, is_tim
 use Rattle.qr_layout.specs.Role.{finder_ring, is_alignment_light, pattern_colour, is_dark_module, role_of}
 use Rattle.qr_layout.specs.Format.{first_place, second_place, version_place, mirror_of, is_at, format_bit_at, version_bit_at}
 use Rattle.qr_layout.proofs.lemmas.alignment.TableLemmas.{below, below-at, below-from}
-use Rattle.qr_layout.proofs.lemmas.alignment.AlignmentLemmas.{region_free, region-parts}
+use Rattle.qr_layout.proofs.lemmas.alignment.AlignmentLemmas.{region-free, region-parts}
 use Rattle.qr_layout.proofs.lemmas.role.RoleSymmetryLemmas.{role-symmetric}
 use Rattle.qr_layout.proofs.lemmas.format.BitPlaceLemmas.{either, first-at, bit_here, stands, format-at, format_in_column_8, format_in_row_8, version_at}
 
@@ -347,7 +347,7 @@ role-region v r c l i j h =
     let m = not-six r p.off_row in
     let n = not-six c p.off_column in
     let a = corners-free s r c (omega arith) i j (ring-far (finder_ring s r c) p.off_finder p.off_separator) m n w.not_dark w.no_format in
-    region_free v r c i j a (timing-free r c m n) (version-free v r c w.no_version) ∙ ap not p.off_alignment
+    region-free v r c i j a (timing-free r c m n) (version-free v r c w.no_version) ∙ ap not p.off_alignment
 
 -- a place off the corners, the timing patterns and the version information is in an alignment pattern or in the region
 pub off-role : (v r c : ℕ) → 1 ≤ v → r < side_of v → c < side_of v → is_corner (side_of v) r c ≡ false → is_timing r c ≡ false → is_version_information v r c ≡ false
@@ -358,10 +358,10 @@ off-role v r c l i j ha ht hv =
     let far = corner-far s r c (omega arith) o in
     role-with v r c
     ∙ (ap (λ a. role_with a (is_dark_module s r c) (format_bit_at s r c) (version_bit_at v r c)) (off-pattern v r c far (timing-row r c ht) (timing-column r c ht))
-    ∙ by_alignment (is_alignment v r c) (not (is_alignment_light v r c)) (is_dark_module s r c) (format_bit_at s r c) (version_bit_at v r c) (corner-not_dark s r c (omega arith) o) (corner-no_format s r c (omega arith) o) (free-version v r c hv))
+    ∙ by-alignment (is_alignment v r c) (not (is_alignment_light v r c)) (is_dark_module s r c) (format_bit_at s r c) (version_bit_at v r c) (corner-not_dark s r c (omega arith) o) (corner-no_format s r c (omega arith) o) (free-version v r c hv))
   where
-    by_alignment : (e q t : Bool) (f g : Option ℕ) → t ≡ false → f ≡ None → g ≡ None → role_with (cond e (Some q) None) t f g ≡ cond e (Fixed q) Region
-    by_alignment e q t f g x y z = grind (arith, nat_tests)
+    by-alignment : (e q t : Bool) (f g : Option ℕ) → t ≡ false → f ≡ None → g ≡ None → role_with (cond e (Some q) None) t f g ≡ cond e (Fixed q) Region
+    by-alignment e q t f g x y z = grind (arith, nat_tests)
 
 -- a module of the encoding region has the role Region
 pub region-role : (v r c : ℕ) → 1 ≤ v → r < side_of v → c < side_of v → is_in_region v r c ≡ true → role_of v r c ≡ Region

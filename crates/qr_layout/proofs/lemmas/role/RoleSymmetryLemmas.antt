@@ -25,8 +25,8 @@ finder-symmetric s r c = nearest (ring_of 3 3 r c) (ring_of 3 (s - 4) r c) (ring
     nearest a b d x y z e f g = grind arith
 
 -- a centre with row and column exchanged has its light ring at the places with row and column exchanged
-on_ring : (s a b r c : ℕ) → (not (is_corner_pair s a b) && eqb (ring_of a b r c) 1) ≡ (not (is_corner_pair s b a) && eqb (ring_of b a c r) 1)
-on_ring s a b r c = grind (arith, nat_tests)
+on-ring : (s a b r c : ℕ) → (not (is_corner_pair s a b) && eqb (ring_of a b r c) 1) ≡ (not (is_corner_pair s b a) && eqb (ring_of b a c r) 1)
+on-ring s a b r c = grind (arith, nat_tests)
 
 -- the light rings of the alignment patterns
 light-symmetric : (v r c : ℕ) → is_alignment_light v r c ≡ is_alignment_light v c r
@@ -36,7 +36,7 @@ light-symmetric v r c =
     let cs = centres_of v in
     any-places (λ m. eqb (ring_of m.row m.col r c) 1) s cs
     ∙ (any-pairs (λ a b. not (is_corner_pair s a b) && eqb (ring_of a b r c) 1) cs cs
-    ∙ (list_any-same _ _ (λ b. list_any-same _ _ (λ a. on_ring s a b r c) cs) cs
+    ∙ (list_any-same _ _ (λ b. list_any-same _ _ (λ a. on-ring s a b r c) cs) cs
     ∙ sym (any-places (λ m. eqb (ring_of m.row m.col c r) 1) s cs)))
 
 -- the timing patterns: where they cross, both are dark

@@ -1,6 +1,9 @@
-use Rattle.std.proofs.Common.{◌+◌, slice_index_or, ◌∙◌}
+use Rattle.std.proofs.Common.{rules, false, ◌+◌, slice_index_or, ◌∙◌}
 use Rattle.qr_matrix.{specs.BitRow.has, proofs.lemmas.{bytes.ReadLemmas.known-module, runs.ColumnLemmas.has-nothing}}
 use Rattle.qr_matrix.proofs.bytes.rows_of.Goals as goal
+
+pub returns-in-None-clause-dark : goal.returns-in-None-clause-dark
+returns-in-None-clause-dark c = λ k. let e = c.and_not.ensures false k in let f = c.below.ensures k in let h = c.modules_of-light.ensures k in search rules
 
 pub returns-in-Some-clause-unknown : goal.returns-in-Some-clause-unknown
 returns-in-Some-clause-unknown c = λ k.

@@ -1,17 +1,14 @@
 -- Operations on the words of two bit rows at once.
-use Rattle.std.proofs.Common.{◌≡◌, ◌≢◌, ◌⊎◌, inl, inr, w64, ℕ, ◌+◌, ◌-◌, ◌*◌, ◌/◌, ◌%◌, ◌^◌, ◌<◌, ◌≤◌, List, [], ◌∷◌, length, get_or, set, replicate, Bool, true, false, not, ◌&&◌, ◌||◌, cond, ltb, eqb, bit_and, bit_or, bit_xor, refl, sym, ap, ◌∙◌, arith}
+use Rattle.std.proofs.Common.{◌≡◌, ◌⊎◌, inl, inr, ℕ, ◌+◌, ◌-◌, ◌*◌, ◌/◌, ◌%◌, ◌^◌, ◌<◌, ◌≤◌, List, [], ◌∷◌, length, get_or, set, replicate, Bool, true, false, not, ◌&&◌, ◌||◌, cond, ltb, eqb, bit_and, bit_or, bit_xor, refl, sym, ap, ◌∙◌, arith}
 use Rattle.std.proofs.lemmas.Nat.{or_lt, xor_lt, le_or_l, le_or_r}
 use Rattle.std.proofs.Math.Nat.{div-le_self}
 use Rattle.std.proofs.lemmas.List.{get_or-map, get_or-replicate, length-map, length-replicate, map-set}
 use Rattle.qr_matrix.proofs.lemmas.matrix.MatrixLemmas.{dark-under}
-use Rattle.std.proofs.lemmas.Nat.Bits.{bit_at_above, bit_at-zero, bit_at_set_same, bit_at_set_other, bit_at_clear_same, bit_at_clear_other}
-use Rattle.std.proofs.lemmas.Bool.{cases_eq, cases_lt}
+use Rattle.std.proofs.lemmas.Nat.Bits.{bit_at_above}
+use Rattle.std.proofs.lemmas.Bool.{cases_lt}
 use Rattle.std.proofs.lemmas.Bool.Decides.{nat_tests}
-use Rattle.std.specs.Int.{bit_at}
-use Rattle.std.specs.Int.Bits.{or_zero_r}
 use Rattle.std.proofs.lemmas.Simd.{length-zip2, get_or-zip2}
 use lib.Lanes.{zip2}
-use mir.Val.{bool_byte}
 use Rattle.qr_matrix.proofs.lemmas.runs.ColumnLemmas.{has-nothing}
 use Rattle.qr_matrix.specs.{Grid.{Grid, GridPair, is_same, one_of, square}, Steps.{IsPair, lane, lanes, set_count, size_of, word_of}, BitRow.{has, has_bit, bit_row_number, dark_in}}
 use Rattle.qr_matrix.proofs.lemmas.bit_row.{SumLemmas.count_below-same, WordLemmas.{three-and, three-or, three-xor, three-down, three-up}, PlaceLemmas.{has_bit-low, has_bit-middle, has_bit-high, and-small, has_bit-and, has_bit-or, has_bit-xor, has_bit-shr, has_bit-up}}
@@ -137,62 +134,6 @@ count-same words bit h = count_below-same 192 (has words) bit (λ c _. h c)
 abbrev pub written : ℕ → ℕ → ℕ → ℕ
 written n at d = bit_or (bit_and n (2 ^ 64 - 1 - 1 * 2 ^ at % 2 ^ 64)) (d * 2 ^ at % 2 ^ 64)
 
--- bit `at` of the word is then b, and the other bits stay as they were
-bit-written : (n at i d : ℕ) (b : Bool) → at < 64 → i < 64 → d ≡ bool_byte b → has_bit (written n at d) i ≡ cond (eqb i at) b (has_bit n i)
-unfolding has_bit
-bit-written n at i d b ha hi e = elim (cases_eq i at) [
-  | inl same ↦ rw (same, e) (here b ∙ ap (λ z. cond z b (eqb (bit_at n at) 1)) (sym (eqb-refl at)))
-  | inr other ↦ rw (e) (there b other ∙ ap (λ z. cond z b (eqb (bit_at n i) 1)) (sym (eqb-other i at other)))
-]
-  where
-    nothing : 0 * 2 ^ at % 2 ^ 64 ≡ 0
-    nothing = omega arith
-
-    here : (b : Bool) → eqb (bit_at (written n at (bool_byte b)) at) 1 ≡ b
-    here true = ap (λ z. eqb z 1) (bit_at_set_same w64 (bit_and n (2 ^ 64 - 1 - 1 * 2 ^ at % 2 ^ 64)) at ha)
-    here false = ap (λ z. eqb (bit_at (bit_or (bit_and n (2 ^ 64 - 1 - 1 * 2 ^ at % 2 ^ 64)) z) at) 1) nothing ∙ ap (λ z. eqb (bit_at z at) 1) (or_zero_r (bit_and n (2 ^ 64 - 1 - 1 * 2 ^ at % 2 ^ 64))) ∙ ap (λ z. eqb z 1) (bit_at_clear_same w64 n at ha)
-
-    there : (b : Bool) → i ≢ at → eqb (bit_at (written n at (bool_byte b)) i) 1 ≡ eqb (bit_at n i) 1
-    there true o = ap (λ z. eqb z 1) (bit_at_set_other w64 (bit_and n (2 ^ 64 - 1 - 1 * 2 ^ at % 2 ^ 64)) at ha i o ∙ bit_at_clear_other w64 n at ha i hi o)
-    there false o = ap (λ z. eqb (bit_at (bit_or (bit_and n (2 ^ 64 - 1 - 1 * 2 ^ at % 2 ^ 64)) z) i) 1) nothing ∙ ap (λ z. eqb (bit_at z i) 1) (or_zero_r (bit_and n (2 ^ 64 - 1 - 1 * 2 ^ at % 2 ^ 64))) ∙ ap (λ z. eqb z 1) (bit_at_clear_other w64 n at ha i hi o)
-
-    eqb-refl : (k : ℕ) → eqb k k ≡ true
-    eqb-refl k = grind (arith, nat_tests)
-
-    eqb-other : (k j : ℕ) → k ≢ j → eqb k j ≡ false
-    eqb-other k j o = grind (arith, nat_tests)
-
--- the words of two squares in which this is done
-abbrev pub both-written : List ℕ → ℕ → ℕ → ℕ → List ℕ
-both-written words at d e =
-    let kept = 2 ^ 64 - 1 - 1 * 2 ^ at % 2 ^ 64 in
-    zip2 bit_or (zip2 bit_and words (kept ∷ kept ∷ [])) (d * 2 ^ at % 2 ^ 64 ∷ e * 2 ^ at % 2 ^ 64 ∷ [])
-
--- each word is written as `written` says, with d in the first and e in the second
-pub written-word : (words : List ℕ) (at d e : ℕ) (s : Bool) → IsPair words → word_of (both-written words at d e) s ≡ written (word_of words s) at (cond s e d)
-written-word words at d e s p =
-    let kept = 2 ^ 64 - 1 - 1 * 2 ^ at % 2 ^ 64 in
-    let l : length (zip2 bit_and words (kept ∷ kept ∷ [])) ≡ 2 = length-zip2 bit_and words (kept ∷ kept ∷ []) p.0 ∙ p.0 in
-    zip-word bit_or (zip2 bit_and words (kept ∷ kept ∷ [])) (d * 2 ^ at % 2 ^ 64 ∷ e * 2 ^ at % 2 ^ 64 ∷ []) s l refl
-    ∙ ends s
-  where
-    ends : (s : Bool) → bit_or (word_of (zip2 bit_and words ((2 ^ 64 - 1 - 1 * 2 ^ at % 2 ^ 64) ∷ (2 ^ 64 - 1 - 1 * 2 ^ at % 2 ^ 64) ∷ [])) s) (word_of (d * 2 ^ at % 2 ^ 64 ∷ e * 2 ^ at % 2 ^ 64 ∷ []) s) ≡ written (word_of words s) at (cond s e d)
-    ends false = ap (λ z. bit_or z (d * 2 ^ at % 2 ^ 64)) (shifted-word bit_and words (2 ^ 64 - 1 - 1 * 2 ^ at % 2 ^ 64) false p)
-    ends true = ap (λ z. bit_or z (e * 2 ^ at % 2 ^ 64)) (shifted-word bit_and words (2 ^ 64 - 1 - 1 * 2 ^ at % 2 ^ 64) true p)
-
--- two words that are written stay words
-pub written-pair : (words : List ℕ) (at d e : ℕ) → IsPair words → IsPair (both-written words at d e)
-written-pair words at d e p =
-    let kept = 2 ^ 64 - 1 - 1 * 2 ^ at % 2 ^ 64 in
-    or-pair (zip2 bit_and words (kept ∷ kept ∷ [])) (d * 2 ^ at % 2 ^ 64 ∷ e * 2 ^ at % 2 ^ 64 ∷ [])
-    (zip-pair bit_and words (kept ∷ kept ∷ []) p.0 refl (λ s. and-small (word_of words s) (word_of (kept ∷ kept ∷ []) s) (word-small words s p)))
-    (refl, omega arith, omega arith)
-
-pub written-bits : (words : List ℕ) (at d e : ℕ) (f g : Bool) → IsPair words → at < 64 → d ≡ bool_byte f → e ≡ bool_byte g
-    → (s : Bool) (i : ℕ) → i < 64 → has_bit (word_of (both-written words at d e) s) i ≡ cond (eqb i at) (cond s g f) (has_bit (word_of words s) i)
-written-bits words at d e f g p l hd he false i k = ap (λ z. has_bit z i) (written-word words at d e false p) ∙ bit-written (word_of words false) at i d f l k hd
-written-bits words at d e f g p l hd he true i k = ap (λ z. has_bit z i) (written-word words at d e true p) ∙ bit-written (word_of words true) at i e g l k he
-
 -- ---- one bit of each row
 
 module _ (a b d : List ℕ) (s : Bool) (pa : IsPair a) (pb : IsPair b) where
@@ -209,59 +150,10 @@ module _ (a b d : List ℕ) (s : Bool) (pa : IsPair a) (pb : IsPair b) where
   unfolding has bit_row_number lane
   high-bit i k = has_bit-high (word_of a s) (word_of b s) (word_of d s) i (word-small a s pa) (word-small b s pb) k
 
--- if bit `at` of one word is set to x, and no other, the row changes in this bit alone
-module _ (a b d w : List ℕ) (s x : Bool) (at : ℕ) (pa : IsPair a) (pb : IsPair b) (pw : IsPair w) where
-  pub put-low : at < 64 → ((i : ℕ) → i < 64 → has_bit (word_of w s) i ≡ cond (eqb i at) x (has_bit (word_of a s) i))
-      → (i : ℕ) → has (lane (w ∷ b ∷ d ∷ []) s) i ≡ cond (eqb i at) x (has (lane (a ∷ b ∷ d ∷ []) s) i)
-  put-low l h i = elim (cases_lt i 64) [
-    | inl k ↦ low-bit w b d s pw pb i k ∙ (h i k ∙ ap (cond (eqb i at) x) (sym (low-bit a b d s pa pb i k)))
-    | inr k ↦ (let o : eqb i at ≡ false = grind (arith, nat_tests) in same o k (cases_lt i 128))
-  ]
-    where
-      same : eqb i at ≡ false → 64 ≤ i → (i < 128) ⊎ (128 ≤ i) → has (lane (w ∷ b ∷ d ∷ []) s) i ≡ cond (eqb i at) x (has (lane (a ∷ b ∷ d ∷ []) s) i)
-      same o k (inl m) = middle-bit w b d s pw pb i k m ∙ (sym (middle-bit a b d s pa pb i k m) ∙ ap (λ z. cond z x (has (lane (a ∷ b ∷ d ∷ []) s) i)) (sym o))
-      same o k (inr m) = high-bit w b d s pw pb i m ∙ (sym (high-bit a b d s pa pb i m) ∙ ap (λ z. cond z x (has (lane (a ∷ b ∷ d ∷ []) s) i)) (sym o))
-
--- the same for a bit of the middle word
-module _ (a b d w : List ℕ) (s x : Bool) (at : ℕ) (pa : IsPair a) (pb : IsPair b) (pw : IsPair w) where
-  pub put-middle : 64 ≤ at → at < 128 → ((i : ℕ) → i < 64 → has_bit (word_of w s) i ≡ cond (eqb i (at - 64)) x (has_bit (word_of b s) i))
-      → (i : ℕ) → has (lane (a ∷ w ∷ d ∷ []) s) i ≡ cond (eqb i at) x (has (lane (a ∷ b ∷ d ∷ []) s) i)
-  put-middle l m h i = by-word (cases_lt i 64) (cases_lt i 128)
-    where
-      kept : eqb i at ≡ false → has (lane (a ∷ w ∷ d ∷ []) s) i ≡ has (lane (a ∷ b ∷ d ∷ []) s) i → has (lane (a ∷ w ∷ d ∷ []) s) i ≡ cond (eqb i at) x (has (lane (a ∷ b ∷ d ∷ []) s) i)
-      kept o e = e ∙ ap (λ z. cond z x (has (lane (a ∷ b ∷ d ∷ []) s) i)) (sym o)
-
-      by-word : (i < 64) ⊎ (64 ≤ i) → (i < 128) ⊎ (128 ≤ i) → has (lane (a ∷ w ∷ d ∷ []) s) i ≡ cond (eqb i at) x (has (lane (a ∷ b ∷ d ∷ []) s) i)
-      by-word (inl k) n = kept (grind (arith, nat_tests)) (low-bit a w d s pa pw i k ∙ sym (low-bit a b d s pa pb i k))
-      by-word (inr k) (inl n) =
-          let e : eqb (i - 64) (at - 64) ≡ eqb i at = grind (arith, nat_tests) in
-          middle-bit a w d s pa pw i k n ∙ (h (i - 64) (omega arith) ∙ (ap (λ z. cond z x (has_bit (word_of b s) (i - 64))) e ∙ ap (cond (eqb i at) x) (sym (middle-bit a b d s pa pb i k n))))
-      by-word (inr k) (inr n) = kept (grind (arith, nat_tests)) (high-bit a w d s pa pw i n ∙ sym (high-bit a b d s pa pb i n))
-
 -- a word has no bit from 64 on
 beyond : (y : ℕ) → y < 2 ^ 64 → (j : ℕ) → 64 ≤ j → has_bit y j ≡ false
 unfolding has_bit
 beyond y k j n = ap (λ z. eqb z 1) (bit_at_above y 64 j k n)
-
--- the same for a bit of the high word
-module _ (a b d w : List ℕ) (s x : Bool) (at : ℕ) (pa : IsPair a) (pb : IsPair b) where
-  pub put-high : 128 ≤ at → at < 192 → ((i : ℕ) → i < 64 → has_bit (word_of w s) i ≡ cond (eqb i (at - 128)) x (has_bit (word_of d s) i)) → IsPair d → IsPair w
-      → (i : ℕ) → has (lane (a ∷ b ∷ w ∷ []) s) i ≡ cond (eqb i at) x (has (lane (a ∷ b ∷ d ∷ []) s) i)
-  put-high l m h pd pw i = by-word (cases_lt i 64) (cases_lt i 128)
-    where
-      kept : eqb i at ≡ false → has (lane (a ∷ b ∷ w ∷ []) s) i ≡ has (lane (a ∷ b ∷ d ∷ []) s) i → has (lane (a ∷ b ∷ w ∷ []) s) i ≡ cond (eqb i at) x (has (lane (a ∷ b ∷ d ∷ []) s) i)
-      kept o e = e ∙ ap (λ z. cond z x (has (lane (a ∷ b ∷ d ∷ []) s) i)) (sym o)
-
-      by-word : (i < 64) ⊎ (64 ≤ i) → (i < 128) ⊎ (128 ≤ i) → has (lane (a ∷ b ∷ w ∷ []) s) i ≡ cond (eqb i at) x (has (lane (a ∷ b ∷ d ∷ []) s) i)
-      by-word (inl k) n = kept (grind (arith, nat_tests)) (low-bit a b w s pa pb i k ∙ sym (low-bit a b d s pa pb i k))
-      by-word (inr k) (inl n) = kept (grind (arith, nat_tests)) (middle-bit a b w s pa pb i k n ∙ sym (middle-bit a b d s pa pb i k n))
-      by-word (inr k) (inr n) =
-          high-bit a b w s pa pb i n ∙ elim (cases_lt i 192) [
-            | inl o ↦ (let e : eqb (i - 128) (at - 128) ≡ eqb i at = grind (arith, nat_tests) in h (i - 128) (omega arith) ∙ (ap (λ z. cond z x (has_bit (word_of d s) (i - 128))) e ∙ ap (cond (eqb i at) x) (sym (high-bit a b d s pa pb i n))))
-            | inr o ↦ (let e : eqb i at ≡ false = grind (arith, nat_tests) in
-                beyond (word_of w s) (word-small w s pw) (i - 128) (omega arith) ∙ (sym (beyond (word_of d s) (word-small d s pd) (i - 128) (omega arith))
-                ∙ (sym (high-bit a b d s pa pb i n) ∙ ap (λ z. cond z x (has (lane (a ∷ b ∷ d ∷ []) s) i)) (sym e))))
-          ]
 
 -- ---- no bits
 
@@ -325,52 +217,6 @@ one-view side rows false = refl
 one-view side rows true = refl
 
 -- ---- the first words
-
--- no word
-abbrev pub nothing-of : List ℕ
-nothing-of = 0 ∷ 0 ∷ []
-
-pub nothing-pair : IsPair nothing-of
-nothing-pair = (refl, omega arith, omega arith)
-
-none-set : (s : Bool) (j : ℕ) → has_bit (word_of nothing-of s) j ≡ false
-unfolding has_bit
-none-set false j = ap (λ z. eqb z 1) (bit_at-zero j)
-none-set true j = ap (λ z. eqb z 1) (bit_at-zero j)
-
--- a test that holds, and one that fails
-in-front : (x : Bool) (n k : ℕ) → k < n → x ≡ (x && ltb k n)
-in-front x n k l = grind (arith, nat_tests)
-
-beyond-front : (x : Bool) (n k : ℕ) → n ≤ k → false ≡ (x && ltb k n)
-beyond-front x n k l = grind (arith, nat_tests)
-
--- a row of which only the first word is kept has the bits below 64
-pub one-word : (a b d : List ℕ) (s : Bool) → IsPair a → IsPair b → (c : ℕ) → has (lane (a ∷ nothing-of ∷ nothing-of ∷ []) s) c ≡ (has (lane (a ∷ b ∷ d ∷ []) s) c && ltb c 64)
-one-word a b d s pa pb c = elim (cases_lt c 64) [
-  | inl k ↦ low-bit a nothing-of nothing-of s pa nothing-pair c k ∙ (sym (low-bit a b d s pa pb c k) ∙ in-front (has (lane (a ∷ b ∷ d ∷ []) s) c) 64 c k)
-  | inr k ↦ elim (cases_lt c 128) [
-    | inl n ↦ middle-bit a nothing-of nothing-of s pa nothing-pair c k n ∙ (none-set s (c - 64) ∙ beyond-front (has (lane (a ∷ b ∷ d ∷ []) s) c) 64 c k)
-    | inr n ↦ high-bit a nothing-of nothing-of s pa nothing-pair c n ∙ (none-set s (c - 128) ∙ beyond-front (has (lane (a ∷ b ∷ d ∷ []) s) c) 64 c k)
-  ]
-]
-
--- a row of which only the first two words are kept has the bits below 128
-pub two-words : (a b d : List ℕ) (s : Bool) → IsPair a → IsPair b → (c : ℕ) → has (lane (a ∷ b ∷ nothing-of ∷ []) s) c ≡ (has (lane (a ∷ b ∷ d ∷ []) s) c && ltb c 128)
-two-words a b d s pa pb c = elim (cases_lt c 128) [
-  | inl n ↦ same (cases_lt c 64) n ∙ in-front (has (lane (a ∷ b ∷ d ∷ []) s) c) 128 c n
-  | inr n ↦ high-bit a b nothing-of s pa pb c n ∙ (none-set s (c - 128) ∙ beyond-front (has (lane (a ∷ b ∷ d ∷ []) s) c) 128 c n)
-]
-  where
-    same : (c < 64) ⊎ (64 ≤ c) → c < 128 → has (lane (a ∷ b ∷ nothing-of ∷ []) s) c ≡ has (lane (a ∷ b ∷ d ∷ []) s) c
-    same (inl k) n = low-bit a b nothing-of s pa pb c k ∙ sym (low-bit a b d s pa pb c k)
-    same (inr k) n = middle-bit a b nothing-of s pa pb c k n ∙ sym (middle-bit a b d s pa pb c k n)
-
-pub three-words : (a b d : List ℕ) (s : Bool) → IsPair a → IsPair b → IsPair d → (c : ℕ) → has (lane (a ∷ b ∷ d ∷ []) s) c ≡ (has (lane (a ∷ b ∷ d ∷ []) s) c && ltb c 192)
-three-words a b d s pa pb pd c = elim (cases_lt c 192) [
-  | inl k ↦ in-front (has (lane (a ∷ b ∷ d ∷ []) s) c) 192 c k
-  | inr k ↦ (let e = high-bit a b d s pa pb c (omega arith) ∙ beyond (word_of d s) (word-small d s pd) (c - 128) (omega arith) in e ∙ beyond-front (has (lane (a ∷ b ∷ d ∷ []) s) c) 192 c k)
-]
 
 -- the words a, b and d of a row, and what is put over the first one, two or three
 module _ (a b d x y z : List ℕ) (s : Bool) (pa : IsPair a) (pb : IsPair b) (px : IsPair x) (py : IsPair y) (c : ℕ) where

@@ -3,7 +3,7 @@ use Rattle.std.proofs.Common.{◌≡◌, ℕ, ◌+◌, ◌-◌, ◌<◌, ◌≤�
 use Rattle.std.proofs.lemmas.Bool.{cases_lt, Decides.nat_tests}
 use Rattle.qr_matrix.specs.{Sums.{count_below, sum_below}, Penalty.is_square_of_two, Steps.{begin_five, is_charged, is_near_five, joins_down, row_share, set_count, IsAbove, IsCountedTo}, Runs.{joins, begins_five, place_cost}}
 use Rattle.qr_matrix.proofs.lemmas.bit_row.SumLemmas.{count_below-cut, sum_below-cut, sum_below-more}
-use Rattle.qr_matrix.proofs.lemmas.{adders.AdderLemmas.none-of, runs.{ColumnLemmas.{guarded-five, guarded-size, guarded-three}, RowLemmas.five-past}}
+use Rattle.qr_matrix.proofs.lemmas.{rows.AdderLemmas.none-of, runs.{ColumnLemmas.{guarded-five, guarded-size, guarded-three}, RowLemmas.five-past}}
 
 -- before the first row
 pub none-above : (join : ℕ → Bool) (a b d e f : Bool) → a ≡ false → b ≡ false → d ≡ false → e ≡ false → f ≡ false → IsAbove join 0 a b d e f

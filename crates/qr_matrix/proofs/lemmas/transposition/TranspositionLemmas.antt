@@ -1,6 +1,6 @@
 -- A tile of 64 words of 64 bits is transposed in six stages, each of which exchanges parts of s rows and s columns.
-use Rattle.std.proofs.Common.{List, length, get_or, set, replicate, ◌≡◌, ◌≢◌, ℕ, ◌+◌, ◌-◌, ◌*◌, ◌/◌, ◌%◌, ◌^◌, ◌<◌, ◌≤◌, min, eqb, ltb, Bool, true, false, not, ◌&&◌, cond, bit_and, bit_xor, ap, ◌∙◌, ◌||◌, inl, inr, ◌⊎◌, arith}
-use Rattle.std.proofs.{lemmas.Nat.mod-mul-add, lemmas.Nat.shr_split, Math.Nat.mod-eq_of_lt, Math.Nat.mul-mod_right}
+use Rattle.std.proofs.Common.{List, length, get_or, set, replicate, ◌≡◌, ◌≢◌, ℕ, ◌+◌, ◌-◌, ◌*◌, ◌/◌, ◌%◌, ◌^◌, ◌<◌, ◌≤◌, min, eqb, ltb, Bool, true, false, not, ◌&&◌, cond, bit_and, bit_xor, ap, ◌∙◌, ◌||◌, inl, inr, arith}
+use Rattle.std.proofs.{lemmas.Nat.mod-mul-add, lemmas.Nat.shr_split, Math.Nat.mod-eq_of_lt}
 use Rattle.std.proofs.{Math.ListN.length-set, lemmas.Nat.Bits.bit_at_cat_low, lemmas.Nat.Bits.bit_at-zero}
 use Rattle.std.proofs.lemmas.List.{get_or_past, get_or-replicate, length-replicate, get_or-set_same, get_or-set_other}
 use Rattle.std.proofs.lemmas.Bool.{cases_lt, cases_eq, Decides.nat_tests}
@@ -134,29 +134,6 @@ module _ (s first row : ℕ) (w b : List ℕ) (u v : ℕ) (next : AreNext s firs
 
 -- ---- one stage
 
--- an exchange makes the same row of two tiles that agree on it and on the row with which it is exchanged
-exchanged-same : (s : ℕ) (w b : List ℕ) (r c : ℕ) → get_or w r 0 ≡ get_or b r 0 → get_or w (r + s) 0 ≡ get_or b (r + s) 0 → (s ≤ r % (2 * s) → get_or w (r - s) 0 ≡ get_or b (r - s) 0) → exchanged s (bit_in w) r c ≡ exchanged s (bit_in b) r c
-unfolding bit_in
-exchanged-same s w b r c e f g = search (arith, exchanged-upper, exchanged-lower)
-
--- if the first k pairs of parts are exchanged in w, and n is w with pair k exchanged, then k + 1 are exchanged in n
-pub group-more : (s k : ℕ) (n w b : List ℕ) → 1 ≤ s
-    → AreExchanged s n w (2 * s * k) (2 * s * k + 2 * s)
-    → ((r : ℕ) → (r < 2 * s * k) ⊎ (2 * s * k + 2 * s ≤ r) → get_or n r 0 ≡ get_or w r 0)
-    → Agree (2 * s * k) (bit_in w) (exchanged s (bit_in b))
-    → ((r : ℕ) → 2 * s * k ≤ r → get_or w r 0 ≡ get_or b r 0)
-    → Agree (2 * s * (k + 1)) (bit_in n) (exchanged s (bit_in b))
-unfolding bit_in
-group-more s k n w b p these others before after r c l h = elim (cases_lt r (2 * s * k)) [
-  | inl m ↦ ap (λ z. has_bit z c) (others r (inl m)) ∙ before r c m h
-  | inr m ↦
-      let first = 2 * s * k in
-      let near : r < first + 2 * s = omega arith in
-      let d : first + (r - first) ≡ r = omega arith in
-      let offset : r % (2 * s) ≡ r - first = rw d at (mod-from s first (r - first) (mul-mod_right (2 * s) k) (omega arith)) in
-      these r c m near h ∙ exchanged-same s w b r c (after r m) (after (r + s) (omega arith)) (λ u. after (r - s) (omega arith))
-]
-
 -- ---- all stages
 
 -- f after its parts of s by s bits were transposed as wholes, the bits in each part as they were
@@ -266,10 +243,6 @@ row-all band row s r q l e m = ap (λ z. z && q) (grind (arith, nat_tests))
 -- no word k is below 0
 pub word-none : (k : ℕ) (q : Bool) → (q && ltb k 0) ≡ false
 word-none k q = grind (arith, nat_tests)
-
--- word k is `word` or below `word` just when it is below `word + 1`
-pub word-more : (k word : ℕ) (q : Bool) → ((q && eqb k word) || (q && ltb k word)) ≡ (q && ltb k (word + 1))
-word-more k word q = grind (arith, nat_tests)
 
 -- if s is at most 64 * words and column c is below s, then the word of c is below `words`
 pub word-all : (c words s : ℕ) (q : Bool) → c < s → s ≤ 64 * words → (q && ltb (c / 64) words) ≡ q

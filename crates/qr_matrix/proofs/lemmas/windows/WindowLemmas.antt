@@ -3,7 +3,7 @@ use Rattle.std.proofs.Common.{◌≡◌, ℕ, zero, suc, ◌+◌, ◌-◌, ◌<�
 use Rattle.{std.proofs.lemmas.Bool.{cases_lt, Decides.nat_tests}, qr_matrix.proofs.lemmas.bit_row.BoolLemmas.{and-false, false-and}}
 use Rattle.qr_matrix.specs.{Grid.is_same, Steps.{is_after_light, is_before_light, is_found, set_count, AreWindowsTo}, Sums.count_below, Sums.sum_below}
 use Rattle.qr_matrix.specs.Penalty.{finder_ratio, four_light, reads, is_window, window_count}
-use Rattle.qr_matrix.proofs.lemmas.{adders.AdderLemmas.set_count-most, bit_row.SumLemmas.{count_below-cut, sum_below-add, sum_below-more, sum_below-same, sum_below-swap}}
+use Rattle.qr_matrix.proofs.lemmas.{rows.AdderLemmas.set_count-most, bit_row.SumLemmas.{count_below-cut, sum_below-add, sum_below-more, sum_below-same, sum_below-swap}}
 use Rattle.qr_matrix.proofs.lemmas.{runs.RowLemmas.size-is, runs.ColumnLemmas.guarded-size, windows.ReadingLemmas.window-is}
 
 -- in a row, the tests of the ratio before and after four light modules find the windows

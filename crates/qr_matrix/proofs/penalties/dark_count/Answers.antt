@@ -1,6 +1,6 @@
 use Rattle.std.proofs.Common.{◌≡◌, ℕ, ◌+◌, ◌*◌, Bool, arith, ap, refl, sym, ◌∙◌}
 use Rattle.qr_matrix.specs.{Steps.set_count, Sums.{count_below, places_passing, sum_below}}
-use Rattle.qr_matrix.proofs.lemmas.{adders.AdderLemmas.{none-of, set_count-most}, bit_row.SumLemmas.sum_below-more, penalties.PenaltyLemmas.row-count}
+use Rattle.qr_matrix.proofs.lemmas.{rows.AdderLemmas.{none-of, set_count-most}, bit_row.SumLemmas.sum_below-more, penalties.PenaltyLemmas.row-count}
 use Rattle.qr_matrix.proofs.penalties.dark_count.Goals as goal
 
 -- nothing is counted yet

@@ -1,12 +1,13 @@
-use Rattle.std.proofs.Common.{◌≡◌, ℕ, ◌+◌, ◌-◌, ◌*◌, Bool, ltb, ◌&&◌, arith, ap, sym, ◌∙◌}
-use Rattle.qr_matrix.specs.{Runs.place_cost, Steps.{begin_five, joins_down, row_share, set_count}}
+use Rattle.std.proofs.Common.{◌≡◌, ◌<◌, ℕ, ◌+◌, ◌-◌, ◌*◌, Bool, ltb, ◌&&◌, arith, ap, sym, ◌∙◌}
+use Rattle.qr_matrix.specs.{Runs.{joins, place_cost}, Steps.{begin_five, joins_down, row_share, set_count}}
 use Rattle.qr_matrix.specs.Sums.{count_below, places_passing, sum_below}
 use Rattle.qr_matrix.specs.Penalty.{is_square_of_two, over_lines, run_cost, square_count}
-use Rattle.qr_matrix.proofs.lemmas.{adders.AdderLemmas.{set_count-most}, bit_row.SumLemmas.{sum_below-same}}
+use Rattle.qr_matrix.proofs.lemmas.{rows.AdderLemmas.{set_count-most}, bit_row.SumLemmas.{sum_below-same}}
 use Rattle.qr_matrix.proofs.lemmas.runs.{AboveLemmas.{counted-next, share-left, share-next}, ChargeLemmas.row_cost, RowLemmas.side-most, RunLemmas.runs-by-places}
-use Rattle.qr_matrix.proofs.lemmas.squares.SquareLemmas.{square-bit, squares-row}
-use Rattle.qr_matrix.proofs.lemmas.runs.ColumnLemmas.{shares-are-columns}
+use Rattle.qr_matrix.proofs.lemmas.runs.SquareLemmas.{square-bit, squares-row}
+use Rattle.qr_matrix.proofs.lemmas.runs.ColumnLemmas.{joins-down-none, shares-are-columns}
 use Rattle.qr_matrix.proofs.runs.runs_and_squares.Goals as goal
+use Rattle.qr_matrix.proofs.runs.runs_and_squares.Goals.{then-row-from, else-row-from}
 
 -- what a full adder keeps: `a` and `u` are added to `o` ones and `t` twos
 kept : (t o a u s e k : ℕ) → a + u + o ≡ s + 2 * e → k ≡ t + e → 2 * k + s ≡ (2 * t + o) + (a + u)
@@ -23,13 +24,22 @@ loop-row-preserved g c =
     let l = c.loop-row in
     let i = l.invariant in
     let r = l.row in
-    let joins = c.joined-joins in let down = c.joined_at_end-down in let upright = c.next_row-upright in
+    let here = c.joined-joins in let upright = c.next_row-upright in
+    let both = c.if-row-from.down in
+    let down : (b : Bool) (k : ℕ) → bit both.0 b k ≡ joins_down s (d b) k r = λ b k. elim c.if-row-from.branch [
+      | then-row-from w ↦ ap (λ z. bit z.0 b k) w.down-is ∙ w.joined_in_column.ensures b k
+      | else-row-from w ↦ ap (λ z. bit z.0 b k) w.down-is ∙ joins-down-none s (λ i. d b i k) k r _ (omega (arith, c.side-side.ensures.least, c.side-side.ensures.value, w.if-row-from.false)) (w.empty.ensures b k)
+    ] in
+    let below : (b : Bool) (k : ℕ) → r + 1 < s → bit both.1 b k ≡ joins s (d b (r + 1)) k = λ b k l. elim c.if-row-from.branch [
+      | then-row-from w ↦ ap (λ z. bit z.1 b k) w.down-is ∙ w.joined.ensures b k
+      | else-row-from w ↦ absurd (omega (arith, c.side-side.ensures.value, w.if-row-from.false))
+    ] in
     let across = λ (b : Bool). set_count (bit c.costing.result b) in
-    let points = λ (b : Bool). row_cost s (d b r) (bit joins.result b) (bit c.fours.result b) (bit c.costing.result b) few (joins.ensures b) (c.fours.ensures b) (c.costing.ensures b) in
-    let share = λ (b : Bool). share-next s (d b) r (bit upright.result.0 b) few (λ k. upright.ensures.upright b k r (joins_down s (d b) k) (i.above b k) (down.ensures b k)) in
-    let four = λ (b : Bool). squares-row s (d b) r (bit c.squares_at.result b) few (λ k. square-bit s (d b) r k (bit c.squares_at.result b k) (bit joins.result b k) (bit c.joined_below-next_joins.result b k) (bit down.result b k) (c.squares_at.ensures b k) (joins.ensures b k) (λ l. c.joined_below-next_joins.ensures l b k) (down.ensures b k)) in
+    let points = λ (b : Bool). row_cost s (d b r) (bit here.result b) (bit c.fours.result b) (bit c.costing.result b) few (here.ensures b) (c.fours.ensures b) (c.costing.ensures b) in
+    let share = λ (b : Bool). share-next s (d b) r (bit upright.result.0 b) few (λ k. upright.ensures.upright b k r (joins_down s (d b) k) (i.above b k) (down b k)) in
+    let four = λ (b : Bool). squares-row s (d b) r (bit c.squares_at.result b) few (λ k. square-bit s (d b) r k (bit c.squares_at.result b k) (bit here.result b k) (bit both.1 b k) (bit both.0 b k) (c.squares_at.ensures b k) (here.ensures b k) (below b k) (down b k)) in
     record {
-      above = λ b k. upright.ensures.above b k r (joins_down s (d b) k) (i.above b k) (down.ensures b k);
+      above = λ b k. upright.ensures.above b k r (joins_down s (d b) k) (i.above b k) (down b k);
       counted = λ b. counted-next s (d b) r _ _ (across b) (set_count (bit upright.result.0 b)) (set_count (bit c.squares_at.result b)) _ _ (i.counted b) (points b) (share b) (four b) (set_count-most (bit c.costing.result b)) (set_count-most (bit upright.result.0 b)) (set_count-most (bit c.squares_at.result b))
           (kept (number l.twos b) (set_count (bit l.ones b)) (across b) (set_count (bit upright.result.0 b)) _ _ _ (c.added-sum.ensures b) (c.add_to-twos.ensures.value b)) (c.add_to-of_two.ensures.value b);
     }

@@ -1,6 +1,6 @@
 use Rattle.std.proofs.Common.{◌≡◌, ℕ, ◌+◌, ◌*◌, Bool, arith, refl, subst}
 use Rattle.qr_matrix.specs.{Runs.joins, Steps.{joins_down, set_count, IsAbove, IsCountedTo}}
-use Rattle.qr_matrix.proofs.lemmas.{adders.AdderLemmas.{none-of, set_count-most}, squares.SquareLemmas.{square-bit, squares-row}}
+use Rattle.qr_matrix.proofs.lemmas.{rows.AdderLemmas.{none-of, set_count-most}, runs.SquareLemmas.{square-bit, squares-row}}
 use Rattle.qr_matrix.proofs.lemmas.runs.{AboveLemmas.{counted-next, none-above, share-next}, ChargeLemmas.row_cost, RowLemmas.side-most}
 use Rattle.qr_matrix.proofs.runs.upper_rows.Goals as goal
 

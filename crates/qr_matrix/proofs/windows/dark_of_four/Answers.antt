@@ -7,8 +7,8 @@ returns g c = λ b k.
     let l1 = c.row_in-2.ensures.colours b k in
     let l2 = c.row_in-3.ensures.colours b k in
     let l3 = c.row_in-4.ensures.colours b k in
-    let h0 = c.or-upper.ensures b k in
-    let h1 = c.or.ensures b k in
-    let h2 = c.or-2.ensures b k in
+    let h0 = g.met.S.Row.Rows.bitor_law _ _ _ c.bitor.ensures b k in
+    let h1 = g.met.S.Row.Rows.bitor_law _ _ _ c.bitor-2.ensures b k in
+    let h2 = g.met.S.Row.Rows.bitor_law _ _ _ c.bitor-3.ensures b k in
     let read = dark-read (λ i. g.S.Squares.dark c.args.squares.now b i k) c.args.row in
     cc

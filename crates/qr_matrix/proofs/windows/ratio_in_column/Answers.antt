@@ -16,10 +16,10 @@ returns g c = λ b k.
     let l5 = c.row_in-6.ensures.colours b k in
     let l6 = c.row_in-7.ensures.colours b k in
     let h0 = c.and_not-begun.ensures b k in
-    let h1 = c.and.ensures b k in
-    let h2 = c.and-2.ensures b k in
-    let h3 = c.and-middle.ensures b k in
+    let h1 = g.met.S.Row.Rows.bitand_law _ _ _ c.bitand.ensures b k in
+    let h2 = g.met.S.Row.Rows.bitand_law _ _ _ c.bitand-2.ensures b k in
+    let h3 = g.met.S.Row.Rows.bitand_law _ _ _ c.bitand-middle.ensures b k in
     let h4 = c.and_not.ensures b k in
-    let h5 = c.and-3.ensures b k in
+    let h5 = g.met.S.Row.Rows.bitand_law _ _ _ c.bitand-3.ensures b k in
     let read = ratio-read (ltb k s) (λ i. d i k) c.args.row in
     cc

@@ -1,6 +1,6 @@
-use Rattle.std.proofs.Common.{◌≡◌, ◌*◌, ◌+◌, ℕ, ltb, arith, ap, ◌∙◌}
+use Rattle.std.proofs.Common.{ltb, ◌≡◌, ◌*◌, ◌+◌, ℕ, arith, ap, ◌∙◌}
 use Rattle.qr_matrix.specs.{Sums.{count_below, sum_below}, Penalty.{over_lines, window_count}, Steps.is_found}
-use Rattle.qr_matrix.proofs.lemmas.{adders.AdderLemmas.none-of, runs.RowLemmas.side-most, windows.WindowLemmas.{found-are-columns, found-none, windows-next, windows-none}}
+use Rattle.qr_matrix.proofs.lemmas.{rows.AdderLemmas.none-of, runs.RowLemmas.side-most, windows.WindowLemmas.{found-are-columns, found-none, windows-next, windows-none}}
 use Rattle.qr_matrix.proofs.windows.window_count.Goals as goal
 
 -- nothing is counted yet
@@ -19,8 +19,8 @@ loop-upper-preserved g c =
     let s = g.S.Squares.size m in
     let few = side-most s g.row.WORDS c.requires.width in
     record {
-      counted = λ b. windows-next s (g.S.Squares.dark m b) c.loop-upper.upper _ (g.S.Row.Rows.bit c.row_windows-across.result b) (g.S.Row.Rows.bit c.windows_at_top-upright.result b) _ few
-          (c.loop-upper.invariant.counted b) (c.row_windows-across.ensures b) (c.windows_at_top-upright.ensures b) (c.counted.ensures b);
+      counted = λ b. windows-next s (g.S.Squares.dark m b) c.loop-upper.upper _ (g.S.Row.Rows.bit c.row_windows-across.result b) (g.S.Row.Rows.bit c.windows_at_edge-upright.result b) _ few
+          (c.loop-upper.invariant.counted b) (c.row_windows-across.ensures b) (c.windows_at_edge-upright.ensures b) (c.counted.ensures b);
     }
 
 pub loop-row-preserved : goal.loop-row-preserved
@@ -31,7 +31,7 @@ loop-row-preserved g c =
     record {
       counted = λ b. windows-next s (g.S.Squares.dark m b) c.loop-row.row _ (g.S.Row.Rows.bit c.row_windows-across-in-loop-row.result b) (g.S.Row.Rows.bit c.windows_at-upright.result b) _ few
           (c.loop-row.invariant.counted b) (c.row_windows-across-in-loop-row.ensures b) (c.windows_at-upright.ensures b) (c.counted-ones.ensures b);
-      kept = λ _ b k. c.ratio_in_column-ratio.ensures b k;
+      kept = λ _ b k. c.ratio_in_column-ratio-in-loop-row.ensures b k;
     }
 
 pub loop-lower-preserved : goal.loop-lower-preserved
@@ -40,8 +40,8 @@ loop-lower-preserved g c =
     let s = g.S.Squares.size m in
     let few = side-most s g.row.WORDS c.requires.width in
     record {
-      counted = λ b. windows-next s (g.S.Squares.dark m b) c.loop-lower.lower _ (g.S.Row.Rows.bit c.row_windows-across-in-loop-lower.result b) (g.S.Row.Rows.bit c.windows_at_bottom-upright.result b) _ few
-          (c.loop-lower.invariant.counted b) (c.row_windows-across-in-loop-lower.ensures b) (c.windows_at_bottom-upright.ensures b) (c.counted-in-loop-lower.ensures b);
+      counted = λ b. windows-next s (g.S.Squares.dark m b) c.loop-lower.lower _ (g.S.Row.Rows.bit c.row_windows-across-in-loop-lower.result b) (g.S.Row.Rows.bit c.windows_at_edge-upright-in-loop-lower.result b) _ few
+          (c.loop-lower.invariant.counted b) (c.row_windows-across-in-loop-lower.ensures b) (c.windows_at_edge-upright-in-loop-lower.ensures b) (c.counted-in-loop-lower.ensures b);
     }
 
 pub loop-last-preserved : goal.loop-last-preserved
@@ -66,7 +66,7 @@ unfolding over_lines
 returns-clause-value g c = λ b.
     let s = g.S.Squares.size c.args.squares.now in
     let d = g.S.Squares.dark c.args.squares.now b in
-    let n : c.loop-last.last ≡ s = omega (arith, c.side-side.ensures.value) in
+    let n : c.loop-last.last ≡ s = omega (arith, c.side-side.ensures.value, c.loop-last.auto.last-end, c.loop-last-test.false, c.from-last-end.ensures) in
     value _ _ _ _ (c.doubled.ensures b) (c.add_to.ensures.value b)
     ∙ ((c.loop-last.invariant.counted b).windows_are
     ∙ (λ j. sum_below (n j) (λ r. window_count s (d r)) + (ap (λ z. sum_below z (λ r. count_below s (λ c. is_found s (λ i. d i c) r))) n ∙ found-are-columns s d) j))

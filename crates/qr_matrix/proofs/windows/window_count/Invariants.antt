@@ -13,7 +13,7 @@ invariant-loop-row g l =
     let dark = g.S.Squares.dark l.squares in
     record {
       counted : (b : Bool) → AreWindowsTo s (dark b) l.row (2 * g.S.Row.Rows.number l.above.twos b + set_count (g.S.Row.Rows.bit l.above.ones b));
-      kept : l.row + 7 ≤ s → (b : Bool) (k : ℕ) → g.S.Row.Rows.bit l.above.ratio b k ≡ (ltb k s && reads (λ i. dark b i k) l.row finder_ratio);
+      kept : l.row + 11 ≤ s → (b : Bool) (k : ℕ) → g.S.Row.Rows.bit l.above.ratio b k ≡ (ltb k s && reads (λ i. dark b i k) l.row finder_ratio);
     }
 
 abbrev pub invariant-loop-last : goal.invariant-loop-last

@@ -10,5 +10,5 @@ invariant-loop-step g l =
     let number = g.S.Row.Rows.number in
     record {
       counted : (b : Bool) → AreWindowsTo s (dark b) (l.first + 2 * l.step) (2 * (number l.above.twos b + (2 * number l.fours b + set_count (bit l.twos b))) + set_count (bit l.ones b));
-      kept : l.first + 2 * l.step + 7 ≤ s → (b : Bool) (k : ℕ) → bit l.ratio b k ≡ (ltb k s && reads (λ i. dark b i k) (l.first + 2 * l.step) finder_ratio);
+      kept : l.first + 2 * l.step + 11 ≤ s → (b : Bool) (k : ℕ) → bit l.ratio b k ≡ (ltb k s && reads (λ i. dark b i k) (l.first + 2 * l.step) finder_ratio);
     }

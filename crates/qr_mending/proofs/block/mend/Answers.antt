@@ -1,4 +1,4 @@
-use Rattle.std.proofs.Common.{◌∙◌, sym}
+use Rattle.std.proofs.Common.{rules, ◌∙◌, sym}
 use Rattle.qr_mending.proofs.lemmas.block.BlockLemmas.{mended-same, mended-one}
 use Rattle.qr_mending.proofs.block.mend.Goals as goal
 
@@ -6,7 +6,7 @@ pub returns-in_default-clause-only : goal.returns-in_default-clause-only
 returns-in_default-clause-only c = λ mended h.
     let b = c.args.codewords.now in
     let same = mended-same c.args.divisor.now c.args.t b c.in_default.ensures.block in
-    mended-one c.args.divisor.now c.args.t b mended b c.requires.most c.requires.half h same
+    search (rules, mended-one)
 
 pub returns-clause-only : goal.returns-clause-only
 returns-clause-only c = λ mended h.

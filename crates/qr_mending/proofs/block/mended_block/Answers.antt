@@ -1,7 +1,7 @@
 use Rattle.std.proofs.Common.{◌∙◌, refl, arith}
 use Rattle.std.proofs.lemmas.List.{Elements.All-from_get_or}
 use Rattle.qr_field.specs.Polynomial.{IsByte, plus}
-use Rattle.qr_mending.proofs.lemmas.block.BlockLemmas.{all-leading, candidate-mended, errors-few}
+use Rattle.qr_mending.proofs.lemmas.block.BlockLemmas.{all-leading, search-mended, errors-few}
 use Rattle.qr_mending.proofs.block.mended_block.Goals as goal
 
 pub advance-requires-clause-progress : goal.advance-requires-clause-progress
@@ -34,7 +34,7 @@ without_errors-block-requires-clause-leading c =
 pub returns-then-progress-t-clause-refused : goal.returns-then-progress-t-clause-refused
 returns-then-progress-t-clause-refused c = λ mended m.
     let damaged = c.args.damaged.now in
-    let same = candidate-mended c.advance.new.self c.args.t damaged c.args.remainder.now c.without_errors-early.result.items
+    let same = search-mended c.advance.new.self c.args.t damaged c.args.remainder.now c.without_errors-early.result.items
     c.requires.most (All-from_get_or IsByte damaged 0 (λ i l. omega (arith, c.type_inv.damaged i))) c.requires.same
     c.if-not-advance.ensures.progress c.if-progress-t.true
     (rw (c.coefficients.ensures.value, c.as_slice.ensures.value) at c.without_errors-early.ensures.sum)
@@ -44,7 +44,7 @@ returns-then-progress-t-clause-refused c = λ mended m.
 pub returns-then-not-is_mended-clause-refused : goal.returns-then-not-is_mended-clause-refused
 returns-then-not-is_mended-clause-refused c = λ mended m.
     let damaged = c.args.damaged.now in
-    let same = candidate-mended c.advance-2.new.self c.args.t damaged c.args.remainder.now c.without_errors-block.result.items
+    let same = search-mended c.advance-2.new.self c.args.t damaged c.args.remainder.now c.without_errors-block.result.items
     c.requires.most (All-from_get_or IsByte damaged 0 (λ i l. omega (arith, c.type_inv.damaged i))) c.requires.same
     c.if-not-advance-2.ensures.progress (c.if-not-advance-2.ensures.all refl)
     (rw (c.coefficients-2.ensures.value, c.as_slice-3.ensures.value) at c.without_errors-block.ensures.sum)

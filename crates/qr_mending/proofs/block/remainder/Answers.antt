@@ -20,4 +20,4 @@ returns-clause-same c =
     (All-from_get_or IsByte b 0 (λ i l. omega (arith, c.type_inv.codewords i))) (omega arith)
     c.correction-correction.ensures.definition
     (rw (take_rest b k, c.as_slice-2.ensures.value) at c.sum.ensures.sum)
-    (omega (arith, rw (take_rest b k) at c.sum.ensures.count, length-drop k b, c.count.ensures.is))
+    (omega (arith, rw (take_rest b k) at c.sum.ensures.count, length-drop k b))

@@ -1,32 +1,17 @@
-use Rattle.{std.proofs.Common.{◌∙◌, length, sym, ap, arith}, qr_field.specs.Distance.errors}
+use Rattle.{std.proofs.Common.{rules, ◌∙◌, length, ap, arith}, qr_field.specs.Distance.errors}
 use Rattle.qr_mending.{specs.Erasures.{read_of, IsMendedWithErasures}, proofs.lemmas.block.BlockLemmas.erasures-one}
-use Rattle.qr_field.proofs.lemmas.laws.DistanceLemmas.{errors-read}
-use Rattle.qr_mending.proofs.lemmas.block.BlockLemmas.{read-mended, mended-read}
-use Rattle.qr_mending.proofs.lemmas.erasures.ErasureLemmas.{read-none, some-follows, none-follows, length-read, erasures-marked, errors-self}
+use Rattle.qr_mending.proofs.lemmas.erasures.ErasureLemmas.{read-none, length-read, erasures-marked, errors-self, unerased-mended, unerased-only, unerased-refused}
 use Rattle.qr_mending.proofs.erasures.mend_with_erasures.Goals as goal
 use Rattle.qr_mending.proofs.erasures.mend_with_erasures.Goals.{then-erasures-misread-via-then-erasures-misread, then-erasures-misread-via-else-erasures-misread+then-not-is_block}
 
 pub returns-then-erasures-eq0-clause-mended : goal.returns-then-erasures-eq0-clause-mended
-returns-then-erasures-eq0-clause-mended c =
-    let old = c.args.codewords.now in
-    let new = c.mend.new.codewords in
-    let same = read-none old c.args.erased.now c.requires.marks (omega (arith, c.count_erased-erasures.ensures)) in
-    some-follows c.mend.result _ _ c.mend.ensures.mended
-    (λ x h. rw same (read-mended c.args.divisor.now c.args.spare old new h.0, h.1 ∙ sym (errors-read old new)))
+returns-then-erasures-eq0-clause-mended c = search (rules, read-none, unerased-mended)
 
 pub returns-then-erasures-eq0-clause-only : goal.returns-then-erasures-eq0-clause-only
-returns-then-erasures-eq0-clause-only c =
-    let old = c.args.codewords.now in
-    let same = read-none old c.args.erased.now c.requires.marks (omega (arith, c.count_erased-erasures.ensures)) in
-    some-follows c.mend.result _ _ c.mend.ensures.only
-    (λ x h mended m. h mended (mended-read c.args.divisor.now c.args.spare old mended (rw same at m)))
+returns-then-erasures-eq0-clause-only c = search (rules, read-none, unerased-only)
 
 pub returns-then-erasures-eq0-clause-refused : goal.returns-then-erasures-eq0-clause-refused
-returns-then-erasures-eq0-clause-refused c =
-    let old = c.args.codewords.now in
-    let same = read-none old c.args.erased.now c.requires.marks (omega (arith, c.count_erased-erasures.ensures)) in
-    none-follows c.mend.result _ _ c.mend.ensures.refused
-    (λ h mended m. h mended (mended-read c.args.divisor.now c.args.spare old mended (rw same at m)))
+returns-then-erasures-eq0-clause-refused c = search (rules, read-none, unerased-refused)
 
 pub returns-in_default-clause-only : goal.returns-in_default-clause-only
 returns-in_default-clause-only c = λ mended h.
@@ -35,13 +20,13 @@ returns-in_default-clause-only c = λ mended h.
     let self : IsMendedWithErasures c.args.divisor.now c.args.spare read codewords = search
     (arith, erasures-marked, errors-self, length-read) in
     erasures-one c.args.divisor.now c.args.spare read mended codewords
-    (omega (arith, c.requires.most, length-read codewords c.args.erased.now)) c.requires.spare h self
+    (omega (arith, length-read codewords c.args.erased.now)) c.requires.spare h self
 
 pub returns-clause-only : goal.returns-clause-only
 returns-clause-only c = λ mended h.
     let found = c.candidate-mended.ensures.mended c.args.divisor.now mended
     (omega (arith, ap length c.as_slice.ensures.value, c.in-Some.ensures.count)) h in
-    sym (c.copy_from_slice.ensures.after ∙ (c.as_slice-3.ensures.value ∙ found))
+    search rules
 
 pub returns-then-erasures-misread-clause-refused : goal.returns-then-erasures-misread-clause-refused
 returns-then-erasures-misread-clause-refused c = λ mended h.
@@ -51,7 +36,7 @@ returns-then-erasures-misread-clause-refused c = λ mended h.
     elim c.then-erasures-misread.branch [
       | then-erasures-misread-via-then-erasures-misread w ↦
           let same = ap (errors read) (c.as_slice-2.ensures.value ∙ found) in
-          omega (arith, h.near, marked, c.count_erased-erasures.ensures, c.count_misread-misread.ensures.value, same)
+          omega arith
       | then-erasures-misread-via-else-erasures-misread+then-not-is_block w ↦
           let same = w.as_slice-else-erasures-misread.ensures.value ∙ found in
           let passes = w.is_block.ensures.1 (rw same h.block) in
@@ -61,19 +46,13 @@ returns-then-erasures-misread-clause-refused c = λ mended h.
 pub returns-clause-mended : goal.returns-clause-mended
 returns-clause-mended c =
     let codewords = c.args.codewords.now in
-    let read = read_of codewords c.args.erased.now in
     let after = c.copy_from_slice.ensures.after ∙ c.as_slice-3.ensures.value in
     let misread = rw (c.as_slice-2.ensures.value, ← after) at c.count_misread-misread.ensures.value in (
       record {
         block = rw (c.as_slice-else-erasures-misread.ensures.value, ← after) at
             (c.is_block.ensures.0 c.if-not-is_block.false);
-        long = omega (arith, ap length after, c.candidate-mended.ensures.long, length-read codewords c.args.erased.now);
-        near = omega (
-          arith,
-          erasures-marked codewords c.args.erased.now c.requires.marks,
-          c.count_erased-erasures.ensures,
-          misread,
-        );
+        long = omega (arith, ap length after, length-read codewords c.args.erased.now);
+        few = omega (arith, erasures-marked codewords c.args.erased.now c.requires.marks);
       },
       misread,
     )

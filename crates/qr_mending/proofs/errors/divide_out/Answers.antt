@@ -1,4 +1,4 @@
-use Rattle.std.proofs.Common.{◌≡◌, ◌-◌, ◌∙◌, ap, length, take, refl, sym, arith}
+use Rattle.std.proofs.Common.{rules, ◌≡◌, ◌-◌, ◌∙◌, ap, length, take, refl, sym, arith}
 use Rattle.qr_mending.proofs.lemmas.{errors.RemovalLemmas.{refill-same}, roots.RootLemmas.{divided}}
 use Rattle.qr_mending.proofs.errors.divide_out.Goals as goal
 
@@ -14,7 +14,7 @@ loop-rest-preserved c =
     (c.pop.ensures.rest ∙ ap (λ t. take (length t - 1) t) (refill-same now q (length now) refl count)) in record {
       leading = d.leading;
       value = rw same at c.divide-rest.ensures.value ∙ d.value;
-      most = omega (arith, d.shorter, c.loop-rest.invariant.most);
-      shorter = λ some. omega (arith, d.shorter, c.loop-rest.invariant.most);
-      others = λ y l n z. d.others y l n (c.loop-rest.invariant.others y l n z);
+      most = omega arith;
+      shorter = λ some. omega arith;
+      others = search rules;
     }

@@ -1,4 +1,4 @@
-use Rattle.std.proofs.Common.{◌≡◌, ℕ, ◌+◌, ◌-◌, List, ◌∙◌, [], ◌∷◌, ◌++◌, ap, refl, length, drop, get_or, set, bit_xor, length-append, length-drop, arith, take}
+use Rattle.std.proofs.Common.{rules, ◌≡◌, ℕ, ◌+◌, ◌-◌, List, ◌∙◌, [], ◌∷◌, ◌++◌, ap, refl, length, drop, get_or, set, bit_xor, length-append, length-drop, arith, take}
 use Rattle.std.proofs.lemmas.List.{length-take-le, take_all, drop_all, drop_more, length-set, append-nil}
 use borrow.Rule.Slice.PartMut.{post_of}
 use Rattle.qr_field.{specs.Polynomial.{plus}, proofs.lemmas.polynomial.ListLemmas.{length-plus}}
@@ -19,7 +19,7 @@ loop-k-preserved c =
     let less : length damaged - (k + 1) ≡ length damaged - 1 - k = omega arith in
     let next : (errors : List ℕ) → AreErrors (length damaged) c.args.locator.now c.args.syndromes.now errors →
     AreLeft (length damaged - 1 - k + 1) (get_or errors k 0 ∷ drop (k + 1) errors) c.loop-k.removal =
-    λ errors all. rw (drop_more errors k 0 (omega (arith, all.count)), turn) at (kept.left errors all) in record {
+    λ errors all. rw (drop_more errors k 0 (omega arith), turn) at (kept.left errors all) in record {
       long = rw c.deref_mut-in-loop-k.ensures.value (ap length same ∙ (count ∙ kept.long));
       removal = rw less c.next_error.ensures.removal;
       left = λ errors all. rw less (c.next_error.ensures.left (get_or errors k 0) (drop (k + 1) errors) (next errors all));
@@ -37,15 +37,15 @@ returns-then-len-le2-clause-sum c = λ errors all.
     let items = c.loop-k.codewords.items in
     let here = c.deref_mut.ensures.value in
     let left = length items - k in
-    let part : take left (drop k items) ≡ drop k items = take_all left (drop k items) (omega (arith, length-drop k items)) in
+    let part : take left (drop k items) ≡ drop k items = search (rules, take_all, length-drop) in
     let none : post_of k left items ≡ [] = drop_all left (drop k items) (omega (arith, length-drop k items)) in
-    let count : length (drop k items) ≡ length damaged - k = omega (arith, length-drop k items, kept.long) in
+    let count : length (drop k items) ≡ length damaged - k = omega (arith, length-drop k items) in
     let rest = rw (here, part, count) at c.finish.ensures.sum (drop k errors) in
     let new = c.finish.new.codewords in
     let long : length new ≡ length damaged - k = rw (here, part, count) at c.finish.ensures.long in
     rw (here, none, append-nil new)
     (refill-same items (take k items ++ new) (length items) refl
-    (omega (arith, length-append (take k items) new, length-take-le k items (omega arith), long))
+    (omega (arith, length-append (take k items) new, length-take-le k items (omega arith)))
     ∙ sum-last damaged errors items new k all.count (omega arith) (kept.sum errors all) (rest (kept.left errors all)))
 
 pub returns-clause-sum : goal.returns-clause-sum
@@ -53,6 +53,5 @@ returns-clause-sum c = λ errors all.
     let damaged = c.args.damaged.now in
     let k = c.loop-k.k in
     let sum = plus damaged errors in
-    let end : k ≡ length damaged = omega arith in
     c.loop-k.invariant.sum errors all
-    ∙ cc (take_all k sum (omega (arith, length-plus damaged errors (omega (arith, all.count)), all.count)), drop_all k damaged (omega (arith, end)), append-nil sum)
+    ∙ cc (take_all k sum (omega (arith, length-plus damaged errors (omega arith))), drop_all k damaged (omega arith), append-nil sum)

@@ -29,4 +29,4 @@ returns c =
     let u = c.args.scan.now.unknown.now in
     let g = c.args.scan.now.matrix.now in
     every u c.args.copy g
-    (λ k l. c.loop-level.invariant u g c.args.copy c.read-bits.ensures k (omega (arith, c.loop-level-test.false)))
+    (λ k l. c.loop-level.invariant u g c.args.copy c.read-bits.ensures k (omega arith))

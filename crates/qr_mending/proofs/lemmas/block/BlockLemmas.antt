@@ -12,7 +12,7 @@ use Rattle.qr_field.proofs.lemmas.laws.DistanceLemmas.{weight-plus, difference-s
 use Rattle.qr_mending.specs.{Block.{IsBlock, IsMended}, Steps.Polynomial.{all_of, IsMonic, IsProgress}}
 use Rattle.qr_mending.specs.declared.locator.Progress.{Progress}
 use Rattle.qr_mending.specs.{Erasures.IsMendedWithErasures, declared.polynomial.Polynomial.Polynomial}
-use Rattle.qr_mending.specs.Steps.{Sums.{HasValues, HasSameValues}, Roots.HasLeadingOne, Errors.{AreFewErrors, AreFewErrorsOf, AreErrors, IsLocated}}
+use Rattle.qr_mending.specs.Steps.{Sums.{HasValues, HasSameValues}, Roots.HasLeadingOne, Errors.{AreFewErrorsOf, AreErrors}}
 use Rattle.qr_mending.proofs.lemmas.locator.SearchLemmas.{few-values, search-locates, weight-zeros}
 
 -- ---- blocks
@@ -43,8 +43,7 @@ errors-value n damaged b h s a i l =
     let v = value_at i damaged in
     let none : i * 0 ≡ 0 = omega arith in
     cc (
-      none,
-      value-plus i 0 damaged b (omega (arith, s)) a (bytes-block n b h),
+      value-plus i 0 damaged b (omega arith) a (bytes-block n b h),
       product-by_one v (value-lt i damaged a),
       root-block n b h i l,
       xor_zero_r v,
@@ -58,9 +57,7 @@ errors-values n damaged b first block long a h l = search (arith, errors-value)
 -- the sum of two lists that begin alike has the values of the sum of what follows
 value-front : (i : ℕ) (xs ys zs : List ℕ) → value_at i (plus (xs ++ ys) (xs ++ zs)) ≡ value_at i (plus ys zs)
 value-front i [] ys zs = refl
-value-front i (x ∷ xs) ys zs =
-    let rest = plus (xs ++ ys) (xs ++ zs) in
-    ap (λ t. value_at i (t ∷ rest)) (xor_self x) ∙ (value-zero i rest ∙ value-front i xs ys zs)
+value-front i (x ∷ xs) ys zs = search (arith, xor_self, value-zero, value-front i xs ys zs)
 
 -- the remainder of a block has its first values
 pub remainder-values : (n k : ℕ) (damaged correction r : List ℕ) → All IsByte damaged → k + n ≡ length damaged →
@@ -72,18 +69,18 @@ remainder-values n k damaged correction r a long corrects sum count =
     let b = start ++ correction in
     let block : IsBlock n b = record { message = start; correction = correction; whole = refl; corrects = corrects } in
     let same : length b ≡ length damaged =
-    omega (arith, length-append start correction, length-take-le k damaged (omega (arith, long)), corrects.count, long) in
+    omega (arith, length-append start correction, length-take-le k damaged (omega arith)) in
     record {
       each = λ i l.
           ap (value_at i) sum
           ∙ (sym (value-front i start rest correction)
           ∙ (ap (λ t. value_at i (plus t b)) (take-append-drop k damaged)
-          ∙ errors-value n damaged b block same a i (omega (arith, l, count))));
+          ∙ errors-value n damaged b block same a i (omega arith)));
     }
 
 -- the values of a remainder are those of the damaged block
 pub same-values : (s r e : List ℕ) → HasValues s r → HasSameValues r e → length s ≡ length r → HasValues s e
-same-values s r e h same l = record { each = λ k m. h.each k m ∙ same.each k (omega (arith, m, l)) }
+same-values s r e h same l = search arith
 
 -- the list of all coefficients ends with the leading 1
 pub all-leading : (p : Polynomial) → IsMonic p → p.degree < length p.terms → HasLeadingOne (all_of p)
@@ -102,40 +99,30 @@ pub errors-few : (n t : ℕ) (r damaged b : List ℕ) → length damaged ≤ 255
     length r ≡ n → IsMended n t damaged b → AreFewErrorsOf t r (plus damaged b)
 errors-few n t r damaged b most a same l m =
     let e = plus damaged b in
-    let count : length e ≡ length b = length-plus damaged b (omega (arith, m.long)) in
+    let count : length e ≡ length b = length-plus damaged b (omega arith) in
     record {
       bytes = bytes-plus damaged b a (bytes-block n b m.block);
-      most = omega (arith, count, m.long);
-      few = omega (arith, weight-zeros e, weight-plus damaged b (sym m.long), m.near);
-      values = record {
-        each = λ k g. same.each k g ∙ sym (errors-value n damaged b m.block m.long a k (omega (arith, g, l)));
-      };
+      most = omega arith;
+      few = search (arith, weight-zeros, weight-plus);
+      values = search (arith, errors-value);
     }
 
--- the damaged codewords without their located errors are the true block
-pub errors-leave : (n t : ℕ) (damaged r q s items : List ℕ) → length damaged ≤ 255 → All IsByte damaged →
-    HasSameValues r damaged → length r ≡ n → HasValues s r → length s ≤ length r →
-    ((e : List ℕ) → AreFewErrors t s e → IsLocated q e) →
-    ((e : List ℕ) → AreErrors (length damaged) q s e → items ≡ plus damaged e) →
-    (b : List ℕ) → IsMended n t damaged b → items ≡ b
-errors-leave n t damaged r q s items most a same l values short located sum b m =
-    let e = plus damaged b in
-    let count : length e ≡ length b = length-plus damaged b (omega (arith, m.long)) in
-    let few = few-values t r s e values short (errors-few n t r damaged b most a same l m) in
-    let all : AreErrors (length damaged) q s e =
-    record { count = omega (arith, count, m.long); located = located e few; values = few.values } in
-    sum e all ∙ plus-cancel damaged b (sym m.long)
-
 -- once all syndromes were taken in, the codewords without the errors that the search located are the true block
-pub candidate-mended : (progress : Progress) (t : ℕ) (damaged r items : List ℕ) → length damaged ≤ 255 → All IsByte damaged →
+pub search-mended : (progress : Progress) (t : ℕ) (damaged r items : List ℕ) → length damaged ≤ 255 → All IsByte damaged →
     HasSameValues r damaged → IsProgress t r progress → progress.taken ≡ 2 * t →
     ((e : List ℕ) → AreErrors (length damaged) (all_of progress.search.best) progress.syndromes.items e →
     items ≡ plus damaged e) →
     (b : List ℕ) → IsMended (length r) t damaged b → items ≡ b
-candidate-mended progress t damaged r items most a same h full sum b m =
+search-mended progress t damaged r items most a same h full sum b m =
     let s = progress.syndromes.items in
-    errors-leave (length r) t damaged r (all_of progress.search.best) s items most a same refl h.values h.count
-    (λ e few. search-locates t progress.taken progress.search s e h.search (omega (arith, full)) h.within h.degree few) sum b m
+    let e = plus damaged b in
+    let few = few-values t r s e h.values h.count (errors-few (length r) t r damaged b most a same refl m) in
+    let all : AreErrors (length damaged) (all_of progress.search.best) s e = record {
+      count = omega (arith, length-plus damaged b (omega arith));
+      located = search-locates t progress.taken progress.search s e h.search (omega arith) h.within h.degree few;
+      values = few.values;
+    } in
+    sum e all ∙ plus-cancel damaged b (sym m.long)
 
 -- ---- the checks
 
@@ -161,10 +148,7 @@ mended-same n t b h = search (arith, differences-same)
 
 -- two blocks of the same length with the same data codewords are equal
 blocks-one : (n : ℕ) (b c : List ℕ) → (g : IsBlock n b) → (h : IsBlock n c) → g.message ≡ h.message → b ≡ c
-blocks-one n b c g h e =
-    let f : g.correction ≡ h.correction =
-    correction-one h.message n g.correction h.correction (rw e at g.corrects) h.corrects in
-    cc
+blocks-one n b c g h e = cc (correction-one h.message n g.correction h.correction (rw e at g.corrects) h.corrects)
 
 -- the law of mended blocks with erasures
 pub erasures-one : (n spare : ℕ) (read : List (Option ℕ)) (b c : List ℕ) → length read ≤ 255 →
@@ -176,12 +160,12 @@ erasures-one n spare read b c most enough g h =
     let ly = start-block n c y in
     let all = length-append x.message x.correction in
     let t = (spare - erasures read) / 2 in
-    let gt : errors read b ≤ t = omega (arith, g.near) in
-    let ht : errors read c ≤ t = omega (arith, h.near) in
+    let gt : errors read b ≤ t = omega arith in
+    let ht : errors read c ≤ t = omega arith in
     let e : x.message ≡ y.message =
     unambiguous-known n t x.message x.correction y.message y.correction read x.corrects y.corrects
-    (omega (arith, lx, ly, g.long, h.long))
-    (omega (arith, all, ap length x.whole, x.corrects.count, g.long)) (omega (arith, g.near, enough))
+    (omega arith)
+    (omega (arith, ap length x.whole)) (omega arith)
     (rw x.whole at gt) (rw y.whole at ht) in
     blocks-one n b c x y e
 

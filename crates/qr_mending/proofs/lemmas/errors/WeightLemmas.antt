@@ -1,12 +1,12 @@
--- The errors, each multiplied by the value of a polynomial at its position. At most as many of these products differ
--- from 0 as there are errors, so all are 0 if their first values are. They are 0 exactly if each error is at a root of
--- the polynomial.
-use Rattle.std.proofs.Common.{◌≡◌, ℕ, suc, ◌+◌, ◌*◌, ◌<◌, ◌≤◌, List, [], ◌∷◌, length, refl, sym, ap, ◌∙◌, subst, inl, inr, arith, lit<, bit_xor}
+-- The errors, the one at location m multiplied by the value of a polynomial at 2^m. At most as many of these products
+-- differ from 0 as there are errors, so all are 0 if their first values are. They are 0 exactly if each error is at a
+-- root of the polynomial.
+use Rattle.std.proofs.Common.{◌≡◌, ℕ, suc, ◌+◌, ◌*◌, ◌<◌, ◌≤◌, List, [], ◌∷◌, length, refl, sym, ap, ◌∙◌, inl, inr, arith, lit<, bit_xor}
 use Rattle.std.proofs.lemmas.{Bool.{cases_eq, eq-eqb, ne_eqb}, List.Elements.{All-nil, All-cons, All-head, All-tail}}
 use Rattle.std.specs.{List.All, Int.Bits.xor_zero_l}
 use Rattle.qr_field.specs.{Galois.product, Polynomial.{IsByte, power}, Steps.Polynomial.value_at, Distance.difference}
 use Rattle.qr_field.proofs.lemmas.galois.ByteLemmas.{product-by_zero, product-of_zero}
-use Rattle.qr_field.proofs.lemmas.{galois.ProductLemmas.product-lt, logarithm.PowerLemmas.power-lt}
+use Rattle.qr_field.proofs.lemmas.{galois.ProductLemmas.product-lt, galois.PowerLemmas.power-lt}
 use Rattle.qr_field.proofs.lemmas.{galois.FieldLemmas.product-factor, laws.ValueLemmas.value-lt}
 use Rattle.qr_field.proofs.lemmas.laws.DistanceLemmas.{weight, weight-none, value-none, difference-same, difference-other, difference-most}
 use Rattle.qr_mending.specs.Steps.{Sums.eval, Sums.blend, Errors.coefficient, Errors.weighted}
@@ -21,31 +21,23 @@ length-weighted p (c ∷ e) = ap suc (length-weighted p e)
 pub bytes-weighted : (p e : List ℕ) → All IsByte e → All IsByte (weighted p e)
 bytes-weighted p [] a = All-nil IsByte
 bytes-weighted p (c ∷ e) a =
-    let z = eval (power (length e)) p in
-    All-cons IsByte (product c z) (weighted p e) (product-lt c z (All-head IsByte c e a))
-    (bytes-weighted p e (All-tail IsByte c e a))
+    search (arith, All-cons, product-lt, All-head, All-tail, bytes-weighted p e (All-tail IsByte c e a))
 
 -- a multiple of an error differs from 0 only if the error does
 pub difference-product : (c z : ℕ) → z < 256 → difference (product c z) 0 ≤ difference c 0
-difference-product c z l = elim (cases_eq c 0) [
-  | inl f ↦ let none = difference-same (product c z) 0 (rw f (product-of_zero z l)) in omega (arith, none)
-  | inr n ↦ omega (arith, difference-other c 0 n, difference-most (product c z) 0)
-]
+difference-product c z l = search (arith, difference-same, product-of_zero, difference-other, difference-most)
 
 -- at most as many products differ from 0 as errors do
 weight-weighted : (p e : List ℕ) → All IsByte p → All IsByte e → weight (weighted p e) ≤ weight e
 weight-weighted p [] b a = omega arith
 weight-weighted p (c ∷ e) b a =
-    let x = power (length e) in
-    let head = difference-product c (eval x p) (eval-lt x p (power-lt (length e)) b) in
-    omega (arith, head, weight-weighted p e b (All-tail IsByte c e a))
+    search (arith, difference-product, eval-lt, power-lt, All-tail, weight-weighted p e b (All-tail IsByte c e a))
 
 -- with the empty polynomial, all products are 0
 weight-nothing : (e : List ℕ) → All IsByte e → weight (weighted [] e) ≡ 0
 weight-nothing [] a = refl
 weight-nothing (c ∷ e) a =
-    let none = difference-same (product c 0) 0 (product-by_zero c (All-head IsByte c e a)) in
-    omega (arith, none, weight-nothing e (All-tail IsByte c e a))
+    search (arith, difference-same, product-by_zero, All-head, All-tail, weight-nothing e (All-tail IsByte c e a))
 
 -- a polynomial with one coefficient more
 step-terms : (a c x z y v w : ℕ) → a < 256 → c < 256 → x < 256 → z < 256 → y < 256 → v < 256 →
@@ -78,20 +70,17 @@ weighted-value [] i e lp le = value-none i (weighted [] e) (weight-nothing e le)
 weighted-value (a ∷ p) i e lp le =
     let la = All-head IsByte a p lp in
     let lps = All-tail IsByte a p lp in
-    weighted-step a p i e la lps le
-    ∙ ap (bit_xor (product a (value_at i e))) (weighted-value p (i + 1) e lps le)
+    cc (weighted-step a p i e la lps le, weighted-value p (i + 1) e lps le)
 
 -- if there are at most t errors and their first t sums are 0, all products are 0
 pub weighted-none : (t : ℕ) (p e : List ℕ) → All IsByte p → All IsByte e → length e ≤ 255 → weight e ≤ t →
     ((i : ℕ) → i < t → blend p i e ≡ 0) → weight (weighted p e) ≡ 0
 weighted-none t p e lp le most few h =
-    let w = weight-weighted p e lp le in
-    weight-none (length (weighted p e)) t (weighted p e) (omega arith) (omega (arith, length-weighted p e))
-    (bytes-weighted p e le) (omega (arith, w, few)) (λ i l. weighted-value p i e lp le ∙ h i l)
+    search (arith, weight-weighted, weight-none, length-weighted, bytes-weighted, weighted-value)
 
 -- a byte that does not differ from 0 is 0
 difference-none : (x : ℕ) → difference x 0 ≡ 0 → x ≡ 0
-difference-none x h = elim (cases_eq x 0) [ inl e ↦ e | inr n ↦ absurd (omega (arith, difference-other x 0 n, h)) ]
+difference-none x h = search (arith, difference-other)
 
 -- the coefficient of the highest power
 pub coefficient-head : (m c : ℕ) (e : List ℕ) → m ≡ length e → coefficient m (c ∷ e) ≡ c
@@ -106,14 +95,10 @@ weighted-root : (p e : List ℕ) → All IsByte p → All IsByte e → weight (w
     m < length e → (eval (power m) p ≡ 0 → ⊥) → coefficient m e ≡ 0
 weighted-root p [] lp le w m l n = absurd (omega arith)
 weighted-root p (c ∷ e) lp le w m l n = elim (cases_eq m (length e)) [
-  | inl h ↦
-      let z = eval (power m) p in
-      let none = difference-none (product c z) (rw h (omega (arith, w))) in
-      rw (coefficient-head m c e h)
-      (product-factor c z (All-head IsByte c e le) (eval-lt (power m) p (power-lt m) lp) n none)
+  | inl h ↦ search (arith, difference-none, coefficient-head, product-factor, All-head, eval-lt, power-lt)
   | inr o ↦
       rw (coefficient-tail m c e o)
-      (weighted-root p e lp (All-tail IsByte c e le) (omega (arith, w)) m (omega (arith, o, l)) n)
+      (weighted-root p e lp (All-tail IsByte c e le) (omega arith) m (omega arith) n)
 ]
 
 -- if there are at most t errors and their first t sums are 0, each error is at a root
@@ -131,16 +116,11 @@ root-weighted p (c ∷ e) lp le r =
     let z = eval x p in
     let none : product c z ≡ 0 = elim (cases_eq z 0) [
       | inl f ↦ rw f (product-by_zero c (All-head IsByte c e le))
-      | inr o ↦
-          cc (
-            coefficient-head (length e) c e refl,
-            r (length e) (omega arith) o,
-            product-of_zero z (eval-lt x p (power-lt (length e)) lp),
-          )
+      | inr o ↦ search (arith, coefficient-head, product-of_zero, eval-lt, power-lt)
     ] in
     let rest = root-weighted p e lp (All-tail IsByte c e le)
-    (λ m l n. sym (coefficient-tail m c e (λ h. omega (arith, h, l))) ∙ r m (omega (arith, l)) n) in
-    omega (arith, difference-same (product c z) 0 none, rest)
+    (λ m l n. sym (coefficient-tail m c e (λ h. omega arith)) ∙ r m (omega arith) n) in
+    omega (arith, difference-same (product c z) 0 none)
 
 -- if each error is at a root, all sums are 0
 pub root-blends : (p e : List ℕ) → All IsByte p → All IsByte e →
@@ -150,24 +130,11 @@ root-blends p e lp le r i = sym (weighted-value p i e lp le) ∙ value-none i (w
 -- a coefficient is a byte
 pub coefficient-lt : (m : ℕ) (e : List ℕ) → All IsByte e → coefficient m e < 256
 coefficient-lt m [] le = lit< tt
-coefficient-lt m (c ∷ e) le = elim (cases_eq m (length e)) [
-  | inl h ↦ subst (λ (t : ℕ). t < 256) (sym (coefficient-head m c e h)) (All-head IsByte c e le)
-  | inr o ↦ subst (λ (t : ℕ). t < 256) (sym (coefficient-tail m c e o)) (coefficient-lt m e (All-tail IsByte c e le))
-]
+coefficient-lt m (c ∷ e) le = search (arith, coefficient-head, All-head, coefficient-tail, All-tail, coefficient-lt m e (All-tail IsByte c e le))
 
 -- the product at index m
 pub coefficient-weighted : (m : ℕ) (p e : List ℕ) → All IsByte p →
     coefficient m (weighted p e) ≡ product (coefficient m e) (eval (power m) p)
-coefficient-weighted m p [] lp = sym (product-of_zero (eval (power m) p) (eval-lt (power m) p (power-lt m) lp))
+coefficient-weighted m p [] lp = search (arith, product-of_zero, eval-lt, power-lt)
 coefficient-weighted m p (c ∷ e) lp =
-    let x = product c (eval (power (length e)) p) in
-    let same = length-weighted p e in
-    elim (cases_eq m (length e)) [
-      | inl h ↦ cc (coefficient-head m x (weighted p e) (h ∙ sym same), coefficient-head m c e h, h)
-      | inr o ↦
-          cc (
-            coefficient-tail m x (weighted p e) (λ h. o (h ∙ same)),
-            coefficient-weighted m p e lp,
-            coefficient-tail m c e o,
-          )
-    ]
+    search (arith, length-weighted, coefficient-head, coefficient-tail, coefficient-weighted m p e lp)

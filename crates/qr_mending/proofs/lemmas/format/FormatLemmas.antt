@@ -1,6 +1,6 @@
 -- Any two words of the format information differ in at least seven bits, so at most one word is near to what was read.
 use Rattle.std.{specs.Prelude.◌⊎◌, proofs.lemmas.Bool.{cases_eq, ne_eqb}}
-use Rattle.std.proofs.Common.{◌≡◌, ℕ, zero, suc, ◌+◌, ◌-◌, ◌*◌, ◌/◌, ◌%◌, ◌^◌, ◌<◌, ◌≤◌, ◌==◌, Bool, true, cond, not, ◌&&◌, ◌||◌, eqb, ltb, add-one, bit_and, bit_xor, refl, sym, ap, ◌∙◌, inl, inr, arith}
+use Rattle.std.proofs.Common.{◌≡◌, ℕ, zero, suc, ◌+◌, ◌-◌, ◌*◌, ◌/◌, ◌^◌, ◌<◌, ◌≤◌, ◌==◌, Bool, true, cond, not, ◌&&◌, ◌||◌, eqb, ltb, bit_and, bit_xor, refl, ◌∙◌, inl, inr, arith}
 use Rattle.std.proofs.Math.Nat.{pow-suc}
 use Rattle.qr_matrix.proofs.Facts.{has_bit-and, has_bit-ones, has_bit-shr, has_bit-xor}
 use borrow.Author.Tests.{ltb-true}
@@ -109,7 +109,7 @@ pub sure-one : (unknown g : Grid) (l k : Level) (m n : ℕ) → m < 8 → n < 8 
     format_cost unknown g k n ≤ 13 → (l ≡ k) × (m ≡ n)
 sure-one unknown g l k m n p q h j = elim (word-one l k m n p q) [
   | inl e ↦ e
-  | inr a ↦ absurd (omega (arith, a, cost-between unknown First g l k m n, cost-between unknown Second g l k m n, h, j))
+  | inr a ↦ absurd (omega (arith, cost-between unknown First g l k m n, cost-between unknown Second g l k m n))
 ]
 
 -- ---- a copy as numbers
@@ -117,26 +117,23 @@ sure-one unknown g l k m n p q h j = elim (word-one l k m n p q) [
 -- the lowest bit of a number with a bit more
 bit-first : (d x : ℕ) → x < 2 → has_bit (2 * d + x) 0 ≡ (x == 1)
 unfolding has_bit
-bit-first d x l = let e : (2 * d + x) / 2 ^ 0 % 2 ≡ x = omega (arith, l) in ap (λ t. t == 1) e
+bit-first d x l = search arith
 
 -- the bits of a number with a bit more
 pub bits-more : (p : ℕ → Bool) (d x i k : ℕ) → x < 2 → 1 ≤ i → (x == 1) ≡ p (i - 1) →
     ((k : ℕ) → i + k < 15 → has_bit d k ≡ p (i + k)) → i - 1 + k < 15 → has_bit (2 * d + x) k ≡ p (i - 1 + k)
-bits-more p d x i zero l some first h inside =
-    let e : i - 1 + 0 ≡ i - 1 = omega arith in
-    bit-first d x l ∙ (first ∙ ap p (sym e))
+bits-more p d x i zero l some first h inside = search (arith, bit-first)
 bits-more p d x i (suc k) l some first h inside =
-    let rest : (2 * d + x) / 2 ^ 1 ≡ d = omega (arith, l) in
     let next : k + 1 ≡ suc k = omega arith in
-    let at : i - 1 + suc k ≡ i + k = omega (arith, some) in
+    let at : i - 1 + suc k ≡ i + k = omega arith in
     let shifted : has_bit ((2 * d + x) / 2 ^ 1) k ≡ has_bit (2 * d + x) (k + 1) = has_bit-shr (2 * d + x) 1 k in
-    ap (has_bit (2 * d + x)) (sym next) ∙ (sym shifted ∙ (ap (λ t. has_bit t k) rest ∙ (h k (omega (arith, inside, some)) ∙ ap p (sym at))))
+    search arith
 
 -- how large a number is with a bit more
 pub bits-few : (d x i : ℕ) → x < 2 → 1 ≤ i → i ≤ 15 → d < 2 ^ (15 - i) → 2 * d + x < 2 ^ (15 - (i - 1))
 bits-few d x i l some most h =
-    let e : 15 - (i - 1) ≡ suc (15 - i) = omega (arith, some, most) in
-    rw e (omega (arith, pow-suc 2 (15 - i), h, l))
+    let e : 15 - (i - 1) ≡ suc (15 - i) = omega arith in
+    rw e (omega (arith, pow-suc 2 (15 - i)))
 
 -- equal terms have equal sums
 pub sum-same : (n : ℕ) (f h : ℕ → ℕ) → ((k : ℕ) → k < n → f k ≡ h k) → sum_below n f ≡ sum_below n h
@@ -146,8 +143,7 @@ sum-same (suc n) f h e = omega (arith, e n (omega arith), sum-same n f h (λ k l
 -- equal bits are equally many
 pub bits-counted : (n count : ℕ) (p : ℕ → Bool) → count ≡ count_below 15 (has_bit n) → ((k : ℕ) → k < 15 → has_bit n k ≡ p k) →
     count ≡ count_below 15 p
-bits-counted n count p e h =
-    e ∙ sum-same 15 (λ k. cond (has_bit n k) 1 0) (λ k. cond (p k) 1 0) (λ k m. ap (λ b. cond b 1 0) (h k m))
+bits-counted n count p e h = search (arith, sum-same)
 
 -- a bit that was read and is another than the wanted one
 misread-bit : (d w u : Bool) → (not (is_same d w) && not (is_same true u)) ≡ (not u && not (is_same d w))
@@ -165,11 +161,7 @@ misread-counted dark word unread count p q e hp hq =
     (λ k m.
     let low : ltb k 15 ≡ true = search arith in
     let one : has_bit 0x7FFF k ≡ true = has_bit-ones 15 k ∙ low in
-    cc (has_bit-and wrong read k, has_bit-xor dark word k, has_bit-xor 0x7FFF unread k, one, hp k m, hq k m, misread-bit (p k) (has_bit word k) (q k)))
-
--- one bit more in a count
-pub count-more : (n count x : ℕ) (p : ℕ → Bool) → count ≡ count_below n p → x ≡ cond (p n) 1 0 → count + x ≡ count_below (n + 1) p
-count-more n count x p c e = rw add-one (omega (arith, c, e))
+    cc (has_bit-and wrong read k, has_bit-xor dark word k, has_bit-xor 0x7FFF unread k, hp k m, hq k m, misread-bit (p k) (has_bit word k) (q k)))
 
 -- ---- both copies
 

@@ -27,4 +27,4 @@ changes-some unknown g v l m p x h = search (arith, blocks-sound)
 pub changes-few : (unknown : Grid) (g : Grid) (v : ℕ) (l : Level) (m : ℕ) (p : Content) (x : List ℕ) → IsMendedReading unknown g v l m p x → All (λ n. n ≤ correctable_of v l) x
 changes-few unknown g v l m p x h =
     let d = h.form.damaged.mended in
-    All-from_get_or (λ n. n ≤ correctable_of v l) x 0 (λ i k. let b = d.each i (omega (arith, d.many)) in omega (arith, b.near))
+    All-from_get_or (λ n. n ≤ correctable_of v l) x 0 (λ i k. let b = d.each i (omega arith) in omega arith)

@@ -3,7 +3,7 @@ use Rattle.qr_bits.specs.declared.interpretation.Interpretation.{Interpretation}
 use Rattle.qr_bits.specs.Interpretation.{MayWrite}
 use Rattle.qr_symbol.proofs.Facts.{symbol-parsed}
 use Rattle.qr_symbol.specs.Reading.{interpreted_content}
-use Rattle.std.proofs.Common.{◌≡◌, ℕ, ◌≤◌, List, refl, sym, ◌∙◌, ap, arith}
+use Rattle.std.proofs.Common.{◌≡◌, ℕ, ◌≤◌, List, arith}
 use Rattle.std.specs.Prelude.{Result, Ok, Err, None, IfOk, MatchResult}
 use Rattle.{qr_layout.specs.declared.level.Level.Level, qr_matrix.specs.Grid.Grid}
 use Rattle.qr_bits.specs.{declared.modes.Rule.Rule, Parsing.Content}
@@ -22,8 +22,7 @@ symbol-mended-as unknown g v l mask content changed (Ok m) h k =
     let w = mended-reading-one unknown g m.version v m.level l m.mask mask m.parsed content m.changed.items changed k
     h in
     (w.0, w.1, w.2, w.3)
-symbol-mended-as unknown g v l mask content changed (Err e) h k = mended-not-refused unknown g v l mask content changed
-    e h k
+symbol-mended-as unknown g v l mask content changed (Err e) h k = search (arith, mended-not-refused)
 
 -- `g` is the symbol of the input `x`, and `h` a damaged form of it
 module _ (unknown : Grid) (smallest : ℕ) (l : Level) (rule : Rule) (how : Interpretation) (x : List ℕ) (v mask : ℕ) (g h : Grid)
@@ -33,23 +32,11 @@ module _ (unknown : Grid) (smallest : ℕ) (l : Level) (rule : Rule) (how : Inte
     (d : HoldsDamaged unknown v l mask h s.made.message changed) where
   -- a damaged symbol of an input is a damaged form of its message
   symbol-form : IsDamagedForm unknown h v l mask s.made.message changed
-  symbol-form = record {
-    sized = record {
-      least = omega (arith, s.version.least);
-      most = s.version.most;
-      side = side ∙ ap (λ (z : Grid). z.side) s.made.drawn;
-    };
-    format = f;
-    damaged = d;
-  }
+  symbol-form = search arith
 
   -- a damaged symbol of an input can be read with its damage mended, as the input
   pub symbol-mended : IsMendedReading unknown h v l mask (interpreted_content how None s.made.segments x) changed
-  symbol-mended = record {
-    message = s.made.message;
-    form = symbol-form;
-    parsed = symbol-parsed v l rule how x None mask g may s.made;
-  }
+  symbol-mended = search (arith, symbol-form, symbol-parsed)
 
   -- the same, with the numbers of changed codewords and wrong modules
   pub symbol-counted : (r : Result Mended ReadFault) →
@@ -66,10 +53,9 @@ module _ (unknown : Grid) (smallest : ℕ) (l : Level) (rule : Rule) (how : Inte
       (wrong_modules unknown h (grid_of v l mask s.made.codewords)) = record {
         message = s.made.message;
         form = symbol-form;
-        differs = record { codewords = s.made.codewords; interleaved = s.made.interleaved; count = refl };
+        differs = search arith;
       } in
       let wrong = wrong-one unknown h m.version v m.level l m.mask mask m.changed.items changed m.wrong_modules _
       modules drawn in
-      let whole = wrong ∙ ap (wrong_modules unknown h) (sym s.made.drawn) in
-      (w.0, w.1, w.2, w.3, w.4, whole, rw (w.1, w.2) at format)
+      search arith
   symbol-counted (Err e) k format modules = mended-not-refused unknown h v l mask _ changed e symbol-mended k

@@ -3,7 +3,7 @@ use Rattle.std.proofs.Common.{◌≡◌, ℕ, ◌<◌, ◌≤◌, List, [], ◌+
 use Rattle.std.proofs.lemmas.List.FromFn.{get_or-map-range_with_len, length-map-range_with_len}
 use Rattle.{std.specs.List.{range_with_len, sum_by}, qr_layout.specs.declared.level.Level.Level}
 use Rattle.{qr_field.specs.Distance.{difference, differences}, qr_matrix.specs.{Grid.{Grid, light}, BitRow.has_bit}}
-use Rattle.qr_layout.specs.{Blocks.{blocks_of, correctable_of}, Format.format_word_of, Version.total_codewords_of}
+use Rattle.qr_layout.specs.{Blocks.{blocks_of}, Format.format_word_of, Version.total_codewords_of}
 use Rattle.qr_symbol.{specs.{Symbol.grid_of, Reading.{IsFormat, IsMessage}}, proofs.Facts.{data-sizes-whole, read-some}}
 use Rattle.qr_symbol.specs.Interleaving.{block_count, codeword_count, data_sizes, part_of}
 use Rattle.qr_mending.specs.declared.format.FormatCopy.TheVariants.{First, Second}
@@ -11,10 +11,10 @@ use Rattle.qr_mending.specs.{Format.copy_bit, Message.{received}, Mending.{HasFo
 use Rattle.qr_mending.specs.Modules.{codeword_differences, DifferInFewModules}
 use Rattle.qr_mending.proofs.lemmas.{format.FormatLemmas.bits-alike, laws.DistanceLemmas.shown}
 use Rattle.qr_mending.proofs.lemmas.message.MessageLemmas.{in-blocks-one, item, items-in-blocks, received-all, received-map}
-use Rattle.qr_mending.proofs.lemmas.laws.ModuleLemmas.{interleaved-near, items-near}
-use Rattle.qr_mending.proofs.lemmas.laws.UndamagedLemmas.{copy-light, final-parts}
-use Rattle.qr_mending.proofs.lemmas.message.LightLemmas.{light-mended, IsPlainBlock}
-use Rattle.qr_mending.proofs.lemmas.{message.MarkLemmas.held-many, mending.MendingLemmas.sure-format}
+use Rattle.qr_mending.proofs.lemmas.laws.ModuleLemmas.{interleaved-differences, items-differences}
+use Rattle.qr_mending.proofs.lemmas.laws.UndamagedLemmas.{copy-light, final-in-blocks}
+use Rattle.qr_mending.proofs.lemmas.message.LightLemmas.{light-mended}
+use Rattle.qr_mending.proofs.lemmas.{message.MarkLemmas.codewords-many, mending.MendingLemmas.sure-format}
 
 -- the format information of the square costs at most 12
 pub few-format : (v : ℕ) (l : Level) (mask : ℕ) (cw : List ℕ) (g h : Grid) → 1 ≤ v → v ≤ 40 → h ≡ grid_of v l mask cw → IsFormat h l mask →
@@ -26,19 +26,12 @@ few-format v l mask cw g h p q e f w =
     let second = bits-alike 15 (copy_bit Second g) word (copy_bit Second g) (copy_bit Second h) (λ i k. refl)
     (λ i k. rw e (sym (shown Second v l mask cw i p q f.in_range k))) in
     let cost = copy-light g.side in
-    sure-format (light g.side) g v l mask f.in_range (omega (
-      arith,
-      first,
-      second,
-      w.format,
-      cost First g l mask,
-      cost Second g l mask,
-    ))
+    sure-format (light g.side) g v l mask f.in_range (omega (arith, cost First g l mask, cost Second g l mask))
 
 -- a square that differs from a symbol in few modules contains a damaged form of its message
-pub few-held : (v : ℕ) (l : Level) (mask : ℕ) (g h : Grid) (d : List ℕ) → 1 ≤ v → v ≤ 40 → IsMessage v l mask h d →
+pub few-damaged : (v : ℕ) (l : Level) (mask : ℕ) (g h : Grid) (d : List ℕ) → 1 ≤ v → v ≤ 40 → IsMessage v l mask h d →
     DifferInFewModules v l g h → (changed : List ℕ) × HoldsDamaged (light g.side) v l mask g d changed
-few-held v l mask g h d p q m w =
+few-damaged v l mask g h d p q m w =
     let b = blocks_of v l in
     let own = data_sizes b in
     let n = total_codewords_of v in
@@ -50,36 +43,36 @@ few-held v l mask g h d p q m w =
     let xs = map (item cw) ks in
     let es = map (item cw) js in
     let long : length d ≡ codeword_count own = m.many ∙ sym (data-sizes-whole v l p q) in
-    let whole = final-parts b d sent long m.interleaved in
-    let inside = items-in-blocks b n cw ks js (held-many v mask g cw p q read.1) w.inside in
-    let also = items-in-blocks b n sent ks js (held-many v mask h sent p q m.read) w.inside in
+    let whole = final-in-blocks b d sent long m.interleaved in
+    let inside = items-in-blocks b n cw ks js (codewords-many v mask g cw p q read.1) w.inside in
+    let also = items-in-blocks b n sent ks js (codewords-many v mask h sent p q m.read) w.inside in
     let same = in-blocks-one b sent (map (item sent) ks) (map (item sent) js) d whole.checks also whole.inside in
     let checks = m.interleaved.corrections in
     let block : ℕ → List ℕ = λ i. part_of own d i ++ get_or checks i [] in
     let count : ℕ → ℕ = λ i. differences (received b xs es i) (block i) in
     let changed = map count (range_with_len 0 (block_count own)) in
-    let near : (i : ℕ) → i < block_count own → count i ≤ sum_by (codeword_differences g h w.places) (received b ks js i) =
+    let bound : (i : ℕ) → i < block_count own → count i ≤ sum_by (codeword_differences g h w.places) (received b ks js i) =
     λ i r.
     let x = received-map b (item cw) ks js i in
     let y : map (item sent) (received b ks js i) ≡ block i =
-    cc (received-map b (item sent) ks js i, same.0, same.1, whole.same i r) in
+    cc (received-map b (item sent) ks js i, whole.same i r) in
     let all = received-all b (λ k. difference (item cw k) (item sent k) ≤ codeword_differences g h w.places k) n ks js i
-    (λ k r. interleaved-near v mask g h w.places cw sent k p q w.order read.1 m.read r) w.inside in
-    search (arith, items-near) in
-    let each : (i : ℕ) → i < block_count own → IsPlainBlock b (correctable_of v l) xs es d (count i) i =
-    λ i r. record {
-      correction = get_or checks i [];
-      corrects = m.interleaved.each i r;
-      near = omega (arith, near i r, w.few i r);
-      count = refl;
-    } in (
+    (λ k r. interleaved-differences v mask g h w.places cw sent k p q w.order read.1 m.read r) w.inside in
+    search (arith, items-differences) in (
       changed,
       record {
         codewords = cw;
         held = read.1;
         mended =
-            light-mended v mask g.side l g cw xs es d changed p q read.1 inside long
-            (length-map-range_with_len count 0 (block_count own))
-            (λ i r. rw (get_or-map-range_with_len count 0 (block_count own) i i 0 r (omega arith)) (each i r));
+            light-mended v mask g.side l g cw xs es d changed p q read.1 inside (record {
+              long = long;
+              many = length-map-range_with_len count 0 (block_count own);
+              each = λ i r. rw (get_or-map-range_with_len count 0 (block_count own) i i 0 r (omega arith)) (record {
+                correction = get_or checks i [];
+                corrects = m.interleaved.each i r;
+                few = omega (arith, bound i r, w.few i r);
+                count = refl;
+              });
+            });
       },
     )

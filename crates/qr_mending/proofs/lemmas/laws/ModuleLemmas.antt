@@ -3,11 +3,11 @@ use Rattle.std.proofs.Common.{◌≡◌, ℕ, ◌<◌, ◌≤◌, Bool, true, no
 use Rattle.std.proofs.lemmas.List.{Elements.{All-nil, All-cons, All-head, All-tail}, Sums.sum_by-cons}
 use Rattle.qr_field.proofs.lemmas.laws.DistanceLemmas.{difference-most, difference-same}
 use Rattle.{std.specs.List.{All, count_by, sum_by}, qr_bits.specs.Bits.{bits_of, field}}
-use Rattle.{qr_field.specs.Distance.{difference, differences}, qr_matrix.specs.{Difference.differs, Grid.Grid}}
+use Rattle.{qr_field.specs.Distance.{difference, differences}, qr_matrix.{proofs.Facts.same-same, specs.{Difference.differs, Grid.Grid}}}
 use Rattle.qr_layout.specs.{declared.region.Place.Place, Order.IsOrder, Version.total_codewords_of}
 use Rattle.qr_symbol.{specs.Reading.{unmasked, IsRead}, proofs.Facts.bits-one}
 use Rattle.qr_mending.specs.{Message.modules_of, Modules.codeword_differences}
-use Rattle.qr_mending.proofs.lemmas.message.MarkLemmas.{codeword-read, held-bits, held-many, same-is}
+use Rattle.qr_mending.proofs.lemmas.message.MarkLemmas.{codeword-read, codewords-bits, codewords-many}
 use Rattle.qr_mending.proofs.lemmas.message.MessageLemmas.{item}
 
 -- ---- one codeword
@@ -18,7 +18,7 @@ same-bits : (mask : ℕ) (g h : Grid) (ms : List Place) → count_by (λ m. diff
 same-bits mask g h [] e = refl
 same-bits mask g h (m ∷ ms) e =
     let more = sum_by-cons (λ (m : Place). cond (differs g h m.row m.col) 1 0) m ms in
-    search (arith, same-is, same-bits mask g h ms (omega (arith, e, more)))
+    search (arith, same-same, same-bits mask g h ms (omega arith))
   where
     no-difference : (b : Bool) → ◌≡◌ {A = ℕ} (cond (not b) 1 0) 0 → b ≡ true
     no-difference b e = grind arith
@@ -31,31 +31,31 @@ byte-one a b l m e =
     cc (bits-one (a ∷ []) (b ∷ []) (single a l) (single b m) (ap (λ (z : List Bool). z ++ []) e))
 
 -- a codeword differs only if one of its modules differs
-codeword-near : (mask : ℕ) (g h : Grid) (ms : List Place) (a b : ℕ) → a < 256 → b < 256 →
+codeword-differences : (mask : ℕ) (g h : Grid) (ms : List Place) (a b : ℕ) → a < 256 → b < 256 →
     field 8 a ≡ map (unmasked mask g) ms → field 8 b ≡ map (unmasked mask h) ms → difference a b ≤ count_by (λ m. differs g h m.row m.col) ms
-codeword-near mask g h ms a b l m e f = search (arith, difference-most, byte-one, same-bits, difference-same)
+codeword-differences mask g h ms a b l m e f = search (arith, difference-most, byte-one, same-bits, difference-same)
 
 -- the bits of codeword j of a square are read from its eight modules
-held-codeword : (v mask : ℕ) (g : Grid) (ms : List Place) (cw : List ℕ) (j : ℕ) → 1 ≤ v → v ≤ 40 →
+codeword-modules : (v mask : ℕ) (g : Grid) (ms : List Place) (cw : List ℕ) (j : ℕ) → 1 ≤ v → v ≤ 40 →
     IsOrder v ms → IsRead v mask g cw → j < total_codewords_of v →
     field 8 (get_or cw j 0) ≡ map (unmasked mask g) (modules_of ms j)
-held-codeword v mask g ms cw j p q o h l = search (arith, codeword-read, held-bits, held-many)
+codeword-modules v mask g ms cw j p q o h l = search (arith, codeword-read, codewords-bits, codewords-many)
 
 -- codeword j of two squares differs only if one of its modules differs
-pub interleaved-near : (v mask : ℕ) (g h : Grid) (ms : List Place) (cs ds : List ℕ) (j : ℕ) → 1 ≤ v →
+pub interleaved-differences : (v mask : ℕ) (g h : Grid) (ms : List Place) (cs ds : List ℕ) (j : ℕ) → 1 ≤ v →
     v ≤ 40 → IsOrder v ms → IsRead v mask g cs → IsRead v mask h ds → j < total_codewords_of v →
     difference (get_or cs j 0) (get_or ds j 0) ≤ codeword_differences g h ms j
-interleaved-near v mask g h ms cs ds j p q o a b l =
-    codeword-near mask g h (modules_of ms j) (get_or cs j 0) (get_or ds j 0)
-    (a.bytes j 0 (omega (arith, l, held-many v mask g cs p q a))) (b.bytes j 0 (omega (arith, l, held-many v mask h ds p q b)))
-    (held-codeword v mask g ms cs j p q o a l) (held-codeword v mask h ms ds j p q o b l)
+interleaved-differences v mask g h ms cs ds j p q o a b l =
+    codeword-differences mask g h (modules_of ms j) (get_or cs j 0) (get_or ds j 0)
+    (a.bytes j 0 (omega (arith, codewords-many v mask g cs p q a))) (b.bytes j 0 (omega (arith, codewords-many v mask h ds p q b)))
+    (codeword-modules v mask g ms cs j p q o a l) (codeword-modules v mask h ms ds j p q o b l)
 
 -- ---- one block
 
 -- codewords at the same indices differ at most as their modules do
-pub items-near : (f : ℕ → ℕ) (cs ds ks : List ℕ) → All (λ k. difference (item cs k) (item ds k) ≤ f k) ks →
+pub items-differences : (f : ℕ → ℕ) (cs ds ks : List ℕ) → All (λ k. difference (item cs k) (item ds k) ≤ f k) ks →
     differences (map (item cs) ks) (map (item ds) ks) ≤ sum_by f ks
-items-near f cs ds [] h = omega arith
-items-near f cs ds (k ∷ ks) h =
+items-differences f cs ds [] h = omega arith
+items-differences f cs ds (k ∷ ks) h =
     let near : ℕ → Type 0 = λ k. difference (item cs k) (item ds k) ≤ f k in
-    omega (arith, All-head near k ks h, items-near f cs ds ks (All-tail near k ks h), sum_by-cons f k ks)
+    omega (arith, All-head near k ks h, items-differences f cs ds ks (All-tail near k ks h), sum_by-cons f k ks)

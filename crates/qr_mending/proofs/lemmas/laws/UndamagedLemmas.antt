@@ -1,5 +1,5 @@
 -- A square that is read without mending is read as the same content with mending, and no codeword is changed.
-use Rattle.std.proofs.Common.{◌≡◌, ℕ, zero, suc, ◌+◌, ◌*◌, ◌<◌, ◌≤◌, Bool, false, cond, not, ◌&&◌, List, [], ◌++◌, map, drop, length, get_or, refl, ap, ◌∙◌, arith}
+use Rattle.std.proofs.Common.{◌≡◌, ℕ, zero, suc, ◌+◌, ◌*◌, ◌<◌, ◌≤◌, Bool, false, cond, not, ◌&&◌, List, [], ◌++◌, map, length, get_or, refl, ap, ◌∙◌, arith}
 use Rattle.std.proofs.lemmas.List.{length-map, take_all, take_at, drop_at, length-replicate, get_or-replicate}
 use lib.ListN.{replicate}
 use Rattle.{qr_field.specs.Polynomial.IsCorrection, qr_bits.specs.Parsing.Content}
@@ -9,7 +9,7 @@ use Rattle.qr_mending.proofs.lemmas.{mending.MendingLemmas.best, format.FormatLe
 use Rattle.qr_layout.specs.{declared.{blocks.Blocks.Blocks, level.Level.Level}, Blocks.blocks_of, Format.format_word_of}
 use Rattle.qr_matrix.specs.{Grid.{Grid, light, is_same}, BitRow.has_bit, Sums.count_below}
 use Rattle.qr_symbol.specs.Interleaving.{block_count, codeword_count, IsPosition, codeword_at, data_sizes, correction_sizes, block_of, check_at, IsFinalMessage, part_of}
-use Rattle.qr_symbol.specs.{Steps.Interleaving.IsChecks, Distance.blocks_in, Reading.{IsFormat, IsRead, IsReading}}
+use Rattle.qr_symbol.specs.{Interleaving.IsChecks, Distance.blocks_in, Reading.{IsFormat, IsRead, IsReading}}
 use Rattle.qr_mending.specs.declared.format.FormatCopy.{FormatCopy, TheVariants.First, TheVariants.Second}
 use Rattle.qr_mending.specs.Format.{bit_difference, bit_differences, copy_bit, copy_cost, IsNearFormat}
 use Rattle.qr_mending.specs.{Message.AreInBlocks, Message.IsMendedIn, Mending.HasFormat, Mending.IsMendedReading}
@@ -31,15 +31,15 @@ checks-some b d cs (suc k) l h =
     (more, rw next at (checks-push b d before.0 more (get_or cs k []) k here before.1 (h k here) refl))
 
 -- the data codewords and the error correction codewords of a final sequence, both gathered
-pub record FinalParts (b : Blocks) (d cw : List ℕ) (corrections : List (List ℕ)) : Type 0 where
+pub record FinalInBlocks (b : Blocks) (d cw : List ℕ) (corrections : List (List ℕ)) : Type 0 where
   pub checks : List ℕ
   pub inside : AreInBlocks b cw d checks
   pub same : (i : ℕ) → i < block_count (data_sizes b) → part_of (correction_sizes b) checks i ≡ get_or corrections i []
 
 -- from a final sequence its data codewords are gathered, and the error correction codewords of its blocks
-pub final-parts : (b : Blocks) (d cw : List ℕ) → length d ≡ codeword_count (data_sizes b) →
-    (h : IsFinalMessage b d cw) → FinalParts b d cw h.corrections
-final-parts b d cw n h =
+pub final-in-blocks : (b : Blocks) (d cw : List ℕ) → length d ≡ codeword_count (data_sizes b) →
+    (h : IsFinalMessage b d cw) → FinalInBlocks b d cw h.corrections
+final-in-blocks b d cw n h =
     let own = data_sizes b in
     let sizes = correction_sizes b in
     let some = checks-some b d h.corrections (block_count own) (omega arith) h.each in
@@ -50,18 +50,10 @@ final-parts b d cw n h =
     let last = map (codeword_at sizes es) h.check_positions in
     let each = map-each (IsPosition sizes) (codeword_at sizes es) (check_at h.corrections) h.check_positions
     h.check_order.in_blocks
-    (λ u i. part-at sizes es u i ∙ ap (λ (xs : List ℕ). get_or xs u.place 0) (same u.block (let l = i.0 in omega arith))) in
-    let whole : cw ≡ first ++ last = cc (each, h.whole) in
+    (λ u i. part-at sizes es u i ∙ ap (λ (xs : List ℕ). get_or xs u.index 0) (same u.block (let l = i.0 in omega arith))) in
     let many = positions-many own h.data_positions h.data_order in
     let rest = positions-many sizes h.check_positions h.check_order in
-    let front : length first ≡ codeword_count own = length-map h.data_positions (codeword_at own d) ∙ many in
-    let back : length last ≡ codeword_count sizes = length-map h.check_positions (codeword_at sizes es) ∙ rest in
-    let after : drop (codeword_count own) cw ≡ last = cc (whole, drop_at first last (codeword_count own) front) in
-    record {
-      checks = es;
-      inside = search (arith, take_at, take_all);
-      same = same;
-    }
+    search (arith, length-map, drop_at, take_at, take_all)
 
 -- a final sequence is a damaged form of its message in which no codeword is changed
 final-mended : (v mask s : ℕ) (l : Level) (g : Grid) (d cw : List ℕ) → 1 ≤ v → v ≤ 40 → IsRead v mask g cw →
@@ -70,18 +62,19 @@ final-mended : (v mask s : ℕ) (l : Level) (g : Grid) (d cw : List ℕ) → 1 �
 final-mended v mask s l g d cw p q r n h =
     let b = blocks_of v l in
     let own = data_sizes b in
-    let w = final-parts b d cw n h in
-    light-mended v mask s l g cw d w.checks d (replicate (block_count own) 0) p q r w.inside n
-    (length-replicate (block_count own) 0)
-    (λ i k.
-    let none = get_or-replicate {A = ℕ} (block_count own) i 0 0 k in
-    let c = get_or h.corrections i [] in
-    let block = part_of own d i ++ c in
-    record {
-      correction = c;
-      corrects = h.each i k;
-      near = omega (arith, none);
-      count = cc (none, differences-same block, w.same i k);
+    let w = final-in-blocks b d cw n h in
+    light-mended v mask s l g cw d w.checks d (replicate (block_count own) 0) p q r w.inside (record {
+      long = n;
+      many = length-replicate (block_count own) 0;
+      each = λ i k.
+          let none = get_or-replicate {A = ℕ} (block_count own) i 0 0 k in
+          let c = get_or h.corrections i [] in
+          record {
+            correction = c;
+            corrects = h.each i k;
+            few = omega arith;
+            count = cc (differences-same (part_of own d i ++ c), w.same i k);
+          };
     })
 
 -- ---- format information

@@ -10,9 +10,9 @@ use Rattle.qr_mending.{specs.Block.IsBlock, proofs.lemmas.block.BlockLemmas.{byt
 -- lists of one length differ at most everywhere
 differences-most : (xs ys : List ℕ) → length xs ≡ length ys → differences xs ys ≤ length xs
 differences-most [] [] e = omega arith
-differences-most [] (y ∷ ys) e = absurd (omega (arith, e))
-differences-most (x ∷ xs) [] e = absurd (omega (arith, e))
-differences-most (x ∷ xs) (y ∷ ys) e = omega (arith, difference-most x y, differences-most xs ys (omega (arith, e)))
+differences-most [] (y ∷ ys) e = absurd (omega arith)
+differences-most (x ∷ xs) [] e = absurd (omega arith)
+differences-most (x ∷ xs) (y ∷ ys) e = omega (arith, difference-most x y, differences-most xs ys (omega arith))
 
 -- lists with the same beginning differ as what comes after it
 differences-rest : (zs us vs : List ℕ) → differences (zs ++ us) (zs ++ vs) ≡ differences us vs
@@ -27,31 +27,18 @@ weaker-block n m block some less few b =
     let front = take k block in
     let back = drop k block in
     let bytes = bytes-block m block b in
-    let size : m ≤ length block = omega (
-      arith,
-      ap length b.whole,
-      length-append b.message b.correction,
-      b.corrects.count,
-    ) in
+    let size : m ≤ length block = search (arith, length-append) in
     let f = correction-some front n some (All-take IsByte k block bytes) in
     let other = front ++ f.0 in
     let found : IsBlock n other = record { message = front; correction = f.0; whole = refl; corrects = f.1 } in
     let last = length-drop k block in
-    let same : length block ≡ length other = omega (
-      arith,
-      size,
-      less,
-      length-take k block,
-      length-append front f.0,
-      f.1.count,
-    ) in
+    let same : length block ≡ length other = omega (arith, length-take k block, length-append front f.0) in
     let join = ap (λ (z : List ℕ). differences z other) (sym (take-append-drop k block))
     ∙ differences-rest front back f.0 in
-    let most = differences-most back f.0 (omega (arith, size, less, last, f.1.count)) in
+    let most = differences-most back f.0 (omega arith) in
     let weighs = weight-plus block other same in
     let sum = plus block other in
-    let zero = weight-none (length sum) n sum (omega arith) (omega
-    (arith, length-plus block other (omega (arith, same)), few))
-    (bytes-plus block other bytes (bytes-block n other found)) (omega (arith, weighs, join, most, last, size, less))
-    (λ i h. errors-value n block other found (sym same) bytes i h ∙ root-block m block b i (omega (arith, h, less))) in
+    let zero = weight-none (length sum) n sum (omega arith) (omega (arith, length-plus block other (omega arith)))
+    (bytes-plus block other bytes (bytes-block n other found)) (omega arith)
+    (λ i h. cc (errors-value n block other found (sym same) bytes i h, root-block m block b i (omega arith))) in
     search (arith, differences-none)

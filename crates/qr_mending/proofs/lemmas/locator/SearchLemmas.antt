@@ -40,13 +40,7 @@ plus-beyond (x ∷ xs) (y ∷ ys) (suc k) l = plus-beyond xs ys k (omega arith)
 
 -- a multiple of the first k coefficients, shifted by a, has at most a + k coefficients
 length-multiple : (f a k : ℕ) (p : List ℕ) → length (scaled f (zeros a ++ take k p)) ≤ a + k
-length-multiple f a k p = omega (
-  arith,
-  length-map (zeros a ++ take k p) (product f),
-  length-append (zeros a) (take k p),
-  length-replicate {A = ℕ} a 0,
-  length-take k p,
-)
+length-multiple f a k p = search (arith, length-map, length-append, length-replicate, length-take)
 
 -- before the first coefficient of the multiple
 pub add-begins : (f a : ℕ) (p t : List ℕ) → f < 256 → a ≤ length t → t ≡ plus (scaled f (zeros a ++ take 0 p)) t
@@ -56,12 +50,10 @@ add-begins f (suc a) p (x ∷ t) lf l = cc (product-by_zero f lf, xor_zero_l x, 
 
 -- the coefficients of the multiple at their indices
 first-multiples : (a k : ℕ) (p : List ℕ) → take (a + k) (zeros a ++ p) ≡ zeros a ++ take k p
-first-multiples a k p =
-    ap (λ n. take (n + k) (zeros a ++ p)) (sym (length-replicate {A = ℕ} a 0)) ∙ take-append-add (zeros a) p k
+first-multiples a k p = cc (length-replicate {A = ℕ} a 0, take-append-add (zeros a) p k)
 
 multiple-at : (a k : ℕ) (p : List ℕ) → get_or (zeros a ++ p) (a + k) 0 ≡ get_or p k 0
-multiple-at a k p =
-    ap (λ n. get_or (zeros a ++ p) (n + k) 0) (sym (length-replicate {A = ℕ} a 0)) ∙ get_or-append-add (zeros a) p k 0
+multiple-at a k p = search (arith, length-replicate, get_or-append-add)
 
 -- one coefficient of the multiple more
 pub add-more : (f a k m : ℕ) (p t now : List ℕ) → k < length p → a + k < length t →
@@ -69,17 +61,14 @@ pub add-more : (f a k m : ℕ) (p t now : List ℕ) → k < length p → a + k <
     set now (a + k) (bit_xor (get_or now (a + k) 0) m) ≡ plus (scaled f (zeros a ++ take (k + 1) p)) t
 add-more f a k m p t now l h same value =
     let o = zeros a ++ p in
-    let long : a + k < length o = omega (arith, l, length-append (zeros a) p, length-replicate {A = ℕ} a 0) in
+    let long : a + k < length o = omega (arith, length-append (zeros a) p, length-replicate {A = ℕ} a 0) in
     let next : a + (k + 1) ≡ suc (a + k) = omega arith in
     cc (
-      same,
-      value,
       plus-beyond (scaled f (zeros a ++ take k p)) t (a + k) (length-multiple f a k p),
       xor_comm (get_or t (a + k) 0) m,
       multiple-at a k p,
       first-multiples a k p,
       first-multiples a (k + 1) p,
-      next,
       plus-set f o t (a + k) long h,
     )
 
@@ -88,22 +77,22 @@ pub add-skip : (f a k : ℕ) (p t now : List ℕ) → f < 256 → k < length p �
     now ≡ plus (scaled f (zeros a ++ take k p)) t → now ≡ plus (scaled f (zeros a ++ take (k + 1) p)) t
 add-skip f a k p t now lf l h none same =
     let here = get_or now (a + k) 0 in
-    sym (set-get_or now (a + k) 0)
-    ∙ (ap (set now (a + k)) (sym (xor_zero_r here))
-    ∙ add-more f a k 0 p t now l h same (sym (ap (product f) none ∙ product-by_zero f lf)))
+    cc (
+      set-get_or now (a + k) 0,
+      xor_zero_r here,
+      add-more f a k 0 p t now l h same (sym (ap (product f) none ∙ product-by_zero f lf)),
+      product-by_zero f lf,
+    )
 
 -- the leading coefficient stays the same
 pub add-leading : (f a k d : ℕ) (p t now : List ℕ) → a + k ≤ d → now ≡ plus (scaled f (zeros a ++ take k p)) t →
     get_or t d 0 ≡ 1 → get_or now d 0 ≡ 1
-add-leading f a k d p t now l same one =
-    cc (same, plus-beyond (scaled f (zeros a ++ take k p)) t d (omega (arith, length-multiple f a k p, l)), one)
+add-leading f a k d p t now l same one = search (arith, plus-beyond, length-multiple)
 
 -- the sum with all coefficients of the multiple
 pub add-all : (f a k d : ℕ) (p t now : List ℕ) → a + k ≤ d → now ≡ plus (scaled f (zeros a ++ take k p)) t →
     take (d + 1) now ≡ plus (scaled f (zeros a ++ take k p)) (take (d + 1) t)
-add-all f a k d p t now l same =
-    let multiple = scaled f (zeros a ++ take k p) in
-    cc (same, take-plus (d + 1) multiple t, take_all (d + 1) multiple (omega (arith, length-multiple f a k p, l)))
+add-all f a k d p t now l same = search (arith, take-plus, take_all, length-multiple)
 
 -- the quotient of a dividend that is not 0 is not 0
 pub factor-some : (f s d : ℕ) → s < 256 → product f s ≡ d → (d ≡ 0 → ⊥) → 1 ≤ f
@@ -118,28 +107,12 @@ pub shift-more : (a k v : ℕ) (p now : List ℕ) → a + k < length now → k <
     take (a + (k + 1)) (set now (a + k) v) ≡ zeros a ++ take (k + 1) p
 shift-more a k v p now l m same value =
     let next : a + (k + 1) ≡ a + k + 1 = omega arith in
-    cc (
-      next,
-      take_more_set now (a + k) v l,
-      same,
-      value,
-      append_assoc (zeros a) (take k p) (v ∷ []),
-      take_more p k 0 m,
-    )
+    search (arith, take_more_set, append_assoc, take_more)
 
 -- the leading coefficient moves up
 pub shift-leading : (a d e : ℕ) (p q : List ℕ) → e ≡ d + a → take (a + (d + 1)) q ≡ zeros a ++ take (d + 1) p →
     get_or p d 0 ≡ 1 → get_or q e 0 ≡ 1
-shift-leading a d e p q exponent same one =
-    let index : e ≡ length (zeros a) + d = omega (arith, length-replicate {A = ℕ} a 0, exponent) in
-    cc (
-      get_or-take (a + (d + 1)) q e 0 (omega (arith, exponent)),
-      same,
-      index,
-      get_or-append-add (zeros a) (take (d + 1) p) d 0,
-      get_or-take (d + 1) p d 0 (omega arith),
-      one,
-    )
+shift-leading a d e p q exponent same one = search (arith, length-replicate, get_or-take, get_or-append-add)
 
 -- the sum of products without the first zeros
 dot-zeros : (a : ℕ) (p w : List ℕ) → All IsByte w → dot_of (zeros a ++ p) w ≡ dot_of p (drop a w)
@@ -150,9 +123,7 @@ dot-zeros (suc a) p [] lw = dot-nothing p
     dot-nothing [] = refl
     dot-nothing (x ∷ p) = refl
 dot-zeros (suc a) p (b ∷ w) lw =
-    let lb = All-head IsByte b w lw in
-    ap (λ t. bit_xor t (dot_of (zeros a ++ p) w)) (product-of_zero b lb)
-    ∙ (xor_zero_l (dot_of (zeros a ++ p) w) ∙ dot-zeros a p w (All-tail IsByte b w lw))
+    search (arith, All-head, product-of_zero, xor_zero_l, All-tail, dot-zeros a p w (All-tail IsByte b w lw))
 
 -- zeros and bytes are bytes
 bytes-zeros : (a : ℕ) (p : List ℕ) → All IsByte p → All IsByte (zeros a ++ p)
@@ -168,71 +139,66 @@ discrepancy-next : (f a b j : ℕ) (p q s : List ℕ) → f < 256 → All IsByte
 discrepancy-next f a b j p q s lf lp lq ls short =
     let w = drop j s in
     let lw = All-drop IsByte j s ls in
-    let first : j + a ≡ a + j = omega arith in
-    let second : j + b ≡ b + j = omega arith in
-    cc (
-      dot-plus f (zeros a ++ p) (zeros b ++ q) w lf (bytes-zeros a p lp) (bytes-zeros b q lq) lw short,
-      dot-zeros a p w lw,
-      dot-zeros b q w lw,
-      drop-drop a j s,
-      drop-drop b j s,
-      first,
-      second,
-    )
+    search (arith, dot-plus, bytes-zeros, dot-zeros, drop-drop)
 
--- the next polynomial solves one equation more
-solved-next : (i l m a b f d : ℕ) (search : Search) (r s : List ℕ) → f < 256 → All IsByte s →
-    IsSearch i s search → l ≡ search.best.degree → l ≤ m → a + (i + 1) ≡ l + m → b + l ≡ m →
-    length (zeros a ++ all_of search.earlier) ≤ length (zeros b ++ all_of search.best) →
-    r ≡ plus (scaled f (zeros a ++ all_of search.earlier)) (zeros b ++ all_of search.best) →
-    d ≡ discrepancy_of search.best (drop (i - l) s) → product f search.discrepancy ≡ d →
-    (j : ℕ) → j + m < i + 1 → dot_of r (drop j s) ≡ 0
-solved-next i l m a b f d search r s lf ls h same up low high short sum discrepancy factor j g =
-    let p = all_of search.earlier in
-    let q = all_of search.best in
-    let start : dot_of r (drop j s) ≡ bit_xor (product f (dot_of p (drop (a + j) s))) (dot_of q (drop (b + j) s)) =
-    ap (λ t. dot_of t (drop j s)) sum ∙ discrepancy-next f a b j p q s lf h.bytes h.best.bytes ls short in
-    elim (cases_lt (j + m) i) [
-      | inl k ↦
-          let before = h.before (a + j) (omega (arith, k, low, same)) in
-          let solved = h.best.solved (b + j) (omega (arith, k, high, same)) in
-          cc (start, before, solved, product-by_zero f lf, xor_zero_l 0)
-      | inr k ↦
-          let last = h.last (a + j) (omega (arith, k, g, low, same)) in
-          let index : b + j ≡ i - l = omega (arith, k, g, high) in
-          cc (start, last, index, discrepancy, factor, xor_self d)
-    ]
+-- `next` is the sum of two polynomials: `earlier`, multiplied by `f` and x^a, and `best`, multiplied by x^b. For the new
+-- equation, whose index is `i` less the degree of `best`, their sums of products are equal, so they cancel.
+pub record IsNext (i a b f : ℕ) (s : List ℕ) (search : Search) (next : Polynomial) : Type 0 where
+  pub byte : f < 256
+  pub degree : next.degree ≡ b + search.best.degree
+  pub shift : a + (i + 1) ≡ search.best.degree + next.degree
+  pub cancels : product f search.discrepancy ≡ discrepancy_of search.best (drop (i - search.best.degree) s)
+  pub sum : all_of next ≡ plus (scaled f (zeros a ++ all_of search.earlier)) (zeros b ++ all_of search.best)
+  pub monic : IsMonic next
 
--- the next polynomial
-pub best-next : (i l m a b f d : ℕ) (search : Search) (next : Polynomial) (s : List ℕ) → f < 256 → All IsByte s →
-    IsSearch i s search → l ≡ search.best.degree → l ≤ m → a + (i + 1) ≡ l + m → b + l ≡ m →
-    all_of next ≡ plus (scaled f (zeros a ++ all_of search.earlier)) (zeros b ++ all_of search.best) →
-    d ≡ discrepancy_of search.best (drop (i - l) s) → product f search.discrepancy ≡ d → next.degree ≡ m → IsMonic next →
-    IsBest (i + 1) s next
-best-next i l m a b f d search next s lf ls h same up low high sum discrepancy factor degree monic =
-    let p = zeros a ++ all_of search.earlier in
-    let q = zeros b ++ all_of search.best in
-    let lp = bytes-zeros a (all_of search.earlier) h.bytes in
-    let lq = bytes-zeros b (all_of search.best) h.best.bytes in
-    let long : length q ≡ m + 1 =
-    omega (arith, length-append (zeros b) (all_of search.best), length-replicate {A = ℕ} b 0, h.best.count, same, high) in
-    let short : length p ≤ length q = omega (
-      arith,
-      length-append (zeros a) (all_of search.earlier),
-      length-replicate {A = ℕ} a 0,
-      length-take (search.earlier.degree + 1) search.earlier.terms,
-      h.room,
-      long,
-      low,
-      same,
-    ) in
-    let count : length (scaled f p) ≡ length p = length-map p (product f) in
-    record {
-      bytes = subst (λ (t : List ℕ). All IsByte t) (sym sum) (bytes-plus (scaled f p) q (bytes-scaled f p lf) lq);
-      count = omega (arith, ap length sum, length-plus (scaled f p) q (omega (arith, count, short)), long, degree);
-      monic = monic;
-      solved = λ j g. solved-next i l m a b f d search (all_of next) s lf ls h same up low high short sum discrepancy factor j (omega (arith, g, degree));
-    }
+module _ (i a b f : ℕ) (s : List ℕ) (search : Search) (next : Polynomial) (ls : All IsByte s) (h : IsSearch i s search)
+    (n : IsNext i a b f s search next) where
+  -- the multiple of `best` has as many coefficients as the next polynomial
+  length-best : length (zeros b ++ all_of search.best) ≡ next.degree + 1
+  length-best =
+      omega (arith, length-append (zeros b) (all_of search.best), length-replicate {A = ℕ} b 0)
+
+  -- the multiple of `earlier` has no more
+  length-earlier : length (zeros a ++ all_of search.earlier) ≤ next.degree + 1
+  length-earlier = omega (
+    arith,
+    length-append (zeros a) (all_of search.earlier),
+    length-replicate {A = ℕ} a 0,
+    length-take (search.earlier.degree + 1) search.earlier.terms,
+  )
+
+  -- the next polynomial solves one equation more
+  solved-next : (j : ℕ) → j + next.degree < i + 1 → discrepancy_of next (drop j s) ≡ 0
+  solved-next j g =
+      let p = all_of search.earlier in
+      let q = all_of search.best in
+      let start : dot_of (all_of next) (drop j s) ≡ bit_xor (product f (dot_of p (drop (a + j) s))) (dot_of q (drop (b + j) s)) =
+      cc (discrepancy-next f a b j p q s n.byte h.bytes h.best.bytes ls (omega (arith, length-best, length-earlier))) in
+      elim (cases_lt (j + next.degree) i) [
+        | inl k ↦
+            let before = h.before (a + j) (omega arith) in
+            let solved = h.best.solved (b + j) (omega arith) in
+            cc (product-by_zero f n.byte, xor_zero_l 0)
+        | inr k ↦
+            let last = h.last (a + j) (omega arith) in
+            let index : b + j ≡ i - search.best.degree = omega arith in
+            cc (xor_self (product f search.discrepancy))
+      ]
+
+  -- the next polynomial is the best after one syndrome more
+  pub best-next : IsBest (i + 1) s next
+  best-next =
+      let p = zeros a ++ all_of search.earlier in
+      let q = zeros b ++ all_of search.best in
+      let lp = bytes-zeros a (all_of search.earlier) h.bytes in
+      let lq = bytes-zeros b (all_of search.best) h.best.bytes in
+      let short : length (scaled f p) ≤ length q = omega (arith, length-map p (product f), length-best, length-earlier) in
+      record {
+        bytes = subst (λ (t : List ℕ). All IsByte t) (sym n.sum) (bytes-plus (scaled f p) q (bytes-scaled f p n.byte) lq);
+        count = cc (length-plus (scaled f p) q short, length-best);
+        monic = n.monic;
+        solved = solved-next;
+      }
 
 -- ---- the bound of the degree
 
@@ -250,40 +216,26 @@ few-bound t i search s e h within few some = elim (cases_lt i (t + search.best.d
       let k = i - search.best.degree in
       let lb = h.best.bytes in
       let count = h.best.count in
-      let none = weighted-none k q e lb few.bytes few.most (omega (arith, few.few, weight-zeros e, g))
-      (λ n m. sym (dot-blend q n s e few.values (omega (arith, m, count, within)))
-      ∙ h.best.solved n (omega (arith, m))) in
+      let none = weighted-none k q e lb few.bytes few.most (omega (arith, weight-zeros e))
+      (λ n m. sym (dot-blend q n s e few.values (omega arith))
+      ∙ h.best.solved n (omega arith)) in
       let value : blend q k e ≡ 0 = sym (weighted-value q k e lb few.bytes) ∙ value-none k (weighted q e) none in
-      absurd (some (dot-blend q k s e few.values (omega (arith, count, within, h.room)) ∙ value))
+      absurd (some (dot-blend q k s e few.values (omega arith) ∙ value))
 ]
 
 -- the polynomial 1, with which the search begins
 pub search-begins : (s : List ℕ) (p : Polynomial) → p.degree ≡ 0 → IsMonic p → all_of p ≡ 1 ∷ [] →
     IsSearch 0 s (record { best = p; earlier = p; discrepancy = 1 })
-search-begins s p degree monic terms =
-    let bytes = subst (λ (t : List ℕ). All IsByte t) (sym terms) (All-cons IsByte 1 [] (lit< tt) (All-nil IsByte)) in
-    record {
-      best = record {
-        bytes = bytes;
-        count = omega (arith, ap length terms, degree);
-        monic = monic;
-        solved = λ j g. absurd (omega arith);
-      };
-      bytes = bytes;
-      some = omega arith;
-      room = omega (arith, degree);
-      before = λ j g. absurd (omega (arith, g, degree));
-      last = λ j g. absurd (omega (arith, g, degree));
-    }
+search-begins s p degree monic terms = search (arith, All-cons, All-nil)
 
 -- ---- one syndrome more
 
--- a sum whose window lies within two lists of the same values
+-- a sum of products whose syndromes are in two lists of the same values
 discrepancy-same : (p : Polynomial) (j : ℕ) (s u r : List ℕ) → HasValues s r → HasValues u r → j + p.degree < length s →
     j + p.degree < length u → discrepancy_of p (drop j u) ≡ discrepancy_of p (drop j s)
 discrepancy-same p j s u r hs hu ls lu =
     let count = length-take (p.degree + 1) p.terms in
-    dot-blend (all_of p) j u r hu (omega (arith, lu, count)) ∙ sym (dot-blend (all_of p) j s r hs (omega (arith, ls, count)))
+    dot-blend (all_of p) j u r hu (omega arith) ∙ sym (dot-blend (all_of p) j s r hs (omega arith))
 
 -- the search depends only on the syndromes that it took in
 search-same : (i : ℕ) (search : Search) (s u r : List ℕ) → HasValues s r → HasValues u r → i ≤ length s → i ≤ length u →
@@ -293,15 +245,15 @@ search-same i search s u r hs hu ls lu h = record {
     bytes = h.best.bytes;
     count = h.best.count;
     monic = h.best.monic;
-    solved = λ j g. discrepancy-same search.best j s u r hs hu (omega (arith, g, ls)) (omega (arith, g, lu)) ∙ h.best.solved j g;
+    solved = λ j g. discrepancy-same search.best j s u r hs hu (omega arith) (omega arith) ∙ h.best.solved j g;
   };
   bytes = h.bytes;
   some = h.some;
-  room = h.room;
+  degrees = h.degrees;
   before = λ j g.
-      discrepancy-same search.earlier j s u r hs hu (omega (arith, g, h.room, ls)) (omega (arith, g, h.room, lu)) ∙ h.before j g;
+      discrepancy-same search.earlier j s u r hs hu (omega arith) (omega arith) ∙ h.before j g;
   last = λ j g.
-      discrepancy-same search.earlier j s u r hs hu (omega (arith, g, h.room, ls)) (omega (arith, g, h.room, lu)) ∙ h.last j g;
+      discrepancy-same search.earlier j s u r hs hu (omega arith) (omega arith) ∙ h.last j g;
 }
 
 -- before the first syndrome is taken in
@@ -313,9 +265,9 @@ progress-begins t r progress none start search degree =
       values = values-none items r none;
       count = omega (arith, ap length none);
       search = subst (λ (k : ℕ). IsSearch k items progress.search) (sym start) (search items);
-      degree = omega (arith, degree);
-      within = omega (arith, start);
-      most = omega (arith, start);
+      degree = omega arith;
+      within = omega arith;
+      most = omega arith;
     }
 
 -- after further syndromes are computed
@@ -324,14 +276,14 @@ pub progress-longer : (t : ℕ) (r : List ℕ) (before after : Progress) → IsP
     length after.syndromes.items ≤ length r → after.taken ≡ before.taken → after.search ≡ before.search → IsProgress t r after
 progress-longer t r before after h values longer count taken search =
     let same : IsSearch before.taken after.syndromes.items before.search = search-same before.taken before.search
-    before.syndromes.items after.syndromes.items r h.values values h.within (omega (arith, h.within, longer)) h.search in
+    before.syndromes.items after.syndromes.items r h.values values h.within (omega arith) h.search in
     record {
       values = values;
       count = count;
       search = rw (taken, search) same;
       degree = rw search h.degree;
-      within = omega (arith, taken, longer, h.within);
-      most = omega (arith, taken, h.most);
+      within = omega arith;
+      most = omega arith;
     }
 
 -- after the next syndrome is taken in
@@ -344,18 +296,13 @@ progress-next t r before after h same taken within most search degree = record {
   count = rw same h.count;
   search = rw (same, taken) search;
   degree = degree;
-  within = rw (same, taken) (omega (arith, within));
-  most = omega (arith, taken, most);
+  within = rw (same, taken) (omega arith);
+  most = omega arith;
 }
 
 -- errors with the same remainder have the syndromes that were taken in
 pub few-values : (t : ℕ) (r s e : List ℕ) → HasValues s r → length s ≤ length r → AreFewErrorsOf t r e → AreFewErrors t s e
-few-values t r s e h l few = record {
-  bytes = few.bytes;
-  most = few.most;
-  few = few.few;
-  values = record { each = λ k m. h.each k m ∙ few.values.each k (omega (arith, m, l)) };
-}
+few-values t r s e h l few = search arith
 
 -- the polynomial that solves t equations locates the errors
 pub search-locates : (t i : ℕ) (search : Search) (s e : List ℕ) → IsSearch i s search → 2 * t ≤ i → i ≤ length s →
@@ -367,7 +314,7 @@ search-locates t i search s e h enough long most few =
     record {
       bytes = few.bytes;
       most = few.most;
-      roots = errors-root t q e lb few.bytes few.most (omega (arith, few.few, weight-zeros e))
-          (λ k g. sym (dot-blend q k s e few.values (omega (arith, g, count, enough, long, most)))
-          ∙ h.best.solved k (omega (arith, g, enough, most)));
+      roots = errors-root t q e lb few.bytes few.most (omega (arith, weight-zeros e))
+          (λ k g. sym (dot-blend q k s e few.values (omega arith))
+          ∙ h.best.solved k (omega arith));
     }

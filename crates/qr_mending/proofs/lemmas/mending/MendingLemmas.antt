@@ -12,7 +12,7 @@ use Rattle.qr_mending.specs.{Format.{copy_cost, format_cost, IsNearFormat}, Mess
 use Rattle.qr_mending.specs.Mending.{rank_of, HasFormat, HoldsDamaged, IsBeyondMending, IsDamagedForm, IsMendedAs, IsMendedReading, IsOfNoUse, IsUnmended}
 use Rattle.qr_mending.specs.declared.mending.MendedSquare.{MendedSquare}
 use Rattle.qr_mending.specs.Steps.Mending.{HoldsNone, IsMendedBy, IsMendedByEither, IsMendedWith}
-use Rattle.{qr_symbol.proofs.Facts.read-one, qr_mending.proofs.lemmas.message.UnreadLemmas.beside-one}
+use Rattle.{qr_symbol.proofs.Facts.read-one, qr_mending.proofs.lemmas.message.BlocksLemmas.beside-one}
 use Rattle.qr_mending.proofs.lemmas.format.FormatLemmas.{near-one, each-copy, sure-one}
 
 -- codewords are a damaged form of at most one message
@@ -20,7 +20,7 @@ pub mended-one : (unknown : Grid) (v : ℕ) (l : Level) → 1 ≤ v → v ≤ 40
     IsMendedIn unknown v l cw m x → IsMendedIn unknown v l cw n y → (m ≡ n) × (x ≡ y)
 mended-one unknown v l h k cw m n x y p q =
     let w = laws-of l v h k in
-    beside-one unknown v l cw m n x y (omega (arith, w.len, w.ec_most)) p q
+    beside-one unknown v l cw m n x y (omega arith) p q
 
 -- equal ranks are those of one copy
 ranks-alike : (a b : FormatCopy) (m n : ℕ) → rank_of a m ≡ rank_of b n → a ≡ b
@@ -46,13 +46,13 @@ module _ (unknown g : Grid) where
   format-one v l k m n p q x y a b h j =
       let same = ranks-alike a.copy b.copy (format_cost unknown g l m) (format_cost unknown g k n)
       (omega (arith, a.least b.copy k n b.near q y j, b.least a.copy l m a.near p x h)) in
-      near-one unknown a.copy g l k m n a.near (rw (← same) at b.near)
+      search (arith, near-one)
 
   -- a square is a damaged form of at most one symbol
   pub form-one : (v w : ℕ) (l k : Level) (m n : ℕ) (p q x y : List ℕ) → IsDamagedForm unknown g v l m p x →
       IsDamagedForm unknown g w k n q y → (v ≡ w) × (l ≡ k) × (m ≡ n) × (p ≡ q) × (x ≡ y)
   form-one v w l k m n p q x y h j =
-      let vs : v ≡ w = omega (arith, h.sized.side, j.sized.side) in
+      let vs : v ≡ w = omega arith in
       let moved : IsDamagedForm unknown g v k n q y = rw vs j in
       let f = format-one v l k m n p q x y h.format moved.format h.damaged moved.damaged in
       let one = damaged-one v l m p q x y h.sized.least h.sized.most h.damaged (rw (f.0, f.1) moved.damaged) in
@@ -63,7 +63,7 @@ module _ (unknown g : Grid) where
       IsMendedAs unknown g v l m p x → IsMendedAs unknown g w k n q y → (v ≡ w) × (l ≡ k) × (m ≡ n) × (p ≡ q) × (x ≡ y)
   outcome-one v w l k m n p q x y h j =
       let o = form-one v w l k m n h.message j.message x y h.form j.form in
-      (o.0, o.1, o.2, cc (o.0, o.3, h.parsed, j.parsed), o.4)
+      (o.0, o.1, o.2, cc, o.4)
 
   -- a square with its damage mended is read as at most one content
   pub mended-reading-one : (v w : ℕ) (l k : Level) (m n : ℕ) (p q : Content) (x y : List ℕ) →
@@ -76,7 +76,7 @@ module _ (unknown g : Grid) where
   form-of-use : (v : ℕ) (l : Level) (m : ℕ) (p x : List ℕ) → IsDamagedForm unknown g v l m p x →
       IsBeyondMending unknown g → ⊥
   form-of-use v l m p x h u =
-      let vs : u.version ≡ v = omega (arith, h.sized.side, u.sized.side) in
+      let vs : u.version ≡ v = omega arith in
       (rw vs at u.useless) h.format.copy l m h.format.near p x h.damaged
 
   -- a square that can be read with its damage mended is refused only for lack of memory
@@ -104,20 +104,18 @@ module _ (unknown g : Grid) where
   unmended-one fault.Format fault.Side a b = absurd (b a.0 a.1)
   unmended-one fault.Format fault.Format a b = inr (inr refl)
   unmended-one fault.Format fault.Check a b = absurd (a.2 b.copy b.level b.mask b.format)
-  unmended-one fault.Format (fault.Segments y) a b = let f = b.5.form.format in absurd (a.2 f.copy b.2 b.3 f.near)
+  unmended-one fault.Format (fault.Segments y) a b = search arith
   unmended-one fault.Format fault.Series a b = absurd b
   unmended-one fault.Check fault.Memory a b = inr (inl refl)
   unmended-one fault.Check fault.Side a b = absurd (b a.version a.sized)
   unmended-one fault.Check fault.Format a b = absurd (b.2 a.copy a.level a.mask a.format)
   unmended-one fault.Check fault.Check a b = inr (inr refl)
-  unmended-one fault.Check (fault.Segments y) a b = let w = b.5 in absurd
-      (form-of-use b.1 b.2 b.3 w.message b.4 w.form a)
+  unmended-one fault.Check (fault.Segments y) a b = search (arith, form-of-use)
   unmended-one fault.Check fault.Series a b = absurd b
   unmended-one (fault.Segments x) fault.Memory a b = inr (inl refl)
   unmended-one (fault.Segments x) fault.Side a b = let w = a.5 in absurd (b a.1 w.form.sized)
-  unmended-one (fault.Segments x) fault.Format a b = let f = a.5.form.format in absurd (b.2 f.copy a.2 a.3 f.near)
-  unmended-one (fault.Segments x) fault.Check a b = let w = a.5 in absurd
-      (form-of-use a.1 a.2 a.3 w.message a.4 w.form b)
+  unmended-one (fault.Segments x) fault.Format a b = search arith
+  unmended-one (fault.Segments x) fault.Check a b = search (arith, form-of-use)
   unmended-one (fault.Segments x) (fault.Segments y) a b =
       let o = outcome-one a.1 b.1 a.2 b.2 a.3 b.3 (Err x) (Err y) a.4 b.4 a.5 b.5 in inr (inr (cc o.3))
   unmended-one (fault.Segments x) fault.Series a b = absurd b
@@ -127,12 +125,9 @@ module _ (unknown g : Grid) where
   pub mended-unparsed : (v : ℕ) (l : Level) (mask : ℕ) (message changed : List ℕ) (e : ParseFault) →
       IsDamagedForm unknown g v l mask message changed → IsResultOf (Err e) (parse v (bits_of message)) → IsUnmended unknown g (unread_for e)
   mended-unparsed v l mask message changed unparsed.Memory h k = tt
-  mended-unparsed v l mask message changed unparsed.BadMode h k =
-      ((λ m. cc), v, l, mask, changed, record { message = message; form = h; parsed = fault-read unparsed.BadMode _ (λ m. cc) k })
-  mended-unparsed v l mask message changed unparsed.Cut h k =
-      ((λ m. cc), v, l, mask, changed, record { message = message; form = h; parsed = fault-read unparsed.Cut _ (λ m. cc) k })
-  mended-unparsed v l mask message changed unparsed.BadValue h k =
-      ((λ m. cc), v, l, mask, changed, record { message = message; form = h; parsed = fault-read unparsed.BadValue _ (λ m. cc) k })
+  mended-unparsed v l mask message changed unparsed.BadMode h k = search (arith, fault-read)
+  mended-unparsed v l mask message changed unparsed.Cut h k = search (arith, fault-read)
+  mended-unparsed v l mask message changed unparsed.BadValue h k = search (arith, fault-read)
 
   -- not all blocks can be mended with a level and a mask if the codewords, read with these, are a damaged form of no message
   pub holds-none : (v : ℕ) (l : Level) (m : ℕ) (cw : List ℕ) → IsRead v m g cw →
@@ -192,7 +187,7 @@ module _ (unknown g : Grid) where
       rank_of copy (format_cost unknown g l m) ≤ rank_of (beside copy) (format_cost unknown g k n) →
       HasFormat unknown v g l m
   best-of-two copy v l k m n f s less = best copy v l m f (λ j i h p x d.
-      omega (arith, rank-same (beside copy) k j n i s h, less))
+      omega (arith, rank-same (beside copy) k j n i s h))
 
   -- the first copy is of no use
   pub second-alone : (v : ℕ) (o : Option MendedSquare) → IsOfNoUse unknown First v g → IsMendedBy unknown v g Second o →
@@ -216,13 +211,13 @@ module _ (unknown g : Grid) where
   pub second-nearer : (v : ℕ) (m n : MendedSquare) → IsMendedBy unknown v g First (Some m) → IsMendedBy unknown v g Second (Some n) →
       format_cost unknown g n.level n.mask < format_cost unknown g m.level m.mask → IsMendedByEither unknown v g (Some n)
   second-nearer v m n h j less =
-      (best-of-two Second v n.level m.level n.mask m.mask j.0 h.0 (omega (arith, less)), j.1)
+      (best-of-two Second v n.level m.level n.mask m.mask j.0 h.0 (omega arith), j.1)
 
   -- it does not
   pub first-nearer : (v : ℕ) (m n : MendedSquare) → IsMendedBy unknown v g First (Some m) → IsMendedBy unknown v g Second (Some n) →
       format_cost unknown g m.level m.mask ≤ format_cost unknown g n.level n.mask → IsMendedByEither unknown v g (Some m)
   first-nearer v m n h j less =
-      (best-of-two First v m.level n.level m.mask n.mask h.0 j.0 (omega (arith, less)), h.1)
+      (best-of-two First v m.level n.level m.mask n.mask h.0 j.0 (omega arith), h.1)
 
   -- ---- the promises
 
@@ -230,8 +225,8 @@ module _ (unknown g : Grid) where
   sure-least : (l k : Level) (m n : ℕ) → m < 8 → n < 8 → format_cost unknown g l m ≤ 13 →
       format_cost unknown g l m ≤ format_cost unknown g k n
   sure-least l k m n p q h = elim (cases_lt (format_cost unknown g k n) 14) [
-    | inl a ↦ let e = sure-one unknown g l k m n p q h (omega (arith, a)) in rw (e.0, e.1) (omega arith)
-    | inr b ↦ omega (arith, b, h)
+    | inl a ↦ let e = sure-one unknown g l k m n p q h (omega arith) in rw (e.0, e.1) (omega arith)
+    | inr b ↦ omega arith
   ]
 
   -- a pair of the first copy, where both copies cost at most 13
@@ -248,13 +243,13 @@ module _ (unknown g : Grid) where
   -- both copies cost at most 13
   pub sure-format : (v : ℕ) (l : Level) (m : ℕ) → m < 8 → format_cost unknown g l m ≤ 13 → HasFormat unknown v g l m
   sure-format v l m p h = elim (cases_lt (copy_cost unknown First g l m) 7) [
-    | inl a ↦ sure-first v l m (record { in_range = p; near = omega (arith, a) }) h
-    | inr b ↦ best Second v l m (record { in_range = p; near = omega (arith, b, h) }) (λ k n q x y d.
+    | inl a ↦ sure-first v l m (record { in_range = p; near = omega arith }) h
+    | inr b ↦ best Second v l m (record { in_range = p; near = omega arith }) (λ k n q x y d.
         elim (cases_lt (format_cost unknown g k n) 14) [
           | inl c ↦
               let e = sure-one unknown g l k m n p q.in_range h (omega (arith, c)) in
-              absurd (omega (arith, rw (e.0, e.1) at b, q.near))
-          | inr c ↦ omega (arith, c, h)
+              absurd (omega (arith, rw (e.0, e.1) at b))
+          | inr c ↦ omega (arith, c)
         ])
   ]
 
@@ -271,7 +266,7 @@ module _ (unknown g : Grid) where
       HoldsDamaged unknown v k n g message changed → (k ≡ l) × (n ≡ m)) → HasFormat unknown v g l m
   alone-format v l m First f alone = alone-first v l m f alone
   alone-format v l m Second f alone = elim (cases_lt (copy_cost unknown First g l m) 7) [
-    | inl a ↦ alone-first v l m (record { in_range = f.in_range; near = omega (arith, a) }) alone
+    | inl a ↦ search (arith, alone-first)
     | inr b ↦ best Second v l m f (λ k n h q x d.
-        let e = alone First k n h q x d in absurd (omega (arith, b, rw (e.0, e.1) at h.near)))
+        let e = alone First k n h q x d in absurd (omega (arith, rw (e.0, e.1) at h.near)))
   ]

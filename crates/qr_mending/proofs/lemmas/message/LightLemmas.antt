@@ -14,7 +14,7 @@ use Rattle.qr_symbol.specs.Interleaving.{block_count, codeword_count, data_sizes
 use Rattle.qr_symbol.{specs.Reading.{IsRead, IsReadUnmasked}, proofs.Facts.{map-each, read-some}}
 use Rattle.qr_mending.specs.Message.{modules_of, read_at, received, IsMendedBlock, IsMendedIn, AreInBlocks}
 use Rattle.qr_field.proofs.lemmas.laws.DistanceLemmas.{erasures-read, errors-read}
-use Rattle.qr_mending.proofs.lemmas.message.MarkLemmas.{held-many}
+use Rattle.qr_mending.proofs.lemmas.message.MarkLemmas.{codewords-many}
 use Rattle.qr_mending.proofs.lemmas.message.MessageLemmas.{in-blocks-one, indices-some, item, items-in-blocks, received-map}
 
 -- ---- the marks of a light square
@@ -32,7 +32,7 @@ light-same : (xs ys : List Bool) → AreLight xs → AreLight ys → length xs �
 light-same [] [] h k n = refl
 light-same [] (y ∷ ys) h k n = absurd (omega arith)
 light-same (x ∷ xs) [] h k n = absurd (omega arith)
-light-same (x ∷ xs) (y ∷ ys) h k n = cc (h.0, k.0, light-same xs ys h.1 k.1 (omega (arith, n)))
+light-same (x ∷ xs) (y ∷ ys) h k n = cc (light-same xs ys h.1 k.1 (omega arith))
 
 -- the bits of zeros
 bits-light : (n : ℕ) → AreLight (bits_of (replicate n 0))
@@ -71,14 +71,14 @@ pub row-light : (has : ℕ → Bool) (a b d : ℕ) → ((k : ℕ) → 0 % 64 + k
 row-light has a b d ha hb hd ea eb ed c l = elim (cases_lt c 64) [
   | inl m ↦
       let at : 0 + c ≡ c = omega arith in
-      cc (at, ha c (omega (arith, m)), ea, no-bit c)
+      cc (ha c (omega arith), no-bit c)
   | inr m ↦ elim (cases_lt c 128) [
     | inl n ↦
-        let at : 64 + (c - 64) ≡ c = omega (arith, m) in
-        cc (at, hb (c - 64) (omega (arith, n, m)), eb, no-bit (c - 64))
+        let at : 64 + (c - 64) ≡ c = omega arith in
+        cc (hb (c - 64) (omega arith), no-bit (c - 64))
     | inr n ↦
-        let at : 128 + (c - 128) ≡ c = omega (arith, n) in
-        cc (at, hd (c - 128) (omega (arith, n, l)), ed, no-bit (c - 128))
+        let at : 128 + (c - 128) ≡ c = omega arith in
+        cc (hd (c - 128) (omega arith), no-bit (c - 128))
   ]
 ]
 
@@ -91,26 +91,25 @@ no-marks v u p q e h =
     let n = total_codewords_of v in
     let zeros : List ℕ = replicate n 0 in
     let some : List Place = take (8 * n) w.places in
-    let plain : Place → Bool = λ m. colour (light u.side) m.row m.col in
+    let colour_of : Place → Bool = λ m. colour (light u.side) m.row m.col in
     let many = order-length v w.places p q w.order in
     record {
       bytes = All-replicate (λ x. x < 256) n 0 (omega arith);
       places = w.places;
       order = w.order;
       bits =
-          light-same (bits_of zeros) (map plain some) (bits-light n) (colours-light u.side some)
+          light-same (bits_of zeros) (map colour_of some) (bits-light n) (colours-light u.side some)
           (omega (
             arith,
             length-bits_of zeros,
             length-replicate {A = ℕ} n 0,
-            length-map some plain,
+            length-map some colour_of,
             length-take (8 * n) w.places,
-            many,
           ))
-          ∙ map-each (InRegion v) plain (λ m. colour u m.row m.col) some
+          ∙ map-each (InRegion v) colour_of (λ m. colour u m.row m.col) some
           (All-take (InRegion v) (8 * n) w.places w.order.in_region)
           (λ t i. colour-light u.side t.row t.col
-          ∙ sym (h t.row t.col (omega (arith, row-in v t i, e)) (omega (arith, col-in v t i, e))));
+          ∙ sym (h t.row t.col (omega (arith, row-in v t i)) (omega (arith, col-in v t i))));
     }
 
 -- ---- what is read of a symbol of which all modules were read
@@ -123,38 +122,40 @@ none-unread s (m ∷ ms) = λ i. colour-light s m.row m.col i || none-unread s m
 all-read : (s : ℕ) (places : List Place) (cw ks : List ℕ) →
     map (read_at (light s) places cw) ks ≡ map (λ x. Some x) (map (item cw) ks)
 all-read s places cw [] = refl
-all-read s places cw (k ∷ ks) =
-    let none = none-unread s (modules_of places k) in
-    search (arith, item, all-read s places cw ks)
+all-read s places cw (k ∷ ks) = cc (none-unread s (modules_of places k), all-read s places cw ks)
 
 -- ---- blocks
 
 -- block `i`, of which every codeword was read, can be mended to block `i` of `message`: at most `t` of its codewords differ
-pub record IsPlainBlock (b : Blocks) (t : ℕ) (d e message : List ℕ) (changed i : ℕ) : Type 0 where
+pub record IsUnerasedBlock (b : Blocks) (t : ℕ) (d e message : List ℕ) (changed i : ℕ) : Type 0 where
   pub correction : List ℕ
   pub corrects : IsCorrection (part_of (data_sizes b) message i) b.ec_len correction
-  pub near : changed ≤ t
+  pub few : changed ≤ t
   pub count : changed ≡ differences (received b d e i) (part_of (data_sizes b) message i ++ correction)
 
--- so it can be mended with erasures
-plain-block : (b : Blocks) (t spare : ℕ) (read : List (Option ℕ)) (d e message : List ℕ) (changed i : ℕ) →
-    2 * t ≤ spare → read ≡ map (λ x. Some x) (received b d e i) → IsPlainBlock b t d e message changed i →
+-- blocks that were read as `d` and `e`, each codeword of them, can be mended to `message`
+pub record AreUnerasedBlocks (b : Blocks) (t : ℕ) (d e message changed : List ℕ) : Type 0 where
+  pub long : length message ≡ codeword_count (data_sizes b)
+  pub many : length changed ≡ block_count (data_sizes b)
+  pub each : (i : ℕ) → i < block_count (data_sizes b) → IsUnerasedBlock b t d e message (get_or changed i 0) i
+
+-- such a block can be mended with erasures
+unerased-block : (b : Blocks) (t spare : ℕ) (read : List (Option ℕ)) (d e message : List ℕ) (changed i : ℕ) →
+    2 * t ≤ spare → read ≡ map (λ x. Some x) (received b d e i) → IsUnerasedBlock b t d e message changed i →
     IsMendedBlock b spare read message changed i
-plain-block b t spare read d e message changed i enough same p = search (arith, erasures-read, errors-read)
+unerased-block b t spare read d e message changed i enough same p = search (arith, erasures-read, errors-read)
 
 -- codewords whose blocks can be mended so, if all modules were read
 pub light-mended : (v mask s : ℕ) (l : Level) (g : Grid) (cw d e message changed : List ℕ) → 1 ≤ v → v ≤ 40 → IsRead v mask g cw →
-    AreInBlocks (blocks_of v l) cw d e → length message ≡ codeword_count (data_sizes (blocks_of v l)) →
-    length changed ≡ block_count (data_sizes (blocks_of v l)) →
-    ((i : ℕ) → i < block_count (data_sizes (blocks_of v l)) → IsPlainBlock (blocks_of v l) (correctable_of v l) d e message (get_or changed i 0) i) →
+    AreInBlocks (blocks_of v l) cw d e → AreUnerasedBlocks (blocks_of v l) (correctable_of v l) d e message changed →
     IsMendedIn (light s) v l cw message changed
-light-mended v mask s l g cw d e message changed p q h inside long many each =
+light-mended v mask s l g cw d e message changed p q h inside m =
     let b = blocks_of v l in
     let n = total_codewords_of v in
     let some = indices-some v l p q in
     let ks = some.0 in
     let js = some.1 in
-    let indexed = items-in-blocks b n cw ks js (held-many v mask g cw p q h) some.2 in
+    let indexed = items-in-blocks b n cw ks js (codewords-many v mask g cw p q h) some.2 in
     let same = in-blocks-one b cw (map (item cw) ks) (map (item cw) js) d e indexed inside in
     record {
       places = h.places;
@@ -162,13 +163,13 @@ light-mended v mask s l g cw d e message changed p q h inside long many each =
       indices = ks;
       checks = js;
       inside = some.2;
-      long = long;
-      many = many;
+      long = m.long;
+      many = m.many;
       each = λ i r.
           let read = received b ks js i in
           let all : map (read_at (light s) h.places cw) read ≡ map (λ x. Some x) (received b d e i) =
-          cc (all-read s h.places cw read, received-map b (item cw) ks js i, same.0, same.1) in
-          plain-block b (correctable_of v l) (spare_of v l) (map (read_at (light s) h.places cw) read) d e message
+          cc (all-read s h.places cw read, received-map b (item cw) ks js i) in
+          unerased-block b (correctable_of v l) (spare_of v l) (map (read_at (light s) h.places cw) read) d e message
           (get_or changed i 0) i
-          (omega arith) all (each i r);
+          (omega arith) all (m.each i r);
     }

@@ -5,9 +5,9 @@ use Rattle.std.proofs.lemmas.List.{append-nil, length-map, length-take, take_at,
 use Rattle.std.{proofs.lemmas.List.Elements.All-tail, specs.List.{list_any, All}}
 use Rattle.qr_layout.specs.declared.{level.Level.Level, region.Place.Place}
 use Rattle.qr_layout.specs.{Blocks.{blocks_of, spare_of}, Order.IsOrder, Version.total_codewords_of}
-use Rattle.qr_layout.proofs.Facts.{below, below-at, only_order, order-length}
+use Rattle.qr_layout.proofs.Facts.{below, below-at, only-order, order-length}
 use Rattle.qr_bits.{specs.Bits.{bits_of, field}, proofs.Facts.{length-bits_of, length-field}}
-use Rattle.{qr_matrix.specs.Grid.{Grid, colour, is_same}, qr_symbol.specs.Reading.{unmasked, IsRead, IsReadUnmasked}}
+use Rattle.{qr_matrix.{proofs.Facts.same-same, specs.Grid.{Grid, colour, is_same}}, qr_symbol.specs.Reading.{unmasked, IsRead, IsReadUnmasked}}
 use Rattle.qr_mending.specs.{Erasures.read_of, Steps.Message.{read_by, IsMendedMessage}}
 use Rattle.qr_mending.specs.Message.{modules_of, read_at, received, IsMendedIn, AreIndices}
 use Rattle.qr_mending.proofs.lemmas.message.MessageLemmas.{in-blocks-one, indices-some, item, items-in-blocks, received-all, received-map}
@@ -17,29 +17,21 @@ use Rattle.qr_mending.proofs.lemmas.message.MessageLemmas.{in-blocks-one, indice
 -- the bits of one codeword
 codeword-bits : (cs : List ℕ) (j : ℕ) → j < length cs → take 8 (drop (8 * j) (bits_of cs)) ≡ field 8 (get_or cs j 0)
 unfolding bits_of
-codeword-bits [] j l = absurd (omega (arith, l))
+codeword-bits [] j l = absurd (omega arith)
 codeword-bits (c ∷ cs) zero l = take_at (field 8 c) (bits_of cs) 8 (length-field 8 c)
 codeword-bits (c ∷ cs) (suc j) l =
     let n : 8 * suc j ≡ 8 + 8 * j = omega arith in
     cc (
-      n,
       drop-drop (8 * j) 8 (field 8 c ++ bits_of cs),
       drop_at (field 8 c) (bits_of cs) 8 (length-field 8 c),
-      codeword-bits cs j (omega (arith, l)),
+      codeword-bits cs j (omega arith),
     )
 
 -- codewords are as many as their modules allow
 many-read : (f : Place → Bool) (ms : List Place) (cw : List ℕ) (n : ℕ) →
     bits_of cw ≡ map f (take (8 * n) ms) → 8 * n ≤ length ms → length cw ≡ n
 many-read f ms cw n e l =
-    omega (
-      arith,
-      ap (length {A = Bool}) e,
-      length-map (take (8 * n) ms) f,
-      length-take (8 * n) ms,
-      length-bits_of cw,
-      l,
-    )
+    omega (arith, ap (length {A = Bool}) e, length-map (take (8 * n) ms) f, length-take (8 * n) ms, length-bits_of cw)
 
 -- the bits of codeword j are read from its eight modules
 pub codeword-read : (f : Place → Bool) (ms : List Place) (cw : List ℕ) (n j : ℕ) →
@@ -47,28 +39,28 @@ pub codeword-read : (f : Place → Bool) (ms : List Place) (cw : List ℕ) (n j 
 codeword-read f ms cw n j e many l =
     let k = 8 * j in
     let rest = 8 * n - k in
-    let whole : 8 * n ≡ k + rest = omega (arith, l) in
+    let whole : 8 * n ≡ k + rest = omega arith in
     cc (
-      codeword-bits cw j (omega (arith, l, many)),
+      codeword-bits cw j (omega arith),
       drop-map f k (take (8 * n) ms),
       take-map f 8 (drop k (take (8 * n) ms)),
       drop-take k rest ms,
-      take-take 8 rest (drop k ms) (omega (arith, l)),
+      take-take 8 rest (drop k ms) (omega arith),
     )
 
 -- the bits of the codewords of a square are read from the modules in order
-pub held-bits : (v mask : ℕ) (g : Grid) (ms : List Place) (cw : List ℕ) → 1 ≤ v → v ≤ 40 →
+pub codewords-bits : (v mask : ℕ) (g : Grid) (ms : List Place) (cw : List ℕ) → 1 ≤ v → v ≤ 40 →
     IsOrder v ms → IsRead v mask g cw → bits_of cw ≡ map (unmasked mask g) (take (8 * total_codewords_of v) ms)
-held-bits v mask g ms cw p q o h =
+codewords-bits v mask g ms cw p q o h =
     let t = 8 * total_codewords_of v in
     let none : t - length ms ≡ 0 = omega (arith, order-length v ms p q o) in
-    cc (only_order v h.places ms h.order o, append-nil (map (unmasked mask g) (take t ms)))
+    cc (only-order v h.places ms h.order o, append-nil (map (unmasked mask g) (take t ms)))
 
 -- the number of codewords of a square
-pub held-many : (v mask : ℕ) (g : Grid) (cw : List ℕ) → 1 ≤ v → v ≤ 40 → IsRead v mask g cw →
+pub codewords-many : (v mask : ℕ) (g : Grid) (cw : List ℕ) → 1 ≤ v → v ≤ 40 → IsRead v mask g cw →
     length cw ≡ total_codewords_of v
-held-many v mask g cw p q h =
-    many-read (unmasked mask g) h.places cw (total_codewords_of v) (held-bits v mask g h.places cw p q h.order h)
+codewords-many v mask g cw p q h =
+    many-read (unmasked mask g) h.places cw (total_codewords_of v) (codewords-bits v mask g h.places cw p q h.order h)
     (omega (arith, order-length v h.places p q h.order))
 
 -- ---- marks
@@ -79,10 +71,6 @@ marks-many : (v : ℕ) (unknown : Grid) (marks : List ℕ) → 1 ≤ v → v ≤
 marks-many v unknown marks p q h =
     many-read (λ m. colour unknown m.row m.col) h.places marks (total_codewords_of v) h.bits
     (omega (arith, order-length v h.places p q h.order))
-
--- colours that are the same
-pub same-is : (a b : Bool) → is_same a b ≡ true → a ≡ b
-same-is a b e = grind arith
 
 -- each byte is 0 exactly if it has no bit that is 1, computed
 is_marked : ℕ → Bool
@@ -109,10 +97,10 @@ mark-agrees v unknown marks k p q h l =
     let f : Place → Bool = λ m. colour unknown m.row m.col in
     let many = marks-many v unknown marks p q h in
     let mark = get_or marks k 0 in
-    let byte : mark < 256 = h.bytes k 0 (omega (arith, l, many)) in
+    let byte : mark < 256 = h.bytes k 0 (omega arith) in
     any-read f (modules_of h.places k)
     ∙ (ap (list_any (λ (b : Bool). b)) (sym (codeword-read f h.places marks (total_codewords_of v) k h.bits many l))
-    ∙ same-is _ _ (below-at 256 is_marked bytes-marked mark byte))
+    ∙ same-same _ _ (below-at 256 is_marked bytes-marked mark byte))
 
 read-next : (x : ℕ) (xs : List ℕ) (b : Bool) (bs : List Bool) →
     read_of (x ∷ xs) (b ∷ bs) ≡ cond b None (Some x) ∷ read_of xs bs
@@ -167,7 +155,7 @@ by-marks v l unknown cw marks message misread p q long h m =
         each = λ i r.
             rw (
               block-marked v l unknown cw marks ks js i p q h m.inside,
-              only_order v h.places m.places h.order m.order,
+              only-order v h.places m.places h.order m.order,
             ) (m.each i r);
       };
     }

@@ -16,9 +16,9 @@ use Rattle.qr_symbol.proofs.Facts.{position-in, positions-one, position-of, map-
 pub gathered-same : (c : BlockSizes) (interleaved xs ys : List ℕ) → IsGathered c interleaved xs → IsGathered c interleaved ys → xs ≡ ys
 gathered-same c interleaved xs ys g h =
     let one = positions-one c h.positions g.positions h.order g.order in
-    let first : map (codeword_at c xs) g.positions ≡ map (codeword_at c ys) g.positions = cc (one, g.same, h.same) in
+    let first : map (codeword_at c xs) g.positions ≡ map (codeword_at c ys) g.positions = cc in
     ext_get_or 0 xs ys (g.long ∙ sym h.long) (λ j l.
-    let w = position-of c (block_count c) j (omega arith) (omega (arith, g.long)) in
+    let w = position-of c (block_count c) j (omega arith) (omega arith) in
     let q = map-at (codeword_at c xs) (codeword_at c ys) g.positions w.0 first (Mem-of-Contains g.positions w.0 (g.order.complete w.0 w.1)) in
     rw (← w.2) q)
 
@@ -38,7 +38,7 @@ gathered-map c f xs ks g = let read : Position → ℕ = λ t. f (codeword_at c 
   many = g.many;
   same =
       map-each (IsPosition c) (codeword_at c (map f ks)) read g.positions g.order.in_blocks (λ t i.
-      let inside = position-in c t.place t.block i in
+      let inside = position-in c t.index t.block i in
       search (arith, get_or-map))
       ∙ (sym (map-map f (codeword_at c ks) g.positions) ∙ (ap (map f) g.same ∙ sym (take-map f (codeword_count c) xs)));
 }
@@ -50,7 +50,7 @@ gathered-all c P xs ks a g = All-from_get_or P ks 0 (λ j l.
     let read = codeword_at c ks in
     let all : All P (map read g.positions) = subst (All P) (sym g.same) (All-take P (codeword_count c) xs a) in
     let each : All (λ (t : Position). P (read t)) g.positions =
-    λ k t m. subst P (get_or-map read g.positions k t 0 m) (all k 0 (omega (arith, length-map g.positions read, m))) in
+    λ k t m. subst P (get_or-map read g.positions k t 0 m) (all k 0 (omega (arith, length-map g.positions read))) in
     search (arith, All-contains))
 
 -- the item at an index
@@ -62,8 +62,6 @@ pub items-in-blocks : (b : Blocks) (n : ℕ) (xs ks js : List ℕ) → length xs
     AreInBlocks b (range_with_len 0 n) ks js → AreInBlocks b xs (map (item xs) ks) (map (item xs) js)
 items-in-blocks b n xs ks js e h =
     let c = data_sizes b in
-    let sizes = correction_sizes b in
-    let own = codeword_count c in
     let indices = range_with_len 0 n in
     let all : map (item xs) indices ≡ xs = sym (fill_by_all (item xs) xs n 0 e (λ k l. refl)) in
     search (arith, drop-map, gathered-map)
@@ -74,16 +72,14 @@ pub in-blocks-some : (b : Blocks) (interleaved : List ℕ) →
     (ks : List ℕ) × (js : List ℕ) × AreInBlocks b interleaved ks js
 in-blocks-some b interleaved long =
     let own = codeword_count (data_sizes b) in
-    let first = gather-some (data_sizes b) interleaved (omega (arith, long)) in
-    let second = gather-some (correction_sizes b) (drop own interleaved) (omega (arith, long, length-drop own interleaved)) in
+    let first = gather-some (data_sizes b) interleaved (omega arith) in
+    let second = gather-some (correction_sizes b) (drop own interleaved) (omega (arith, length-drop own interleaved)) in
     search arith
 
 -- the indices of the codewords of a symbol can be put back into blocks
 pub indices-some : (v : ℕ) (l : Level) → 1 ≤ v → v ≤ 40 →
     (ks : List ℕ) × (js : List ℕ) × AreInBlocks (blocks_of v l) (range_with_len 0 (total_codewords_of v)) ks js
-indices-some v l p q =
-    in-blocks-some (blocks_of v l) (range_with_len 0 (total_codewords_of v))
-    (length-range_with_len 0 (total_codewords_of v) ∙ sym (sizes-whole v l p q))
+indices-some v l p q = search (arith, in-blocks-some, length-range_with_len, sizes-whole)
 
 part-map : (c : BlockSizes) (f : ℕ → ℕ) (ks : List ℕ) (i : ℕ) → part_of c (map f ks) i ≡ map f (part_of c ks i)
 part-map c f ks i = search (arith, drop-map, take-map)
@@ -96,10 +92,7 @@ received-map b f ks js i = search (arith, part-map, map-append)
 -- what holds of each codeword holds of those of a block
 pub received-each : (b : Blocks) (P : ℕ → Type 0) (interleaved ks js : List ℕ) (i : ℕ) → All P interleaved →
     AreInBlocks b interleaved ks js → All P (received b ks js i)
-received-each b P interleaved ks js i all inside =
-    let c = data_sizes b in
-    let sizes = correction_sizes b in
-    search (arith, gathered-all, All-drop, All-append, All-take)
+received-each b P interleaved ks js i all inside = search (arith, gathered-all, All-drop, All-append, All-take)
 
 -- what holds of the index of each codeword holds of those of a block
 pub received-all : (b : Blocks) (P : ℕ → Type 0) (n : ℕ) (ks js : List ℕ) (i : ℕ) →
@@ -108,6 +101,5 @@ received-all b P n ks js i h inside =
     let indices = range_with_len 0 n in
     let len = length-range_with_len 0 n in
     let all : All P indices = All-from_get_or P indices 0 (λ k r.
-    let here : k < n = omega (arith, r, len) in
     search (arith, get_or-range_with_len)) in
     received-each b P indices ks js i all inside

@@ -5,7 +5,7 @@ use Rattle.std.proofs.lemmas.List.Sums.{sum_by-cons, sum_by-take-drop, sum_by-dr
 use Rattle.std.specs.{List.{All, count_by, sum_by}, Int.Bits.{xor_assoc, xor_zero_l, xor_zero_r, xor_self}}
 use Rattle.qr_field.specs.{Galois.product, Polynomial.IsByte, Polynomial.power}
 use Rattle.qr_field.proofs.lemmas.galois.ByteLemmas.{product-by_zero, product-of_zero, product-of_one}
-use Rattle.qr_field.proofs.lemmas.{galois.ProductLemmas.{product-lt, product-xor}, logarithm.PowerLemmas.power-lt}
+use Rattle.qr_field.proofs.lemmas.{galois.ProductLemmas.{product-lt, product-xor}, galois.PowerLemmas.power-lt}
 use Rattle.qr_field.proofs.lemmas.galois.{BitLemmas.xor-cancel, FieldLemmas.{product-assoc, product-comm, product-front, product-by_sum, product-factor, sum-none}}
 use Rattle.qr_mending.{specs.Steps.{Sums.eval, Roots.{times_root, rooted, quotient, HasLeadingOne}}, proofs.lemmas.sums.SumLemmas.{eval-lt, field_laws}}
 
@@ -14,7 +14,7 @@ use Rattle.qr_mending.{specs.Steps.{Sums.eval, Roots.{times_root, rooted, quotie
 -- a product with x + root has one coefficient more
 length-times_root : (r c : ℕ) (p : List ℕ) → length (times_root r c p) ≡ length p + 1
 length-times_root r c [] = refl
-length-times_root r c (a ∷ p) = let rest = length-times_root r a p in omega (arith, rest)
+length-times_root r c (a ∷ p) = let rest = length-times_root r a p in omega arith
 
 -- a product with x + root has bytes as coefficients
 bytes-times_root : (r c : ℕ) (p : List ℕ) → r < 256 → c < 256 → All IsByte p → All IsByte (times_root r c p)
@@ -34,7 +34,7 @@ monic-times_root : (r c : ℕ) (w : List ℕ) → (v : List ℕ) × (times_root 
 monic-times_root r c [] = (bit_xor c (product r 1) ∷ [], refl)
 monic-times_root r c (a ∷ w) =
     let rest = monic-times_root r a w in
-    (bit_xor c (product r a) ∷ rest.0, ap (λ t. bit_xor c (product r a) ∷ t) rest.1)
+    (bit_xor c (product r a) ∷ rest.0, cc)
 
 -- the value of a product with x + root, with a carry
 eval-times_root : (y r c : ℕ) (p : List ℕ) → y < 256 → r < 256 → All IsByte p →
@@ -78,9 +78,9 @@ pub length-rooted_rest : (es : List Bool) (i : ℕ) (p : List ℕ) → 0 < i →
     get_or es (i - 1) false ≡ true → length (rooted (drop i es) p) < length p + count_by (λ e. e) es
 length-rooted_rest es i p some l h =
     let marked : Bool → ℕ = λ e. if e then 1 else 0 in
-    let next : i ≡ i - 1 + 1 = omega (arith, some) in
+    let next : i ≡ i - 1 + 1 = omega arith in
     let all = sum_by-take-drop marked es (i - 1) in
-    let rest = sum_by-drop_more marked es (i - 1) false (omega (arith, some, l)) in
+    let rest = sum_by-drop_more marked es (i - 1) false (omega arith) in
     let one : marked (get_or es (i - 1) false) ≡ 1 = ap marked h in
     let same : sum_by marked (drop i es) ≡ sum_by marked (drop (i - 1 + 1) es) = ap (λ k. sum_by marked (drop k es)) next in
     omega (arith, length-rooted)
@@ -103,7 +103,7 @@ monic-rooted (false ∷ es) w = monic-rooted es w
 pub rooted-leading : (es : List Bool) (p : List ℕ) → HasLeadingOne p → HasLeadingOne (rooted es p)
 rooted-leading es p h =
     let all = monic-rooted es h.others in
-    record { others = all.0; whole = ap (rooted es) h.whole ∙ all.1 }
+    search arith
 
 -- the value of the product is the value of the polynomial times that of the factor
 pub eval-rooted : (y : ℕ) (es : List Bool) (p : List ℕ) → y < 256 → All IsByte p →
@@ -168,7 +168,7 @@ bytes-quotient : (r : ℕ) (p : List ℕ) → r < 256 → All IsByte p → All I
 bytes-quotient r [] lr lp = All-nil IsByte
 bytes-quotient r (a ∷ p) lr lp =
     let lps = All-tail IsByte a p lp in
-    All-cons IsByte (eval r p) (quotient r p) (eval-lt r p lr lps) (bytes-quotient r p lr lps)
+    search (arith, All-cons, eval-lt, bytes-quotient r p lr lps)
 
 -- the quotient is followed by 0, so it has as many coefficients
 length-quotient : (r : ℕ) (p : List ℕ) → length (quotient r p) ≡ length p
@@ -182,23 +182,19 @@ eval-quotient y r [] ly lr lp = simp (product-by_zero, xor_of_8, xor_zero_l)
 eval-quotient y r (a ∷ p) ly lr lp =
     let la = All-head IsByte a p lp in
     let lps = All-tail IsByte a p lp in
-    let h = eval y (quotient r p) in
-    let v = eval r p in
-    let lh = eval-lt y (quotient r p) ly (bytes-quotient r p lr lps) in
-    ap (λ t. bit_xor a (product y t)) (eval-quotient y r p ly lr lps)
-    ∙ quotient-terms y r a h v ly lr la lh (eval-lt r p lr lps)
+    search (arith, eval-lt, bytes-quotient, quotient-terms, eval-quotient y r p ly lr lps)
 
 -- the quotient of a polynomial with a leading 1 and more coefficients
 quotient-leading : (r a : ℕ) (w : List ℕ) → r < 256 →
     (v : List ℕ) × (quotient r (a ∷ (w ++ 1 ∷ [])) ≡ (v ++ 1 ∷ []) ++ 0 ∷ [])
-quotient-leading r a [] lr = ([], let none = product-by_zero r lr in cc (none, xor_zero_r 1))
+quotient-leading r a [] lr = ([], let none = product-by_zero r lr in cc (xor_zero_r 1))
 quotient-leading r a (b ∷ w) lr =
     let rest = quotient-leading r b w lr in
-    (eval r (b ∷ (w ++ 1 ∷ [])) ∷ rest.0, ap (λ t. eval r (b ∷ (w ++ 1 ∷ [])) ∷ t) rest.1)
+    (eval r (b ∷ (w ++ 1 ∷ [])) ∷ rest.0, cc)
 
 -- 0 after the coefficients does not change a value
 eval-blank : (y : ℕ) (p : List ℕ) → y < 256 → eval y (p ++ 0 ∷ []) ≡ eval y p
-eval-blank y [] ly = let none = product-by_zero y ly in cc (none, xor_zero_r 0)
+eval-blank y [] ly = let none = product-by_zero y ly in cc (xor_zero_r 0)
 eval-blank y (a ∷ p) ly = ap (λ t. bit_xor a (product y t)) (eval-blank y p ly)
 
 -- what a polynomial becomes when it is divided by x + root, if this is its root
@@ -211,34 +207,23 @@ pub record IsDivided (r : ℕ) (p n : List ℕ) : Type 0 where
 -- division, where the leading 1 is shown
 divided-split : (r : ℕ) (w p n : List ℕ) → r < 256 → All IsByte p → p ≡ w ++ 1 ∷ [] → eval r p ≡ 0 →
     n ≡ take (length (quotient r p) - 1) (quotient r p) → IsDivided r p n
-divided-split r [] p n lr lp split root same =
-    let none = product-by_zero r lr in
-    let one : eval r p ≡ bit_xor 1 0 = ap (eval r) split ∙ ap (bit_xor 1) none in
-    let other : bit_xor 1 0 ≡ 1 = xor_zero_r 1 in
-    absurd (omega (arith, one, other, root))
+divided-split r [] p n lr lp split root same = cc (product-by_zero r lr, xor_zero_r 1)
 divided-split r (a ∷ w) p n lr lp split root same =
     let q = quotient r p in
     let led = quotient-leading r a w lr in
     let v = led.0 in
     let whole : q ≡ (v ++ 1 ∷ []) ++ 0 ∷ [] = ap (quotient r) split ∙ led.1 in
-    let long = length-quotient r p in
     let lq = bytes-quotient r p lr lp in
-    let count : length q ≡ length (v ++ 1 ∷ []) + 1 = ap length whole ∙ length_push (v ++ 1 ∷ []) 0 in
-    let cut : length q - 1 ≡ length (v ++ 1 ∷ []) = omega (arith, count) in
-    let rest : n ≡ v ++ 1 ∷ [] = same ∙ (ap (λ t. take t q) cut ∙ (ap (take (length (v ++ 1 ∷ []))) whole ∙ take_at (v ++ 1 ∷ []) (0 ∷ []) (length (v ++ 1 ∷ [])) refl)) in
+    let cut : length q - 1 ≡ length (v ++ 1 ∷ []) = search (arith, length_push) in
+    let rest : n ≡ v ++ 1 ∷ [] = search (arith, take_at) in
     record {
       leading = record { others = v; whole = rest };
-      shorter = omega (arith, ap length rest, count, long);
-      value = cc (rest, whole, eval-blank r (v ++ 1 ∷ []) lr);
+      shorter = search (arith, length-quotient, length_push);
+      value = search (arith, eval-blank);
       others = λ y ly n z.
-          let value = eval y q in
-          let lv = eval-lt y q ly lq in
-          let lf = xor_of_8 y r ly lr in
-          let all : product (bit_xor y r) value ≡ 0 =
-          cc (eval-quotient y r p ly lr lp, z, root, xor_zero_r (product (bit_xor y r) value)) in
-          let none : value ≡ 0 =
-          product-factor value (bit_xor y r) lv lf (λ e. n (sum-none y r e)) (product-comm value (bit_xor y r) lv lf ∙ all) in
-          cc (rest, whole, eval-blank y (v ++ 1 ∷ []) ly, none);
+          let all : product (bit_xor y r) (eval y q) ≡ 0 =
+          cc (eval-quotient y r p ly lr lp, xor_zero_r (product (bit_xor y r) (eval y q))) in
+          search (arith, eval-lt, xor_of_8, product-factor, sum-none, product-comm, eval-blank);
     }
 
 -- the polynomial after a division without remainder
@@ -267,39 +252,20 @@ pub divided-more : (r k v : ℕ) (old now : List ℕ) → 0 < k → k ≤ length
     set now (k - 1) v ≡ take (k - 1) old ++ quotient r (drop (k - 1) old)
 divided-more r k v old now some l same value =
     let i = k - 1 in
-    let next : suc i ≡ k = omega (arith, some) in
-    let other : i + 1 ≡ k = omega (arith, some) in
-    cc (
-      same,
-      value,
-      next,
-      other,
-      drop_more old i 0 (omega (arith, some, l)),
-      divided-set old (quotient r (drop k old)) i v (omega (arith, some, l)),
-    )
+    let next : suc i ≡ k = omega arith in
+    let other : i + 1 ≡ k = omega arith in
+    cc (drop_more old i 0 (omega arith), divided-set old (quotient r (drop k old)) i v (omega arith))
 
 -- one coefficient more of the value
 pub value-more_divided : (r k v m : ℕ) (old now : List ℕ) → 0 < k → k ≤ length old →
     now ≡ take k old ++ quotient r (drop k old) → v ≡ eval r (drop k old) → m ≡ product r v →
     bit_xor (get_or now (k - 1) 0) m ≡ eval r (drop (k - 1) old)
-value-more_divided r k v m old now some l same value product =
-    let i = k - 1 in
-    let next : suc i ≡ k = omega (arith, some) in
-    let other : i + 1 ≡ k = omega (arith, some) in
-    cc (
-      same,
-      value,
-      product,
-      next,
-      other,
-      drop_more old i 0 (omega (arith, some, l)),
-      divided-get old (quotient r (drop k old)) i (omega (arith, some, l)),
-    )
+value-more_divided r k v m old now some l same value product = search (arith, drop_more, divided-get)
 
 -- one coefficient more of the value of the quotient
 pub rest-more_divided : (r k v m : ℕ) (old : List ℕ) → 0 < k → k ≤ length old → v ≡ eval r (drop k old) →
     m ≡ product r (eval r (quotient r (drop k old))) → bit_xor v m ≡ eval r (quotient r (drop (k - 1) old))
 rest-more_divided r k v m old some l value product =
     let i = k - 1 in
-    let other : i + 1 ≡ k = omega (arith, some) in
-    cc (value, product, other, drop_more old i 0 (omega (arith, some, l)))
+    let other : i + 1 ≡ k = omega arith in
+    cc (product, drop_more old i 0 (omega arith))

@@ -8,7 +8,7 @@ use Rattle.qr_field.proofs.lemmas.galois.BitLemmas.{xor-swap}
 use Rattle.qr_field.proofs.lemmas.galois.ByteLemmas.{below, below-at, same-below, product-of_zero, product-of_one}
 use Rattle.qr_field.proofs.lemmas.galois.ProductLemmas.{product-double, product-lt, product-xor}
 use Rattle.qr_field.proofs.lemmas.galois.FieldLemmas.{product-assoc, product-by_sum}
-use Rattle.qr_field.proofs.lemmas.logarithm.PowerLemmas.{entry, entry-is, power-add, power-lt}
+use Rattle.qr_field.proofs.lemmas.galois.PowerLemmas.{entry, entry-is, power-add, power-lt}
 use Rattle.qr_field.proofs.lemmas.register.RegisterLemmas.{byte-xor}
 use Rattle.qr_mending.specs.declared.sums.TheConstants.{MULTIPLES}
 use Rattle.qr_mending.specs.Steps.Values.{of_digits}
@@ -59,8 +59,7 @@ row-two j k l m =
 pub table-at : (j d k : ℕ) → j < 31 → d < 4 → k < 16 → byte_at k (get_or MULTIPLES (4 * j + d) 0) ≡ product d (power (k * j))
 table-at j zero k l m h =
     let none : get_or MULTIPLES (4 * j) 0 ≡ 0 = same-below 31 (λ i. get_or MULTIPLES (4 * i) 0) (λ i. 0) rows-none j l in
-    let at : 4 * j + 0 ≡ 4 * j = omega arith in
-    cc (at, none, byte-none k, product-of_zero (power (k * j)) (power-lt (k * j)))
+    search (arith, byte-none, product-of_zero, power-lt)
 table-at j (suc zero) k l m h = row-one j k l h
 table-at j (suc (suc zero)) k l m h = row-two j k l h
 table-at j (suc (suc (suc zero))) k l m h =
@@ -68,27 +67,21 @@ table-at j (suc (suc (suc zero))) k l m h =
     let two = get_or MULTIPLES (4 * j + 2) 0 in
     let three : get_or MULTIPLES (4 * j + 3) 0 ≡ bit_xor one two =
     same-below 31 (λ i. get_or MULTIPLES (4 * i + 3) 0) (λ i. bit_xor (get_or MULTIPLES (4 * i + 1) 0) (get_or MULTIPLES (4 * i + 2) 0)) rows-three j l in
-    ap (byte_at k) three ∙ (byte-xor k one two
-    ∙ (cc (row-one j k l h, row-two j k l h) ∙ product-xor 1 2 (power (k * j)) (lit< tt) (lit< tt)))
-table-at j (suc (suc (suc (suc d)))) k l m h = absurd (omega (arith, m))
+    search (arith, byte-xor, row-one, row-two, product-xor)
+table-at j (suc (suc (suc (suc d)))) k l m h = absurd (omega arith)
 
 -- ---- digits
 
 -- four times a sum
 four-sum : (x y : ℕ) → x < 256 → y < 256 →
     product 2 (product 2 (bit_xor x y)) ≡ bit_xor (product 2 (product 2 x)) (product 2 (product 2 y))
-four-sum x y l m =
-    cc (
-      product-by_sum 2 x y (lit< tt) l m,
-      product-by_sum 2 (product 2 x) (product 2 y) (lit< tt) (product-lt 2 x (lit< tt)) (product-lt 2 y (lit< tt)),
-    )
+four-sum x y l m = search (arith, product-by_sum, product-lt)
 
 -- one digit more, in a sum
 digit-sum : (x y a b : ℕ) → x < 256 → y < 256 →
     bit_xor (product 2 (product 2 (bit_xor x y))) (bit_xor a b)
     ≡ bit_xor (bit_xor (product 2 (product 2 x)) a) (bit_xor (product 2 (product 2 y)) b)
-digit-sum x y a b l m =
-    ap (λ t. bit_xor t (bit_xor a b)) (four-sum x y l m) ∙ xor-swap (product 2 (product 2 x)) (product 2 (product 2 y)) a b
+digit-sum x y a b l m = search (arith, four-sum, xor-swap)
 
 -- one digit more, in a product
 digit-product : (x d t : ℕ) → x < 256 → d < 256 →
@@ -103,26 +96,12 @@ digit-product x d t l m =
 -- the sum of two numbers by digits
 digits-sum : (a b c d e f g h : ℕ) → a < 256 → b < 256 → c < 256 → e < 256 → f < 256 → g < 256 →
     of_digits (bit_xor a e) (bit_xor b f) (bit_xor c g) (bit_xor d h) ≡ bit_xor (of_digits a b c d) (of_digits e f g h)
-digits-sum a b c d e f g h la lb lc le lf lg =
-    let x = bit_xor (product 2 (product 2 a)) b in
-    let y = bit_xor (product 2 (product 2 e)) f in
-    let lx : x < 256 = xor_of_8 (product 2 (product 2 a)) b (product-lt 2 (product 2 a) (lit< tt)) lb in
-    let ly : y < 256 = xor_of_8 (product 2 (product 2 e)) f (product-lt 2 (product 2 e) (lit< tt)) lf in
-    let v = bit_xor (product 2 (product 2 x)) c in
-    let w = bit_xor (product 2 (product 2 y)) g in
-    let lv : v < 256 = xor_of_8 (product 2 (product 2 x)) c (product-lt 2 (product 2 x) (lit< tt)) lc in
-    let lw : w < 256 = xor_of_8 (product 2 (product 2 y)) g (product-lt 2 (product 2 y) (lit< tt)) lg in
-    cc (digit-sum a e b f la le, digit-sum x y c g lx ly, digit-sum v w d h lv lw)
+digits-sum a b c d e f g h la lb lc le lf lg = search (arith, xor_of_8, product-lt, digit-sum)
 
 -- the products of digits and an element
 digits-product : (a b c d t : ℕ) → a < 256 → b < 256 → c < 256 → d < 256 →
     of_digits (product a t) (product b t) (product c t) (product d t) ≡ product (of_digits a b c d) t
-digits-product a b c d t la lb lc ld =
-    let x = bit_xor (product 2 (product 2 a)) b in
-    let lx : x < 256 = xor_of_8 (product 2 (product 2 a)) b (product-lt 2 (product 2 a) (lit< tt)) lb in
-    let v = bit_xor (product 2 (product 2 x)) c in
-    let lv : v < 256 = xor_of_8 (product 2 (product 2 x)) c (product-lt 2 (product 2 x) (lit< tt)) lc in
-    cc (digit-product a b t la lb, digit-product x c t lx lc, digit-product v d t lv ld)
+digits-product a b c d t la lb lc ld = search (arith, xor_of_8, product-lt, digit-product)
 
 -- the digits of each byte, computed
 digits-whole : below 256 (λ t. eqb (of_digits (t / 2 ^ 6) (bit_and (t / 2 ^ 4) 3) (bit_and (t / 2 ^ 2) 3) (bit_and t 3)) t) ≡ true
@@ -143,16 +122,14 @@ digits-added k t x a b c d e f g h l he hf hg hh =
     (byte-lt k a) (byte-lt k b) (byte-lt k c) (byte-lt k e) (byte-lt k f) (byte-lt k g) in
     let whole : of_digits (t / 2 ^ 6) q r s ≡ t =
     same-below 256 (λ n. of_digits (n / 2 ^ 6) (bit_and (n / 2 ^ 4) 3) (bit_and (n / 2 ^ 2) 3) (bit_and n 3)) (λ n. n) digits-whole t l in
-    let product-is = digits-product (t / 2 ^ 6) q r s x (omega arith) (omega (arith, and_le_r (t / 2 ^ 4) 3))
-    (omega (arith, and_le_r (t / 2 ^ 2) 3)) (omega (arith, and_le_r t 3)) in
-    cc (byte-xor k a e, byte-xor k b f, byte-xor k c g, byte-xor k d h, sum, he, hf, hg, hh, product-is, whole)
+    search (arith, digits-product, and_le_r, byte-xor)
 
 -- the digits put together, by Horner's rule
-pub digits-joined : (k a b c d f g h : ℕ) → byte_at k f ≡ product 2 (product 2 (byte_at k a)) →
+pub digits-together : (k a b c d f g h : ℕ) → byte_at k f ≡ product 2 (product 2 (byte_at k a)) →
     byte_at k g ≡ product 2 (product 2 (byte_at k (bit_xor f b))) →
     byte_at k h ≡ product 2 (product 2 (byte_at k (bit_xor g c))) →
     byte_at k (bit_xor h d) ≡ of_digits (byte_at k a) (byte_at k b) (byte_at k c) (byte_at k d)
-digits-joined k a b c d f g h hf hg hh = cc (byte-xor k h d, hh, byte-xor k g c, hg, byte-xor k f b, hf)
+digits-together k a b c d f g h hf hg hh = cc (byte-xor k h d, byte-xor k g c, byte-xor k f b)
 
 -- sums of nothing
 pub digits-none : (k : ℕ) → of_digits (byte_at k 0) (byte_at k 0) (byte_at k 0) (byte_at k 0) ≡ 0
@@ -162,12 +139,6 @@ digits-none k = ap (λ t. of_digits t t t t) (byte-none k)
 -- ---- powers
 
 -- an element times a power, and then another power with the same step
-pub powers-joined : (c first k step : ℕ) → c < 256 →
+pub powers-product : (c first k step : ℕ) → c < 256 →
     product (product c (power (first * step))) (power (k * step)) ≡ product c (power ((first + k) * step))
-powers-joined c first k step l =
-    let exponent : (first + k) * step ≡ first * step + k * step = omega arith in
-    cc (
-      exponent,
-      power-add (first * step) (k * step),
-      product-assoc c (power (first * step)) (power (k * step)) l (power-lt (first * step)) (power-lt (k * step)),
-    )
+powers-product c first k step l = search (arith, power-add, product-assoc, power-lt)

@@ -1,13 +1,13 @@
 -- Values of polynomials, and sums of products of their coefficients with the items of a list.
-use Rattle.std.proofs.Common.{◌≡◌, ℕ, ◌+◌, ◌-◌, ◌*◌, ◌%◌, ◌<◌, ◌≤◌, List, [], ◌∷◌, ◌++◌, length, drop, get_or, refl, sym, ap, ◌∙◌, inl, inr, arith, lit<, bit_xor, length-drop}
-use Rattle.std.proofs.lemmas.{Nat.xor_of_8, Nat.xor_comm, Bool.cases_lt}
+use Rattle.std.proofs.Common.{◌≡◌, ℕ, ◌+◌, ◌-◌, ◌*◌, ◌%◌, ◌<◌, ◌≤◌, List, [], ◌∷◌, ◌++◌, length, drop, get_or, refl, ap, arith, lit<, bit_xor, length-drop}
+use Rattle.std.proofs.lemmas.{Nat.xor_of_8, Nat.xor_comm}
 use Rattle.std.proofs.lemmas.List.{length_push, get_or_push, get_or_append_left, drop_more, drop_all}
 use Rattle.std.proofs.lemmas.List.Elements.{All-drop, All-get_or, All-head, All-tail}
 use Rattle.std.specs.{List.All, Int.Bits.{xor_assoc, xor_zero_l}}
 use Rattle.qr_field.specs.{Galois.product, Steps.Polynomial.value_at, Polynomial.{IsByte, plus, scaled, power}}
 use Rattle.qr_field.proofs.lemmas.galois.{BitLemmas.xor-swap, ProductLemmas.{product-lt, product-xor}}
 use Rattle.qr_field.proofs.lemmas.galois.ByteLemmas.{product-by_zero, product-by_one, product-of_zero, product-of_one}
-use Rattle.qr_field.proofs.lemmas.{logarithm.PowerLemmas.{power-lt, power-add, power-mod}}
+use Rattle.qr_field.proofs.lemmas.{galois.PowerLemmas.{power-lt, power-add, power-mod}}
 use Rattle.qr_field.proofs.lemmas.galois.FieldLemmas.{product-comm, product-assoc, product-front, product-by_sum}
 use Rattle.qr_mending.specs.Steps.Sums.{dot_of, eval, blend, HasValues}
 
@@ -39,11 +39,11 @@ multiple-is element l i j e log h = cc (power-mod (l + i * j), power-add l (i * 
 
 -- 0 times a power
 pub multiple-none : (element e : ℕ) → element ≡ 0 → element ≡ product element (power e)
-multiple-none element e h = h ∙ sym (ap (λ t. product t (power e)) h ∙ product-of_zero (power e) (power-lt e))
+multiple-none element e h = search (arith, product-of_zero, power-lt)
 
 -- an element times the first power
 pub multiple-same : (element e : ℕ) → element < 256 → e ≡ 0 → element ≡ product element (power e)
-multiple-same element e l h = sym (ap (λ t. product element (power t)) h ∙ product-by_one element l)
+multiple-same element e l h = cc (product-by_one element l)
 
 -- the first multiple of an element
 pub multiple-first : (element step : ℕ) → element < 256 → element ≡ product element (power (0 * step))
@@ -55,32 +55,19 @@ pub multiple-next : (element k step e s : ℕ) → element < 256 →
     power s ≡ product element (power ((k + 1) * step))
 multiple-next element k step e s l now next =
     let exponent : (k + 1) * step ≡ k * step + step = omega arith in
-    cc (
-      exponent,
-      power-add (k * step) step,
-      product-assoc element (power (k * step)) (power step) l (power-lt (k * step)) (power-lt step),
-    )
+    search (arith, power-add, product-assoc, power-lt)
 
 -- ---- values
 
 -- the value of the coefficients from index k - 1 on
 pub value-more : (i k : ℕ) (p : List ℕ) → 0 < k → k ≤ length p →
     value_at i (drop (k - 1) p) ≡ bit_xor (product (get_or p (k - 1) 0) (power (i * (length p - k)))) (value_at i (drop k p))
-value-more i k p some l =
-    let next : k - 1 + 1 ≡ k = omega (arith, some) in
-    cc (drop_more p (k - 1) 0 (omega (arith, some, l)), next, length-drop k p)
+value-more i k p some l = search (arith, drop_more, length-drop)
 
 -- a list of values with one value more
 pub values-more : (s : List ℕ) (k v : ℕ) (e : List ℕ) → length s ≡ k → HasValues s e →
     v ≡ value_at k e → HasValues (s ++ v ∷ []) e
-values-more s k v e n h f = record {
-  each = λ j l. elim (cases_lt j k) [
-    | inl m ↦ get_or_append_left s (v ∷ []) 0 j (omega (arith, m, n)) ∙ h.each j (omega (arith, m, n))
-    | inr m ↦
-        let same : j ≡ k = omega (arith, m, l, length_push s v, n) in
-        ap (λ t. get_or (s ++ v ∷ []) t 0) same ∙ (get_or_push s v 0 k n ∙ (f ∙ ap (λ t. value_at t e) (sym same)))
-  ];
-}
+values-more s k v e n h f = search (arith, get_or_append_left, length_push, get_or_push)
 
 -- ---- sums of products
 
@@ -89,7 +76,7 @@ pub dot-lt : (p w : List ℕ) → All IsByte p → dot_of p w < 256
 dot-lt [] w a = lit< tt
 dot-lt (x ∷ p) [] a = lit< tt
 dot-lt (x ∷ p) (y ∷ w) a =
-    xor_of_8 (product x y) (dot_of p w) (product-lt x y (All-head IsByte x p a)) (dot-lt p w (All-tail IsByte x p a))
+    search (arith, xor_of_8, product-lt, All-head, All-tail, dot-lt p w (All-tail IsByte x p a))
 
 -- the sum of products for a sum of two lists, of which the first is multiplied by c
 pub dot-plus : (c : ℕ) (xs ys w : List ℕ) → c < 256 → All IsByte xs → All IsByte ys → All IsByte w →
@@ -115,24 +102,20 @@ dot-plus c (x ∷ xs) (y ∷ ys) (b ∷ w) lc lx ly lw h =
 pub dot-blend : (p : List ℕ) (i : ℕ) (s e : List ℕ) → HasValues s e → i + length p ≤ length s →
     dot_of p (drop i s) ≡ blend p i e
 dot-blend [] i s e h l = refl
-dot-blend (a ∷ p) i s e h l =
-    let m : i < length s = omega arith in
-    cc (drop_more s i 0 m, h.each i m, dot-blend p (i + 1) s e h (omega arith))
+dot-blend (a ∷ p) i s e h l = search (arith, drop_more, dot-blend p (i + 1) s e h (omega arith))
 
 -- the value of a polynomial at a byte is a byte
 pub eval-lt : (x : ℕ) (p : List ℕ) → x < 256 → All IsByte p → eval x p < 256
 eval-lt x [] l a = lit< tt
-eval-lt x (c ∷ p) l a = xor_of_8 c (product x (eval x p)) (All-head IsByte c p a) (product-lt x (eval x p) l)
+eval-lt x (c ∷ p) l a = search (arith, xor_of_8, All-head, product-lt)
 
 -- an empty list contains the first values of every list
 pub values-none : (s e : List ℕ) → s ≡ [] → HasValues s e
-values-none s e h = record { each = λ k l. absurd (omega (arith, l, ap length h)) }
+values-none s e h = search arith
 
 -- no terms of the whole polynomial
 pub eval-start : (m k : ℕ) (p : List ℕ) → length p ≤ k → 0 ≡ product (power (m * k)) (eval (power m) (drop k p))
-eval-start m k p l =
-    let value = power (m * k) in
-    sym (ap (λ t. product value (eval (power m) t)) (drop_all k p l) ∙ product-by_zero value (power-lt (m * k)))
+eval-start m k p l = search (arith, drop_all, product-by_zero, power-lt)
 
 -- the value at 2 to the power m of the coefficients from index k - 1 on, as terms of the whole polynomial
 pub eval-more : (m k : ℕ) (p : List ℕ) → All IsByte p → 0 < k → k ≤ length p →
@@ -140,24 +123,14 @@ pub eval-more : (m k : ℕ) (p : List ℕ) → All IsByte p → 0 < k → k ≤ 
     ≡ bit_xor (product (get_or p (k - 1) 0) (power (m * (k - 1)))) (product (power (m * k)) (eval (power m) (drop k p)))
 eval-more m k p lp some l =
     let i = k - 1 in
-    let next : i + 1 ≡ k = omega (arith, some) in
+    let next : i + 1 ≡ k = omega arith in
     let a = get_or p i 0 in
     let rest = eval (power m) (drop k p) in
-    let la = All-get_or IsByte p i 0 (omega (arith, some, l)) lp in
+    let la = All-get_or IsByte p i 0 (omega arith) lp in
     let lr = eval-lt (power m) (drop k p) (power-lt m) (All-drop IsByte k p lp) in
     let exponent : m * (i + 1) ≡ m * i + m = omega arith in
-    cc (
-      drop_more p i 0 (omega (arith, some, l)),
-      next,
-      exponent,
-      power-add (m * i) m,
-      product-assoc (power (m * i)) (power m) rest (power-lt (m * i)) (power-lt m) lr,
-      product-by_sum (power (m * i)) a (product (power m) rest) (power-lt (m * i)) la (product-lt (power m) rest (power-lt m)),
-      product-comm (power (m * i)) a (power-lt (m * i)) la,
-    )
+    search (arith, drop_more, power-add, product-assoc, power-lt, product-by_sum, product-lt, product-comm)
 
 -- once all coefficients are terms
 pub eval-all : (m : ℕ) (p : List ℕ) → All IsByte p → product (power (m * 0)) (eval (power m) (drop 0 p)) ≡ eval (power m) p
-eval-all m p lp =
-    let none : m * 0 ≡ 0 = omega arith in
-    cc (none, product-of_one (eval (power m) p) (eval-lt (power m) p (power-lt m) lp))
+eval-all m p lp = search (arith, product-of_one, eval-lt, power-lt)

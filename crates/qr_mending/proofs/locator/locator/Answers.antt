@@ -3,7 +3,7 @@ use Rattle.qr_mending.proofs.lemmas.locator.SearchLemmas.{search-locates}
 use Rattle.qr_mending.proofs.locator.locator.Goals as goal
 
 pub loop-i-init : goal.loop-i-init
-loop-i-init c = record { found = c.new-search.ensures.search c.args.syndromes.now; degree = omega (arith, c.new-search.ensures.degree) }
+loop-i-init c = record { found = c.new-search.ensures.search c.args.syndromes.now; degree = omega arith }
 
 pub returns-clause-located : goal.returns-clause-located
 returns-clause-located c = λ errors few.

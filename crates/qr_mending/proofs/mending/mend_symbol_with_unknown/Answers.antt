@@ -13,7 +13,7 @@ returns-in_err-parsed-clause-mended c =
     let p = err_from_is_err_and c.from_residual-in_err-parsed.result c.from_residual-in_err-parsed.ensures.1 in
     rw (p.1, p.2) (mended-unparsed c.args.unknown.now c.args.matrix.now c.in-Some.version m.level m.mask
     c.deref.result.now
-    m.changed.items c.in_err-parsed.field-0.0
+    m.blocks.changed.items c.in_err-parsed.field-0.0
     (rw c.deref.ensures.value (record {
       sized = record { least = found.0; most = found.1; side = sym c.side.ensures.value ∙ found.2 };
       format = mended.0;

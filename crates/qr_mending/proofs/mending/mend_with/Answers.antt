@@ -5,8 +5,7 @@ use Rattle.qr_mending.proofs.mending.mend_with.Goals as goal
 
 pub returns-in-Ok-clause-mended : goal.returns-in-Ok-clause-mended
 returns-in-Ok-clause-mended c =
-    let m = c.in-Ok.field-0 in
-    let mended = rw c.in-Ok.field-0-is at c.in-Ok.ensures.mended in
+    let m = c.in-Ok.mended in
     let many = rw (← c.deref.ensures.value) at c.in_ok-codewords.ensures.many in (
       c.in-Some.is,
       record {
@@ -15,9 +14,9 @@ returns-in-Ok-clause-mended c =
           held = rw c.deref.ensures.value c.in_ok-codewords.ensures.read;
           mended = of-marks c.args.scan.now.version c.in-Some.level c.args.scan.now.unknown.now c.deref.result.now (list_of (total_codewords_of c.args.scan.now.version) c.args.marks.now)
               m.message.items m.changed.items
-              (omega arith) (omega arith) many c.requires.erased mended;
+              (omega arith) (omega arith) many c.requires.erased c.in-Ok.ensures.mended;
         };
-        corrections = rw c.in-Ok.field-0-is at c.in-Ok.ensures.corrections;
+        corrections = c.in-Ok.ensures.corrections;
       },
     )
 

@@ -1,11 +1,9 @@
-use Rattle.std.proofs.Common.{arith}
+use Rattle.std.proofs.Common.{rules, arith}
 use Rattle.qr_mending.proofs.lemmas.mending.MendingLemmas.{first-alone, first-nearer, second-alone, second-nearer}
 use Rattle.qr_mending.proofs.mending.nearer.Goals as goal
 
 pub returns-in_default : goal.returns-in_default
-returns-in_default c =
-    let scan = c.args.scan.now in
-    second-alone scan.unknown.now scan.matrix.now scan.version c.args.second (rw c.in_default.is at c.requires.first) c.requires.second
+returns-in_default c = search (rules, second-alone)
 
 pub returns-in_default-second : goal.returns-in_default-second
 returns-in_default-second c =
@@ -13,16 +11,16 @@ returns-in_default-second c =
     first-alone scan.unknown.now scan.matrix.now scan.version c.in-Some.first (rw c.in-Some.is at c.requires.first)
     (rw c.in_default-second.is at c.requires.second)
 
-pub returns-then-cost_of : goal.returns-then-cost_of
-returns-then-cost_of c =
+pub returns-then-format_cost : goal.returns-then-format_cost
+returns-then-format_cost c =
     let scan = c.args.scan.now in
     second-nearer scan.unknown.now scan.matrix.now scan.version c.in-Some.first c.in-Some-second.second
     (rw c.in-Some.is at c.requires.first) (rw c.in-Some-second.is at c.requires.second)
-    (omega (arith, c.cost_of.ensures, c.cost_of-2.ensures))
+    (omega arith)
 
 pub returns : goal.returns
 returns c =
     let scan = c.args.scan.now in
     first-nearer scan.unknown.now scan.matrix.now scan.version c.in-Some.first c.in-Some-second.second
     (rw c.in-Some.is at c.requires.first) (rw c.in-Some-second.is at c.requires.second)
-    (omega (arith, c.cost_of.ensures, c.cost_of-2.ensures))
+    (omega arith)

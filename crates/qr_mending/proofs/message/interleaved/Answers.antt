@@ -24,10 +24,9 @@ returns-clause-interleaved c =
     let first = rw (c.of_data.ensures, c.blocks-blocks.ensures, c.deref.ensures.value) at c.scatter.ensures in
     let checks = rw (c.of_corrections.ensures, c.blocks-blocks.ensures, c.deref-2.ensures.value) at c.scatter-2.ensures in
     let all = c.scatter.new.interleaved ++ c.scatter-2.new.interleaved in
-    let whole = c.requires.long ∙ sym (data-sizes-whole c.args.version c.args.level (omega arith) (omega arith)) in
     let len : length all ≡ c.in_ok-interleaved.interleaved.len =
     length-append c.scatter.new.interleaved c.scatter-2.new.interleaved
-    ∙ omega (arith, first.long, checks.long, whole, c.requires.checks.long, c.in_ok-interleaved.ensures.len) in
+    ∙ omega arith in
     subst (IsFinalMessage b message) (sym (take-front c.in_ok-interleaved.interleaved.len all _ len))
     (both-interleaved b message c.args.corrections.items c.scatter.new.interleaved c.scatter-2.new.interleaved
     c.requires.checks.each first.long checks.long first.gathered checks.gathered)

@@ -1,11 +1,11 @@
-use Rattle.std.proofs.Common.{◌≡◌, ◌++◌, ◌-◌, ◌<◌, ◌∙◌, length, take, drop, ap, sym, arith}
+use Rattle.std.proofs.Common.{◌≡◌, ◌++◌, ◌-◌, ◌∙◌, length, take, drop, ap, sym, arith}
 use Rattle.std.proofs.lemmas.List.{length-take-le}
 use Rattle.{std.specs.List.refill}
 use Rattle.qr_symbol.specs.Interleaving.{block_count, block_len, data_sizes}
 use Rattle.qr_symbol.proofs.Facts.{checks-block, data-sizes-whole, sizes-whole}
 use Rattle.qr_mending.proofs.lemmas.errors.RemovalLemmas.{refill-same}
 use Rattle.qr_mending.proofs.lemmas.erasures.ErasureLemmas.{length-read}
-use Rattle.qr_mending.proofs.lemmas.message.UnreadLemmas.{in-blocks-mended, marks-or-none, marks-whole, mended-corrects, none-in-blocks, none-unread, push-unread}
+use Rattle.qr_mending.proofs.lemmas.message.BlocksLemmas.{in-blocks-mended, marks-or-none, marks-whole, mended-corrects, mended-more, none-in-blocks, none-mended, IsReadBlock}
 use Rattle.qr_mending.proofs.message.mend_blocks.Goals as goal
 
 pub erased_of-requires-clause-whole : goal.erased_of-requires-clause-whole
@@ -27,23 +27,27 @@ loop-block-preserved c =
     let n = block_len (data_sizes b) k in
     let old = c.in_ok-mended.mended.items in
     let new = c.mend_block.new.codewords in
-    let within : k < block_count (data_sizes b) = omega (arith, ap block_count c.of_data.ensures) in
+    let block : IsReadBlock b d.«data».items d.checks.items k c.new-divisor.result old = record {
+      divisor = i.divisor;
+      within = omega (arith, ap block_count c.of_data.ensures);
+      value = c.in_ok-mended.ensures.value;
+      long = c.in_ok-mended.ensures.len;
+    } in
     let mended = rw (c.as_mut_slice.ensures.value, c.deref.ensures.value, c.in_ok-erased.ensures) at c.in-Some.ensures.mended in
     let long : length new ≡ length old = mended.0.long ∙ length-read old _ in
     let same : refill c.in_ok-mended.mended.len old new ≡ new = refill-same old new c.in_ok-mended.mended.len (omega arith) long in
     let cut : c.len-in-loop-block.result - c.count.result ≡ n =
-    omega (arith, c.in_ok-mended.ensures.len, c.len-in-loop-block.ensures, c.count.ensures.is, i.divisor) in
-    let es : c.split_at.result.0.now ≡ take n new = cc (c.split_at.ensures.front, cut, c.deref-in-loop-block.ensures.value, same) in
-    let cs : c.split_at.result.1.now ≡ drop n new = cc (c.split_at.ensures.back, cut, c.deref-in-loop-block.ensures.value, same) in
+    omega arith in
+    let es : c.split_at.result.0.now ≡ take n new = cc in
+    let cs : c.split_at.result.1.now ≡ drop n new = cc in
     let front = c.in_ok-extend_from_slice.ensures.items ∙ ap (λ z. c.loop-block.message.items ++ z) es in
     let back = c.in_ok-extend_from_slice-2.ensures.items ∙ ap (λ z. c.loop-block.corrections.items ++ z) cs in
     record {
-      so_far = rw (front, c.in_ok-push.ensures.items) (push-unread b c.from-spare.result d.«data».items d.checks.items _ k
-          c.new-divisor.result old new c.in-Some.misread i.divisor within c.in_ok-mended.ensures.value c.in_ok-mended.ensures.len
-          mended.0 mended.1 c.loop-block.message.items c.loop-block.changed.items i.so_far);
+      so_far = rw (front, c.in_ok-push.ensures.items) (mended-more b c.from-spare.result d.«data».items d.checks.items _ k
+          c.new-divisor.result old new c.in-Some.misread block mended.0 mended.1 c.loop-block.message.items c.loop-block.changed.items i.so_far);
       checks = rw (front, back) (checks-block b c.loop-block.message.items c.loop-block.corrections.items (take n new) (drop n new)
-          k within i.so_far.long (length-take-le n new (omega (arith, long, c.in_ok-mended.ensures.len)))
-          (mended-corrects b c.from-spare.result k c.new-divisor.result old _ new i.divisor c.in_ok-mended.ensures.len mended.0) i.checks);
+          k block.within i.so_far.long (length-take-le n new (omega arith))
+          (mended-corrects b c.from-spare.result d.«data».items d.checks.items k c.new-divisor.result old _ new block mended.0) i.checks);
       marks = i.marks;
       divisor = i.divisor;
     }
@@ -76,11 +80,15 @@ returns-in_default-clause-refused c = λ e message misread h.
     let i = c.loop-block.invariant in
     let b = c.blocks-blocks.result in
     let d = c.in_ok-received.received in
-    let within : c.loop-block.block < block_count (data_sizes b) = omega (arith, ap block_count c.of_data.ensures) in
     none-in-blocks b c.from-spare.result c.args.codewords.now d.«data».items d.checks.items c.args.marks.now _
     c.in_ok-received.ensures i.marks
-    (none-unread b c.from-spare.result d.«data».items d.checks.items _ c.loop-block.block c.new-divisor.result
-    c.in_ok-mended.mended.items i.divisor within c.in_ok-mended.ensures.value c.in_ok-mended.ensures.len
+    (none-mended b c.from-spare.result d.«data».items d.checks.items _ c.loop-block.block c.new-divisor.result
+    c.in_ok-mended.mended.items (record {
+      divisor = i.divisor;
+      within = omega (arith, ap block_count c.of_data.ensures);
+      value = c.in_ok-mended.ensures.value;
+      long = c.in_ok-mended.ensures.len;
+    })
     (rw (c.as_mut_slice.ensures.value, c.deref.ensures.value, c.in_ok-erased.ensures) at c.in_default.ensures.refused))
     message misread
     (rw (← c.blocks-blocks.ensures, ← c.spare.ensures, ← c.from-spare.ensures, ← c.requires.codewords) at h)

@@ -1,13 +1,11 @@
-use Rattle.std.proofs.Common.{◌≡◌, ◌-◌, ◌+◌, ◌*◌, drop, get_or, length, sym, ap, ◌∙◌, arith}
+use Rattle.std.proofs.Common.{rules, ◌≡◌, ◌-◌, ◌+◌, ◌*◌, drop, get_or, length, arith}
 use Rattle.std.proofs.lemmas.{Nat.{xor_comm}, List.{drop_all}}
 use Rattle.qr_field.specs.{Galois.product, Polynomial.power, Steps.Polynomial.value_at}
-use Rattle.qr_mending.proofs.lemmas.sums.{DigitLemmas.{digits-none, powers-joined}, SumLemmas.{value-more}}
+use Rattle.qr_mending.proofs.lemmas.sums.{DigitLemmas.{digits-none, powers-product}, SumLemmas.{value-more}}
 use Rattle.qr_mending.proofs.sums.sixteen_syndromes.Goals as goal
 
 pub loop-j-init : goal.loop-j-init
-loop-j-init c = λ i l.
-    let r = c.args.remainder.now in
-    digits-none i ∙ sym (ap (value_at (c.args.first + i)) (drop_all (length r) r (omega arith)))
+loop-j-init c = search (rules, digits-none, drop_all)
 
 pub loop-j-preserved : goal.loop-j-preserved
 loop-j-preserved c = λ i l.
@@ -19,16 +17,8 @@ loop-j-preserved c = λ i l.
     let is : length r - 1 - (j - 1) ≡ exponent = omega arith in
     cc (
       c.add.ensures i l,
-      c.times_power.ensures,
-      is,
-      powers-joined x c.args.first i exponent (omega (arith, c.type_inv.remainder (j - 1))),
+      powers-product x c.args.first i exponent (omega (arith, c.type_inv.remainder (j - 1))),
       c.loop-j.invariant i l,
       value-more at j r (omega arith) (omega arith),
       xor_comm (value_at at (drop j r)) (product x (power (at * exponent))),
     )
-
-pub returns : goal.returns
-returns c = λ k l.
-    let none : c.loop-j.j ≡ 0 = omega arith in
-    c.values.ensures k l
-    ∙ (c.loop-j.invariant k l ∙ ap (λ j. value_at (c.args.first + k) (drop j c.args.remainder.now)) none)

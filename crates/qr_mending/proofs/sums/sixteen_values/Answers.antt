@@ -1,13 +1,12 @@
-use Rattle.std.proofs.Common.{◌≡◌, ◌-◌, ◌+◌, ◌*◌, drop, get_or, length, ap, ◌∙◌, arith}
+use Rattle.std.proofs.Common.{rules, ◌≡◌, ◌-◌, ◌+◌, ◌*◌, drop, get_or, ap, ◌∙◌, arith}
 use Rattle.std.proofs.lemmas.{Nat.{xor_comm}, List.{Elements.All-from_get_or}}
 use Rattle.qr_field.specs.{Galois.{product}, Polynomial.{IsByte, power}}
 use Rattle.qr_mending.specs.Steps.Sums.{eval}
-use Rattle.qr_mending.proofs.lemmas.sums.{DigitLemmas.{digits-none, powers-joined}, SumLemmas.{eval-start, eval-more, eval-all}}
+use Rattle.qr_mending.proofs.lemmas.sums.{DigitLemmas.{digits-none, powers-product}, SumLemmas.{eval-start, eval-more, eval-all}}
 use Rattle.qr_mending.proofs.sums.sixteen_values.Goals as goal
 
 pub loop-j-init : goal.loop-j-init
-loop-j-init c = λ i l.
-    digits-none i ∙ eval-start (c.args.first + i) (length c.args.terms.now) c.args.terms.now (omega arith)
+loop-j-init c = search (rules, digits-none, eval-start)
 
 pub loop-j-preserved : goal.loop-j-preserved
 loop-j-preserved c = λ i l.
@@ -18,8 +17,7 @@ loop-j-preserved c = λ i l.
     let bytes = All-from_get_or IsByte p 0 (λ k m. omega (arith, c.type_inv.terms k)) in
     cc (
       c.add.ensures i l,
-      c.times_power.ensures,
-      powers-joined x c.args.first i (j - 1) (omega (arith, c.type_inv.terms (j - 1))),
+      powers-product x c.args.first i (j - 1) (omega (arith, c.type_inv.terms (j - 1))),
       c.loop-j.invariant i l,
       eval-more at j p bytes (omega arith) (omega arith),
       xor_comm (product (power (at * j)) (eval (power at) (drop j p))) (product x (power (at * (j - 1)))),

@@ -2,10 +2,10 @@
 use Rattle.std.proofs.Common.{◌≡◌, ◌≤◌, ◌<◌, ◌+◌, ◌∙◌, ℕ, true, false, List, [], ◌∷◌, length, refl, sym, subst, arith, inl, inr, Option, None}
 use Rattle.std.proofs.lemmas.List.{length-map, Elements.{All-cons, All-nil}}
 use Rattle.std.specs.List.{All}
-use Rattle.qr_layout.specs.{Version.side_of, Role.{finder_ring, pattern_colour, role_of}, declared.level.Level.Level}
+use Rattle.qr_layout.specs.{Version.side_of, Role.{pattern_colour, role_of}, declared.level.Level.Level}
 use Rattle.qr_bits.specs.{declared.header.Header.Header, declared.modes.Rule.Rule}
 use Rattle.qr_bits.specs.declared.interpretation.Interpretation.{Interpretation}
-use Rattle.qr_matrix.specs.Grid.{Grid, colour, light}
+use Rattle.qr_matrix.specs.Grid.{Grid, light}
 use Rattle.qr_matrix.proofs.Facts.{colour-square, square-same}
 use Rattle.qr_symbol.specs.{Encoding.{IsSymbol, IsSymbolAt}, Series.{AreSymbolsFrom, IsSeries, squares_of}, Symbol.{colour_of, grid_of}, declared.symbol.Symbol.Symbol}
 use Rattle.qr_symbol.proofs.Facts.{series-few, series-side, series-some}
@@ -30,26 +30,20 @@ one-drawing kind other margin last squares others text g h =
 -- the corner of a finder pattern is dark
 corner : (v mask : ℕ) (l : Level) (cw : List ℕ) → 1 ≤ v → colour_of v l mask cw 0 0 ≡ true
 unfolding colour_of role_of pattern_colour
-corner v mask l cw some = let e : finder_ring (side_of v) 0 0 ≡ 3 = omega arith in rw e refl
+corner v mask l cw some = search arith
 
 -- the module in row 0 and column 7 is light, since it is in the separator of the finder pattern
 separator : (v mask : ℕ) (l : Level) (cw : List ℕ) → 1 ≤ v → colour_of v l mask cw 0 7 ≡ false
 unfolding colour_of role_of pattern_colour
-separator v mask l cw some = let e : finder_ring (side_of v) 0 7 ≡ 4 = omega arith in rw e refl
+separator v mask l cw some = search arith
 
 -- the square that codewords make begins as a symbol
 begins : (v mask : ℕ) (l : Level) (cw : List ℕ) → 1 ≤ v → v ≤ 40 → BeginsAsSymbol (grid_of v l mask cw)
-begins v mask l cw some most = record {
-  least = omega arith;
-  most = omega arith;
-  whole = square-same (side_of v) (colour_of v l mask cw) (colour (grid_of v l mask cw)) (λ r c a b. sym (colour-square (side_of v) (colour_of v l mask cw) r c a b));
-  corner = colour-square (side_of v) (colour_of v l mask cw) 0 0 (omega arith) (omega arith) ∙ corner v mask l cw some;
-  separator = colour-square (side_of v) (colour_of v l mask cw) 0 7 (omega arith) (omega arith) ∙ separator v mask l cw some;
-}
+begins v mask l cw some most = search (arith, square-same, colour-square, corner, separator)
 
 -- the square of a symbol of an input begins as a symbol
 begins-symbol : (v : ℕ) (l : Level) (rule : Rule) (how : Interpretation) (x : List ℕ) (h : Option Header) (mask : ℕ) (g : Grid) → 1 ≤ v → v ≤ 40 → IsSymbolAt v l rule how x h mask g → BeginsAsSymbol g
-begins-symbol v l rule how x h mask g some most made = subst BeginsAsSymbol (sym made.drawn) (begins v mask l made.codewords some most)
+begins-symbol v l rule how x h mask g some most made = search (arith, begins)
 
 -- the squares of the symbols of parts begin as symbols
 begin-parts : (v : ℕ) (l : Level) (rule : Rule) (how : Interpretation) (last parity k : ℕ) (ps : List (List ℕ)) (ss : List Symbol) → 1 ≤ v → v ≤ 40 → AreSymbolsFrom v l rule how last parity k ps ss → All BeginsAsSymbol (squares_of ss)
@@ -58,7 +52,7 @@ begin-parts v l rule how last parity k [] [] some most h = All-nil BeginsAsSymbo
 begin-parts v l rule how last parity k [] (s ∷ ss) some most h = absurd h
 begin-parts v l rule how last parity k (p ∷ ps) [] some most h = absurd h
 begin-parts v l rule how last parity k (p ∷ ps) (s ∷ ss) some most h =
-    All-cons BeginsAsSymbol s.matrix (squares_of ss) (begins-symbol v l rule how p _ s.mask s.matrix some most h.0.made) (begin-parts v l rule how last parity (k + 1) ps ss some most h.1)
+    search (arith, All-cons, begins-symbol, begin-parts v l rule how last parity (k + 1) ps ss some most h.1)
 
 -- the squares of a series begin as symbols
 begin-series : (v : ℕ) (l : Level) (rule : Rule) (how : Interpretation) (x : List ℕ) (ss : List Symbol) → 1 ≤ v → v ≤ 40 → IsSeries v l rule how x ss → All BeginsAsSymbol (squares_of ss)
@@ -81,7 +75,7 @@ symbol-drawing kind margin smallest l rule how x v mask g m some h =
       some = omega arith;
       few = omega arith;
       margin_in = m;
-      one_side = one-side g.side (g ∷ []) (omega arith) (All-cons (λ z. z.side ≡ g.side) g [] refl (All-nil (λ z. z.side ≡ g.side)));
+      one_side = search (arith, one-side, All-cons, All-nil);
       begin = All-cons BeginsAsSymbol g [] (begins-symbol v l rule how x None mask g (omega arith) most h.made) (All-nil BeginsAsSymbol);
       is_drawn = refl;
     }

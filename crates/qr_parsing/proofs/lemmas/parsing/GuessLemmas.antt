@@ -1,8 +1,8 @@
 -- What the code finds is all that a text can show.
-use Rattle.std.proofs.Common.{◌≡◌, ◌≤◌, ◌<◌, ◌+◌, ◌-◌, ◌*◌, ◌/◌, ◌∙◌, ℕ, Bool, true, false, List, length, map, get_or, refl, sym, ap, subst, arith, inl, inr, ◌⊎◌}
+use Rattle.std.proofs.Common.{◌≡◌, ◌≤◌, ◌<◌, ◌+◌, ◌-◌, ◌*◌, ◌/◌, ◌∙◌, ℕ, Bool, true, false, List, length, map, sym, ap, subst, arith, inl, inr, ◌⊎◌}
 use Rattle.std.proofs.lemmas.List.FromFn.{fill_by_all, get_or-map-range_with_len, length-map-range_with_len}
 use Rattle.std.specs.List.{range_with_len}
-use Rattle.qr_matrix.specs.Grid.{Grid, IsSquare, colour, light, square}
+use Rattle.qr_matrix.specs.Grid.{Grid, light, square}
 use Rattle.qr_matrix.proofs.Facts.{colour-square, square-same}
 use Rattle.qr_drawing.specs.declared.drawing.Drawing.{Drawing}
 use Rattle.qr_drawing.specs.declared.drawing.Drawing.TheVariants.{Ascii, AsciiInverse, Utf8, Svg}
@@ -27,16 +27,12 @@ sheet-shown Svg margin squares text h = svg-sheet margin squares text h
 
 -- a text that would be narrower or wider than any drawing has no sheet
 pub too-wide : (text : List ℕ) (kind : Drawing) (width : ℕ) → kind_in text ≡ kind → width ≡ width_in kind text → (width < 8) ⊎ (687 < width) → HasNoSheet text
-too-wide text kind width e f h =
-    let P : Drawing → Type 0 = λ k. ((width_in k text < 8) ⊎ (687 < width_in k text)) ⊎ (16 < count_in k text) in
-    let Q : ℕ → Type 0 = λ w. (w < 8) ⊎ (687 < w) in
-    subst P (sym e) (inl (subst Q f h))
+too-wide text kind width e f h = search arith
 
 -- the number of squares in half blocks is computed as in the definition
 pub block-count : (len lines width : ℕ) (bytes text : List ℕ) → len ≡ length bytes → lines ≡ (width + 1) / 2 → width ≡ width_in Utf8 text → bytes ≡ cells_in text
     → len / (lines * (width + 1)) ≡ count_in Utf8 text
-block-count len lines width bytes text e f g h =
-    (λ i. (e ∙ ap length h) i / (f i * (width + 1))) ∙ ap (λ w. length (cells_in text) / ((w + 1) / 2 * (w + 1))) g
+block-count len lines width bytes text e f g h = search arith
 
 -- a text without a sheet is no drawing
 pub none-wide : (text : List ℕ) → HasNoSheet text → IsNoDrawing text
@@ -49,7 +45,7 @@ none-wide text wide kind margin squares h =
     let m = h.margin_in in
     let few = h.few in
     elim (subst P (kind-shown kind margin squares text h) wide) [
-      | inl bad ↦ elim bad [ inl lt ↦ omega (arith, b.least) | inr gt ↦ omega (arith, b.most) ]
+      | inl bad ↦ elim bad [ inl lt ↦ omega arith | inr gt ↦ omega arith ]
       | inr many ↦ omega arith
     ]
 
@@ -77,16 +73,16 @@ guessed kind width count bytes margin text is light_before dark k m s h =
     let w = shows.width_is in
     let n = shows.count_is in
     let below : m < margin → ⊥ = λ lt. let x : true ≡ false = sym (corner-dark kind width count bytes m s h.some h.one_side h.begin shows) ∙ light_before m lt in no x in
-    let above : margin < m → ⊥ = λ lt. let x : true ≡ false = sym (dark (omega (arith, b.least))) ∙ diagonal-light kind width count bytes m s h.some h.one_side h.begin shows margin lt in no x in
-    let f : m ≡ margin = omega (arith, below, above) in
+    let above : margin < m → ⊥ = λ lt. let x : true ≡ false = sym (dark (omega arith)) ∙ diagonal-light kind width count bytes m s h.some h.one_side h.begin shows margin lt in no x in
+    let f : m ≡ margin = omega arith in
     record {
       kind_is = e;
       margin_is = f;
       margin_most = h.margin_in;
-      least = omega (arith, b.least);
-      most = omega (arith, b.most);
-      some = omega (arith, h.some);
-      few = omega (arith, h.few);
+      least = omega arith;
+      most = omega arith;
+      some = omega arith;
+      few = omega arith;
       squares_are = fill_by_all (λ k. square (width - 2 * margin) (λ r c. is_dark_on kind width bytes k (margin + r) (margin + c))) s count (light 0) (sym n)
           (λ i lt. square-on kind width count bytes m s h.some h.one_side h.begin shows i (omega arith)
           ∙ ap (λ z. square (width - 2 * z) (λ r c. is_dark_on kind width bytes i (z + r) (z + c))) f);
@@ -98,12 +94,4 @@ guessed kind width count bytes margin text is light_before dark k m s h =
 -- squares of one side can be drawn
 pub can-be-drawn : (side count : ℕ) (f : ℕ → ℕ → ℕ → Bool) (squares : List Grid) → squares ≡ map (λ k. square side (f k)) (range_with_len 0 count) → 0 < count → count ≤ 16 → CanBeDrawn squares
 can-be-drawn side count f squares e some few =
-    let P : List Grid → Type 0 = CanBeDrawn in
-    let n = length-map-range_with_len (λ k. square side (f k)) 0 count in
-    let at : (k : ℕ) (d : Grid) → k < count → get_or (map (λ k. square side (f k)) (range_with_len 0 count)) k d ≡ square side (f k) = λ k d lt. get_or-map-range_with_len (λ k. square side (f k)) 0 count k k d lt (omega arith) in
-    subst P (sym e) (record {
-      some = omega arith;
-      few = omega arith;
-      one_side = λ k d lt. ap (λ g. g.side) (at k d (omega arith) ∙ refl) ∙ sym (ap (λ g. g.side) (at 0 (light 0) some));
-      whole = λ k d lt. let Q : Grid → Type 0 = λ g. IsSquare g.side g in subst Q (sym (at k d (omega arith))) (square-same side (f k) (colour (square side (f k))) (λ r c l m. sym (colour-square side (f k) r c l m)));
-    })
+    search (arith, length-map-range_with_len, get_or-map-range_with_len, square-same, colour-square)

@@ -1,5 +1,8 @@
 -- Rows of a sheet, whose modules are written as bytes.
 use Rattle.std.proofs.Common.{◌≡◌, ◌≤◌, ◌<◌, ◌+◌, ◌*◌, ◌%◌, ◌∙◌, ◌||◌, not, eqb, ℕ, Bool, true, false, cond, List, get_or, length, refl, sym, ap, subst, arith}
+use Rattle.std.proofs.{Common.{◌++◌, ◌-◌, below_more, drop, take}, Math.Nat.{add-mul, mul-le-mul_right}}
+use Rattle.std.proofs.lemmas.List.{get_or-append_right, get_or-take, get_or_append_left, length-take-le}
+use borrow.Rule.Slice.PartMut.{put_mid}
 use mir.Val.{bool_byte}
 use Rattle.qr_matrix.specs.Bytes.{byte_of}
 use Rattle.qr_drawing.specs.declared.drawing.Drawing.{Drawing}
@@ -15,6 +18,18 @@ test-byte false = refl
 pub byte-dark : (b : Bool) (n : ℕ) → n ≡ byte_of b → not (eqb n 0) ≡ b
 byte-dark true n e = rw e refl
 byte-dark false n e = rw e refl
+
+-- if the next row is put after the rows before it, all these rows are there
+pub rows-more : (side row n : ℕ) (xs ys : List ℕ) (byte : ℕ → ℕ → ℕ) → length ys ≡ side → row * side + side ≤ length xs
+    → ((r c : ℕ) → r < row → c < side → get_or xs (r * side + c) 0 ≡ byte r c) → ((c : ℕ) → c < side → get_or ys c 0 ≡ byte row c)
+    → (r c : ℕ) → r < row + 1 → c < side → get_or (put_mid (row * side) n xs ys) (r * side + c) 0 ≡ byte r c
+rows-more side row n xs ys byte long fits before here r c l m =
+    let front : length (take (row * side) xs) ≡ row * side = omega (arith, length-take-le (row * side) xs) in
+    below_more (λ r. (c : ℕ) → c < side → get_or (put_mid (row * side) n xs ys) (r * side + c) 0 ≡ byte r c) row
+    (λ r l c m. let in_front : r * side + c < row * side = omega (arith, add-mul r 1 side, mul-le-mul_right {m = r + 1} {n = row} side (omega arith)) in
+    get_or_append_left (take (row * side) xs) _ 0 (r * side + c) (omega arith) ∙ (get_or-take (row * side) xs (r * side + c) 0 in_front ∙ before r c l m))
+    (λ c m. get_or-append_right (take (row * side) xs) _ (row * side) (row * side + c) 0 front (omega arith)
+    ∙ (ap (λ k. get_or (ys ++ drop n (drop (row * side) xs)) k 0) (let e : row * side + c - row * side ≡ c = omega arith in e) ∙ (get_or_append_left ys _ 0 c (omega arith) ∙ here c m))) r l c m
 
 -- ---- rows by types of drawing
 
@@ -50,7 +65,7 @@ module _ (kind : Drawing) (step y : ℕ) (signs : ℕ × ℕ) (reads : ReadsBy k
   row-inside count side whole a b c i l = let p = whole k y (m + i) a b (omega arith) in omega (arith, place-is i)
 
   -- the modules that are read have the colours of the sheet
-  pub row-dark : (side start : ℕ) (modules : List ℕ) → ((c : ℕ) → c < side → get_or modules (start + c) 0 ≡ byte_of (is_sign signs (get_or bytes (first + step * c) 0)))
-      → (c : ℕ) → c < side → get_or modules (start + c) 0 ≡ byte_of (is_dark_on kind w bytes k y (m + c))
+  pub row-dark : (side : ℕ) (modules : List ℕ) → ((c : ℕ) → c < side → get_or modules c 0 ≡ byte_of (is_sign signs (get_or bytes (first + step * c) 0)))
+      → (c : ℕ) → c < side → get_or modules c 0 ≡ byte_of (is_dark_on kind w bytes k y (m + c))
   unfolding is_dark_on
-  row-dark side start modules has c l = has c l ∙ ap byte_of (reads.dark (get_or bytes (first + step * c) 0) ∙ ap (λ z. is_dark_byte kind y (get_or bytes z 0)) (place-is c))
+  row-dark side modules has c l = has c l ∙ ap byte_of (reads.dark (get_or bytes (first + step * c) 0) ∙ ap (λ z. is_dark_byte kind y (get_or bytes z 0)) (place-is c))

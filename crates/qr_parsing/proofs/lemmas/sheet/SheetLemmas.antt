@@ -6,7 +6,7 @@ use Rattle.qr_matrix.specs.Grid.{Grid, colour, light, square}
 use Rattle.qr_matrix.proofs.Facts.{square-same}
 use Rattle.qr_drawing.specs.{Drawing.HaveOneSide, Raster.{is_dark_at, raster_width}, Svg.square_at}
 use Rattle.qr_drawing.specs.declared.drawing.Drawing.{Drawing}
-use Rattle.qr_drawing.proofs.Facts.{is_dark_at_above, is_dark_at_inside}
+use Rattle.qr_drawing.proofs.Facts.{is_dark_at_above, is_dark_at-inside}
 use Rattle.qr_parsing.specs.{Parsing.{BeginsAsSymbol, IsDrawingOf}, Steps.Sheet.{ShowsOn, is_dark_on}}
 
 -- a product of numbers that are at most a and b
@@ -35,14 +35,14 @@ module _ (kind : Drawing) (margin : ℕ) (squares : List Grid) (text : List ℕ)
       let f = begins-at squares 0 h.begin h.some in
       let e : margin ≡ margin + 0 = omega arith in
       ap (λ z. is_dark_at margin (square_at squares 0) z z) e
-      ∙ (is_dark_at_inside margin 0 0 (square_at squares 0) (omega (arith, f.least)) (omega (arith, f.least)) ∙ f.corner)
+      ∙ (is_dark_at-inside margin 0 0 (square_at squares 0) (omega (arith, f.least)) (omega (arith, f.least)) ∙ f.corner)
 
 -- column 7 of row 0 of the first raster is light
 pub separator-light : (margin : ℕ) (squares : List Grid) (kind : Drawing) (text : List ℕ) → IsDrawingOf kind margin squares text
     → is_dark_at margin (square_at squares 0) 0 7 ≡ false
 separator-light zero squares kind text h =
     let b = begins-at squares 0 h.begin h.some in
-    is_dark_at_inside 0 0 7 (square_at squares 0) (omega (arith, b.least)) (omega (arith, b.least)) ∙ b.separator
+    is_dark_at-inside 0 0 7 (square_at squares 0) (omega (arith, b.least)) (omega (arith, b.least)) ∙ b.separator
 separator-light (suc margin) squares kind text h = is_dark_at_above (suc margin) 0 7 (square_at squares 0) (omega arith)
 
 -- a sheet also shows the squares if its width, number of rasters and bytes are replaced by equal ones
@@ -66,7 +66,7 @@ module _ (kind : Drawing) (width count : ℕ) (bytes : List ℕ) (margin : ℕ) 
       let n = shows.count_is in
       let e : margin + 0 ≡ margin = omega arith in
       shows.places 0 margin margin (omega arith) (omega (arith, f.least)) (omega (arith, f.least))
-      ∙ (ap (λ z. is_dark_at margin (square_at squares 0) z z) (sym e) ∙ (is_dark_at_inside margin 0 0 (square_at squares 0) (omega (arith, f.least)) (omega (arith, f.least)) ∙ f.corner))
+      ∙ (ap (λ z. is_dark_at margin (square_at squares 0) z z) (sym e) ∙ (is_dark_at-inside margin 0 0 (square_at squares 0) (omega (arith, f.least)) (omega (arith, f.least)) ∙ f.corner))
 
   -- the modules of the diagonal in the margin are light
   pub diagonal-light : (i : ℕ) → i < margin → is_dark_on kind width bytes 0 i i ≡ false
@@ -87,7 +87,7 @@ module _ (kind : Drawing) (width count : ℕ) (bytes : List ℕ) (margin : ℕ) 
       let side : width - 2 * margin ≡ g.side = omega arith in
       b.whole ∙ (ap (λ s. square s (colour g)) (sym side)
       ∙ square-same (width - 2 * margin) (colour g) (λ r c. is_dark_on kind width bytes k (margin + r) (margin + c))
-      (λ r c l m. sym (shows.places k (margin + r) (margin + c) (omega arith) (omega arith) (omega arith) ∙ is_dark_at_inside margin r c g (omega arith) (omega arith))))
+      (λ r c l m. sym (shows.places k (margin + r) (margin + c) (omega arith) (omega arith) (omega arith) ∙ is_dark_at-inside margin r c g (omega arith) (omega arith))))
 
 -- two margins that a sheet shows are one
 pub one-margin : (kind : Drawing) (width count : ℕ) (bytes : List ℕ) (m n : ℕ) (s t : List Grid)

@@ -1,6 +1,6 @@
 -- The boxes of an SVG document are at its dark modules: each box is a run, and each dark module is in one.
 use Rattle.std.proofs.Common.{◌≡◌, ◌≤◌, ◌<◌, ◌+◌, ◌-◌, ◌*◌, ◌∙◌, ◌++◌, ◌&&◌, ◌||◌, leb, ltb, ℕ, zero, suc, Bool, true, false, cond, eqb, List, [], ◌∷◌, length, refl, sym, ap, subst, arith, inl, inr, append-nil}
-use Rattle.std.proofs.{lemmas.Bool.{cases_lt, eqb-true}, lemmas.Bool.Decides.nat_tests}
+use Rattle.std.proofs.{lemmas.Bool.{cases_lt, eqb-true, false_from_ne_true}, lemmas.Bool.Decides.nat_tests}
 use Rattle.std.proofs.lemmas.{Nat.same_from_place, List.Sums.{prefix_len-le-length, prefix_len_passes}, List.FromFn.{get_or-range_with_len, length-range_with_len}}
 use Rattle.std.specs.List.{prefix_len, range_with_len}
 use Rattle.qr_matrix.specs.Grid.{Grid}
@@ -177,11 +177,6 @@ all-boxes margin squares r c =
     or true = refl
     or false = refl
 
--- a test that cannot be true is false
-not-true : (b : Bool) → (b ≡ true → ⊥) → b ≡ false
-not-true true h = absurd (h refl)
-not-true false h = refl
-
 -- a box has a place of its run
 hits-true : (width margin r c k : ℕ) (g : Grid) (y x : ℕ) → begins_run margin g y x ≡ true → k * width + y ≡ r → x ≤ c → c < x + run_length margin g y x → hits width margin r c k g y x ≡ true
 unfolding hits
@@ -230,7 +225,7 @@ boxes-off : (width margin : ℕ) (squares : List Grid) → ((k : ℕ) → k < le
 unfolding any_hits
 boxes-off width margin squares same k y x in_k in_y in_x light =
     any-false (length squares) _ (λ i in_i. any-false (raster_width margin (square_at squares i)) _ (λ z in_z. any-false (raster_width margin (square_at squares i)) _ (λ s in_s.
-    not-true _ (λ h.
+    false_from_ne_true _ (λ h.
     let g = square_at squares i in
     let w = same i in_i in
     let hit = hits-in (raster_width margin g) margin (k * width + y) x i g z s h in

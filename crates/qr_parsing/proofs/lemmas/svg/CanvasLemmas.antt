@@ -1,5 +1,5 @@
 -- The canvas of an SVG document while it is painted.
-use Rattle.std.proofs.Common.{◌≡◌, ◌≤◌, ◌<◌, ◌≢◌, ◌+◌, ◌*◌, ◌/◌, ◌%◌, ◌∙◌, ◌++◌, ◌&&◌, ◌||◌, leb, ltb, ℕ, Bool, true, false, cond, eqb, List, ◌∷◌, length, drop, take, get_or, set, replicate, refl, sym, ap, subst, arith, inl, inr}
+use Rattle.std.proofs.Common.{◌≡◌, ◌≤◌, ◌<◌, ◌≢◌, ◌+◌, ◌*◌, ◌/◌, ◌%◌, ◌∙◌, ◌++◌, ◌&&◌, ◌||◌, leb, ltb, ℕ, Bool, true, false, cond, eqb, List, ◌∷◌, length, drop, take, get_or, set, replicate, refl, sym, ap, arith, inl, inr}
 use Rattle.std.proofs.lemmas.{Bool.cases_lt, Bool.Decides.nat_tests, Nat.div-mul-add, Nat.mod-mul-add}
 use Rattle.std.proofs.lemmas.List.{length-set, get_or-set_same, get_or-set_other, FromFn.fill_by_all, get_or-replicate, length-replicate}
 use Rattle.std.proofs.Math.Seq.{take-append_seam}
@@ -13,18 +13,11 @@ split-place i w some = omega arith
 -- the byte that is painted is 1, as the box up to this column demands
 painted-same : (w y x col : ℕ) (bytes old : List ℕ) → col < w → x ≤ col → y * w + col < length bytes
     → get_or (set bytes (y * w + col) 1) (y * w + col) 0 ≡ cond (eqb ((y * w + col) / w) y && (leb x ((y * w + col) % w) && ltb ((y * w + col) % w) (col + 1))) 1 (get_or old (y * w + col) 0)
-painted-same w y x col bytes old lt le fits =
-    let a : (y * w + col) / w ≡ y = div-mul-add y w col lt in
-    let b : (y * w + col) % w ≡ col = mod-mul-add y w col lt in
-    let test : (eqb y y && (leb x col && ltb col (col + 1))) ≡ true = grind (arith, nat_tests) in
-    get_or-set_same bytes (y * w + col) 1 0 fits ∙ sym (rw (a, b, test) refl)
+painted-same w y x col bytes old lt le fits = search (arith, div-mul-add, mod-mul-add, nat_tests, get_or-set_same)
 
 -- one column more makes no difference to whether another place is in the box
 same-test : (w y x col i : ℕ) → 0 < w → i ≢ y * w + col → (eqb (i / w) y && (leb x (i % w) && ltb (i % w) (col + 1))) ≡ (eqb (i / w) y && (leb x (i % w) && ltb (i % w) col))
-same-test w y x col i some other =
-    let e = split-place i w some in
-    let out : i / w ≡ y → i % w ≡ col → ⊥ = λ f g. other (sym e ∙ (λ t. f t * w + g t)) in
-    grind (arith, nat_tests, out)
+same-test w y x col i some other = search (arith, split-place, nat_tests)
 
 -- if the box is painted up to a column, and one module more is painted, the box is painted up to the next column
 pub painted : (w h y x col : ℕ) (bytes old : List ℕ) → 0 < w → col < w → x ≤ col → y * w + col < length bytes
@@ -35,8 +28,7 @@ painted w h y x col bytes old some lt le fits before i in_i = elim (cases_lt i (
   | inr g ↦ elim (cases_lt (y * w + col) i) [
     | inl l ↦ other (omega arith)
     | inr m ↦ let e : y * w + col ≡ i = omega arith in
-        let P : ℕ → Type 0 = λ i. get_or (set bytes (y * w + col) 1) i 0 ≡ cond (eqb (i / w) y && (leb x (i % w) && ltb (i % w) (col + 1))) 1 (get_or old i 0) in
-        subst P e (painted-same w y x col bytes old lt le fits)
+        search (arith, painted-same)
   ]
 ]
   where
@@ -50,9 +42,9 @@ painted-two w h y x old area some in_y in_x i in_i =
     let one = place-in h w y x in_y (omega arith) in
     let two = place-in h w y (x + 1) in_y in_x in
     let long = length-set old (y * w + x) 1 in
-    let first = painted w h y x x old old some (omega arith) (omega arith) (omega (arith, one)) (λ i l. none i) in
+    let first = painted w h y x x old old some (omega arith) (omega arith) (omega arith) (λ i l. none i) in
     let e : x + 1 + 1 ≡ x + 2 = omega arith in
-    painted w h y x (x + 1) (set old (y * w + x) 1) old some in_x (omega arith) (omega (arith, two, long)) (λ i l. first i (omega (arith, long))) i (omega (arith, long))
+    painted w h y x (x + 1) (set old (y * w + x) 1) old some in_x (omega arith) (omega arith) (λ i l. first i (omega arith)) i (omega arith)
     ∙ ap (λ n. cond (eqb (i / w) y && (leb x (i % w) && ltb (i % w) n)) 1 (get_or old i 0)) e
   where
     none : (i : ℕ) → get_or old i 0 ≡ cond (eqb (i / w) y && (leb x (i % w) && ltb (i % w) x)) 1 (get_or old i 0)
@@ -86,8 +78,7 @@ canvas-is w h n bytes new numbers e f g painted =
     ap (λ z. take z (new ++ drop (length new) bytes)) k ∙ (take-append_seam new (drop (length new) bytes)
     ∙ fill_by_all (λ i. cond (is_in_boxes numbers (i / w) (i % w)) 1 0) new (w * h) 0 g (λ i lt.
     let long : length bytes ≡ w * h = ap length e ∙ length-replicate (w * h) 0 in
-    let none : get_or bytes i 0 ≡ 0 = ap (λ l. get_or l i 0) e ∙ get_or-replicate (w * h) i 0 0 lt in
-    painted i (omega arith) ∙ ap (λ z. cond (is_in_boxes numbers (i / w) (i % w)) 1 z) none))
+    search (arith, get_or-replicate, painted)))
 
 -- the byte of each module of a whole raster is on the canvas
 pub canvas-inside : (w high count k y x : ℕ) → 8 ≤ w → count ≡ high / w → k < count → y < w → x < w → (k * w + y) * w + x < w * high

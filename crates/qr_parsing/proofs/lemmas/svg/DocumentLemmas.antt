@@ -80,8 +80,8 @@ module _ (margin : ℕ) (squares : List Grid) (text : List ℕ) (h : IsDrawingOf
       let few = h.few in
       let bound : wide * length squares ≤ 687 * 16 = product wide (length squares) w.1 few in
       ap numbers_in h.is_drawn
-      ∙ document-read wide high (stack_path margin squares) (all_numbers margin squares) (omega (arith, w.1)) (omega arith)
-      (λ rest. stack-read margin squares rest (λ k lt. let e = one-width margin k squares h.one_side lt in omega (arith, w.1)) few)
+      ∙ document-read wide high (stack_path margin squares) (all_numbers margin squares) (omega arith) (omega arith)
+      (λ rest. stack-read margin squares rest (λ k lt. let e = one-width margin k squares h.one_side lt in omega arith) few)
     where
       product : (a b : ℕ) → a ≤ 687 → b ≤ 16 → a * b ≤ 687 * 16
       product a b l m = grind arith
@@ -132,7 +132,7 @@ module _ (margin : ℕ) (squares : List Grid) (text : List ℕ) (h : IsDrawingOf
   unfolding high
   count-is =
       let w = wide-in in
-      let some : 0 < wide = omega (arith, w.0) in
+      let some : 0 < wide = omega arith in
       sym (mul-div_cancel_left (length squares) some) ∙ (λ i. height-is i / width-is i)
 
   bytes-are : canvas ≡ bytes_in Svg text
@@ -150,8 +150,8 @@ module _ (margin : ℕ) (squares : List Grid) (text : List ℕ) (h : IsDrawingOf
       let few = h.few in
       let end = codes "\"/>\n" ++ codes "</svg>\n" in
       let bound : wide * length squares ≤ 687 * 16 = product wide (length squares) w.1 few in
-      let is : path_in text ≡ path_in (stack_path margin squares ++ end) = ap path_in h.is_drawn ∙ document-path wide high (stack_path margin squares) (omega (arith, w.1)) (omega arith) in
-      let path = stack-is-path margin squares end (λ k lt. let e = one-width margin k squares h.one_side lt in omega (arith, w.1)) few refl in
+      let is : path_in text ≡ path_in (stack_path margin squares ++ end) = ap path_in h.is_drawn ∙ document-path wide high (stack_path margin squares) (omega arith) (omega arith) in
+      let path = stack-is-path margin squares end (λ k lt. let e = one-width margin k squares h.one_side lt in omega arith) few refl in
       let nums : all_numbers margin squares ≡ drop 16 (numbers_in text) = sym (ap (drop 16) numbers) in
       subst (λ n. IsPath n (path_in text)) nums (subst (IsPath (all_numbers margin squares)) (sym is) (path-from (all_numbers margin squares) (stack_path margin squares ++ end) path))
     where

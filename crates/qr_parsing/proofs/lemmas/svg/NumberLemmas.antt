@@ -1,5 +1,5 @@
 -- The numbers of texts, and which places are in boxes.
-use Rattle.std.proofs.Common.{◌≡◌, ◌≤◌, ◌<◌, ◌+◌, ◌-◌, ◌*◌, ◌/◌, ◌%◌, ◌∙◌, ◌++◌, ◌||◌, ℕ, zero, suc, min, cond, ◌^◌, Bool, true, false, List, [], ◌∷◌, length, drop, get_or, refl, sym, ap, arith, inl, inr, add-one, append_assoc, drop-cons, length-append}
+use Rattle.std.proofs.Common.{◌≡◌, ◌≤◌, ◌<◌, ◌+◌, ◌-◌, ◌*◌, ◌/◌, ◌%◌, ◌∙◌, ◌++◌, ◌||◌, ℕ, zero, suc, ◌^◌, Bool, true, false, List, [], ◌∷◌, length, drop, get_or, refl, sym, ap, arith, inl, inr, add-one, append_assoc, drop-cons, length-append}
 use Rattle.std.proofs.Math.Nat.{pow-suc}
 use Rattle.std.{proofs.{lemmas.Fmt.{decimal_digit, decimal_step}, lemmas.Bool.cases_lt, lemmas.Bool.Decides.nat_tests}, specs.Prelude.{codes, decimal}}
 use Rattle.qr_drawing.specs.Raster.{texts_below}
@@ -11,30 +11,21 @@ use Rattle.qr_parsing.proofs.lemmas.text.PlaceLemmas.{texts-first}
 -- one more digit is read as ten times the number before it, plus the digit
 digit-read : (m d : ℕ) (inside : Bool) (rest : List ℕ) → d < 10 → m * 10 + d ≤ 99999 → numbers_after m inside ((48 + d) ∷ rest) ≡ numbers_after (m * 10 + d) true rest
 unfolding numbers_after
-digit-read m d inside rest lt le =
-    let e : is_digit (48 + d) ≡ true = grind (arith, nat_tests) in
-    let f : min (m * 10 + (48 + d - 48)) 99999 ≡ m * 10 + d = omega arith in
-    rw (e, f) refl
+digit-read m d inside rest lt le = search (arith, nat_tests)
 
 -- the digits of a number are read as this number
 decimal-read : (f n : ℕ) (rest : List ℕ) → n < f → n ≤ 99999 → numbers_after 0 false (decimal n ++ rest) ≡ numbers_after n true rest
 decimal-read zero n rest lt le = absurd (omega arith)
 decimal-read (suc f) n rest lt le = elim (cases_lt n 10) [
-  | inl l ↦
-      let e : 0 * 10 + n ≡ n = omega arith in
-      ap (λ t. numbers_after 0 false (t ++ rest)) (decimal_digit n l) ∙ (digit-read 0 n false rest l (omega arith) ∙ ap (λ z. numbers_after z true rest) e)
+  | inl l ↦ search (arith, decimal_digit, digit-read)
   | inr g ↦
-      let e : n / 10 * 10 + n % 10 ≡ n = omega arith in
-      ap (λ t. numbers_after 0 false (t ++ rest)) (decimal_step n g (omega arith))
-      ∙ (ap (numbers_after 0 false) (append_assoc (decimal (n / 10)) ((48 + n % 10) ∷ []) rest)
-      ∙ (decimal-read f (n / 10) ((48 + n % 10) ∷ rest) (omega arith) (omega arith)
-      ∙ (digit-read (n / 10) (n % 10) true rest (omega arith) (omega arith) ∙ ap (λ z. numbers_after z true rest) e)))
+      search (arith, decimal_step, append_assoc, digit-read, decimal-read f (n / 10) ((48 + n % 10) ∷ rest) (omega arith) (omega arith))
 ]
 
 -- a number is read whole if a byte that is no digit comes after it
 pub number-read : (n b : ℕ) (rest : List ℕ) → n ≤ 99999 → is_digit b ≡ false → numbers_after 0 false (decimal n ++ (b ∷ rest)) ≡ n ∷ numbers_after 0 false rest
 unfolding numbers_after
-number-read n b rest le e = decimal-read (suc n) n (b ∷ rest) (omega arith) le ∙ rw e refl
+number-read n b rest le e = search (arith, decimal-read)
 
 -- the five numbers of a box
 unfoldable pub box_numbers : ℕ → ℕ → ℕ → List ℕ
@@ -53,17 +44,12 @@ box-split x y n rest = regroup (codes "M") (decimal x) (codes " ") (decimal y) (
 pub box-read : (x y n : ℕ) (rest : List ℕ) → x ≤ 99999 → y ≤ 99999 → n ≤ 99999
     → numbers_after 0 false (box_path x y n ++ rest) ≡ box_numbers x y n ++ numbers_after 0 false rest
 unfolding box_numbers numbers_after
-box-read x y n rest a b c =
-    ap (numbers_after 0 false) (box-split x y n rest)
-    ∙ (number-read x 32 (decimal y ++ (104 ∷ (decimal n ++ (118 ∷ 49 ∷ 104 ∷ 45 ∷ (decimal n ++ (122 ∷ rest)))))) a refl
-    ∙ ap (λ l. x ∷ l) (number-read y 104 (decimal n ++ (118 ∷ 49 ∷ 104 ∷ 45 ∷ (decimal n ++ (122 ∷ rest)))) b refl
-    ∙ ap (λ l. y ∷ l) (number-read n 118 (49 ∷ 104 ∷ 45 ∷ (decimal n ++ (122 ∷ rest))) c refl
-    ∙ ap (λ l. n ∷ l) (ap (λ l. 1 ∷ l) (number-read n 122 rest c refl)))))
+box-read x y n rest a b c = search (arith, box-split, number-read)
 
 -- if the numbers of each text are known, those of all texts are these, one after the other
 pub texts-read : (n : ℕ) (f g : ℕ → List ℕ) → ((k : ℕ) → k < n → (rest : List ℕ) → numbers_after 0 false (f k ++ rest) ≡ g k ++ numbers_after 0 false rest)
     → (rest : List ℕ) → numbers_after 0 false (texts_below n f ++ rest) ≡ texts_below n g ++ numbers_after 0 false rest
-texts-read zero f g h rest = ap (λ t. numbers_after 0 false (t ++ rest)) (no-texts f) ∙ ap (λ t. t ++ numbers_after 0 false rest) (sym (no-texts g))
+texts-read zero f g h rest = cc (no-texts f, no-texts g)
 texts-read (suc n) f g h rest =
     let more = texts_below n (λ i. f (suc i)) in
     ap (λ t. numbers_after 0 false (t ++ rest)) (texts-first n f)
@@ -78,43 +64,28 @@ texts-read (suc n) f g h rest =
 -- one more digit at the beginning is read as ten times the number before it, plus the digit
 leading-digit : (m d : ℕ) (rest : List ℕ) → d < 10 → leading m ((48 + d) ∷ rest) ≡ leading (m * 10 + d) rest
 unfolding leading
-leading-digit m d rest lt =
-    let e : is_digit (48 + d) ≡ true = grind (arith, nat_tests) in
-    let f : m * 10 + (48 + d - 48) ≡ m * 10 + d = omega arith in
-    rw (e, f) refl
+leading-digit m d rest lt = search (arith, nat_tests)
 
 -- the digits of a number at the beginning are read as this number
 leading-decimal : (f n : ℕ) (rest : List ℕ) → n < f → n ≤ 99999 → leading 0 (decimal n ++ rest) ≡ leading n rest
 leading-decimal zero n rest lt le = absurd (omega arith)
 leading-decimal (suc f) n rest lt le = elim (cases_lt n 10) [
-  | inl l ↦
-      let e : 0 * 10 + n ≡ n = omega arith in
-      ap (λ t. leading 0 (t ++ rest)) (decimal_digit n l) ∙ (leading-digit 0 n rest l ∙ ap (λ z. leading z rest) e)
+  | inl l ↦ search (arith, decimal_digit, leading-digit)
   | inr g ↦
-      let e : n / 10 * 10 + n % 10 ≡ n = omega arith in
-      ap (λ t. leading 0 (t ++ rest)) (decimal_step n g (omega arith))
-      ∙ (ap (leading 0) (append_assoc (decimal (n / 10)) ((48 + n % 10) ∷ []) rest)
-      ∙ (leading-decimal f (n / 10) ((48 + n % 10) ∷ rest) (omega arith) (omega arith)
-      ∙ (leading-digit (n / 10) (n % 10) rest (omega arith) ∙ ap (λ z. leading z rest) e)))
+      search (arith, decimal_step, append_assoc, leading-digit, leading-decimal f (n / 10) ((48 + n % 10) ∷ rest) (omega arith) (omega arith))
 ]
 
 -- a number at the beginning is read whole if a byte that is no digit comes after it
 pub leading-read : (n b : ℕ) (rest : List ℕ) → n ≤ 99999 → is_digit b ≡ false → leading 0 (decimal n ++ (b ∷ rest)) ≡ (n, rest)
 unfolding leading
-leading-read n b rest le e = leading-decimal (suc n) n (b ∷ rest) (omega arith) le ∙ rw e refl
+leading-read n b rest le e = search (arith, leading-decimal)
 
 -- a digit is a byte that is at most 9 more than `0`
 pub digit-by : (b : ℕ) → b < 256 → (b + 208) % 256 ≤ 9 → is_digit b ≡ true
-digit-by b lt le =
-    let low : 48 ≤ b = omega arith in
-    let high : b < 58 = omega arith in
-    grind (arith, nat_tests)
+digit-by b lt le = search (arith, nat_tests)
 
 pub no-digit-by : (b : ℕ) → b < 256 → 9 < (b + 208) % 256 → is_digit b ≡ false
-no-digit-by b lt gt = elim (cases_lt b 48) [
-  | inl l ↦ grind (arith, nat_tests)
-  | inr g ↦ let high : 58 ≤ b = omega arith in grind (arith, nat_tests)
-]
+no-digit-by b lt gt = search (arith, nat_tests)
 
 -- a byte that is no digit ends a number
 pub leading-stop : (m b : ℕ) (bytes : List ℕ) → is_digit b ≡ false → leading m (b ∷ bytes) ≡ (m, bytes)
@@ -130,9 +101,7 @@ leading-more m b bytes e = rw e refl
 pub leading-shorter : (m : ℕ) (bytes : List ℕ) → length (leading m bytes).1 ≤ length bytes - 1
 unfolding leading
 leading-shorter m [] = omega arith
-leading-shorter m (b ∷ bytes) =
-    let h = leading-shorter (m * 10 + (b - 48)) bytes in
-    elim (is_digit b) as (λ d. length (cond d (leading (m * 10 + (b - 48)) bytes) (m, bytes)).1 ≤ suc (length bytes) - 1) [ true ↦ omega arith | false ↦ omega arith ]
+leading-shorter m (b ∷ bytes) = search (arith, leading-shorter (m * 10 + (b - 48)) bytes)
 
 -- the bytes from an index on are the byte at this index, and the bytes from the next index on
 pub drop-one : (bytes : List ℕ) (j : ℕ) → j < length bytes → drop j bytes ≡ get_or bytes j 0 ∷ drop (j + 1) bytes
@@ -140,21 +109,17 @@ drop-one bytes j lt = rw add-one (drop-cons bytes j 0 lt)
 
 -- a number with one more digit is below ten times the bound
 pub one-digit-more : (n d i : ℕ) → n < 10 ^ i → d < 10 → n * 10 + d < 10 ^ (i + 1)
-one-digit-more n d i lt small = let e : 10 ^ (i + 1) ≡ 10 ^ i * 10 = rw add-one (pow-suc 10 i) in omega (arith, e)
+one-digit-more n d i lt small = let e : 10 ^ (i + 1) ≡ 10 ^ i * 10 = rw add-one (pow-suc 10 i) in omega arith
 
 -- the text of a number of one digit has one byte; the next two lemmas are for two and for three digits
 pub digits-one : (n : ℕ) → n < 10 → length (decimal n) ≡ 1
 digits-one n lt = ap length (decimal_digit n lt)
 
 pub digits-two : (n : ℕ) → 10 ≤ n → n < 100 → length (decimal n) ≡ 2
-digits-two n le lt =
-    let more = ap length (decimal_step n le (omega arith)) ∙ length-append (decimal (n / 10)) ((48 + n % 10) ∷ []) in
-    omega (arith, more, digits-one (n / 10) (omega arith))
+digits-two n le lt = search (arith, decimal_step, length-append, digits-one)
 
 pub digits-three : (n : ℕ) → 100 ≤ n → n ≤ 999 → length (decimal n) ≡ 3
-digits-three n le lt =
-    let more = ap length (decimal_step n (omega arith) (omega arith)) ∙ length-append (decimal (n / 10)) ((48 + n % 10) ∷ []) in
-    omega (arith, more, digits-two (n / 10) (omega arith) (omega arith))
+digits-three n le lt = search (arith, decimal_step, length-append, digits-two)
 
 -- ---- places in boxes
 

@@ -1,5 +1,5 @@
 -- The boxes of a path, one after the other.
-use Rattle.std.proofs.Common.{zero, suc, ◌≡◌, ◌≢◌, ◌≤◌, ◌<◌, ◌+◌, ◌/◌, ◌%◌, ◌∙◌, ◌++◌, ◌⊎◌, ℕ, eqb, not, cond, true, false, List, [], ◌∷◌, length, drop, get_or, decimal, refl, sym, ap, subst, arith, inl, inr, append_assoc, length-append}
+use Rattle.std.proofs.Common.{zero, suc, ◌≡◌, ◌≢◌, ◌≤◌, ◌<◌, ◌+◌, ◌/◌, ◌%◌, ◌∙◌, ◌++◌, ◌⊎◌, ℕ, eqb, not, cond, true, false, List, [], ◌∷◌, length, drop, get_or, decimal, refl, sym, ap, arith, inl, inr, append_assoc, length-append}
 use Rattle.std.proofs.{Math.Seq.drop-append-add, lemmas.{Bool.cases_lt, Bool.Decides.nat_tests, Fmt.{decimal_digit, decimal_nonempty, decimal_step}, List.drop-drop}}
 use Rattle.std.specs.List.{position_or_len}
 use Rattle.qr_drawing.specs.Raster.{texts_below}
@@ -25,11 +25,11 @@ modules-long n rest = omega (arith, length-append (decimal n) (122 ∷ rest))
 
 pub row-long : (n : ℕ) (rest : List ℕ) → n ≤ 999 → 6 ≤ length (after_row n rest)
 unfolding after_row
-row-long n rest le = omega (arith, length-append (decimal n) (118 ∷ after_modules n rest), modules-long n rest, decimal_nonempty n (omega arith))
+row-long n rest le = search (arith, length-append, modules-long, decimal_nonempty)
 
 pub column-long : (y n : ℕ) (rest : List ℕ) → n ≤ 999 → 6 ≤ length (after_column y n rest)
 unfolding after_column
-column-long y n rest le = omega (arith, length-append (decimal y) (104 ∷ after_row n rest), row-long n rest le)
+column-long y n rest le = search (arith, length-append, row-long)
 
 -- the path begins with this box, and then comes a path of the rest
 pub record FirstBox (numbers bytes : List ℕ) : Type 0 where
@@ -51,25 +51,8 @@ pub record FirstBox (numbers bytes : List ℕ) : Type 0 where
 pub first-box : (numbers bytes : List ℕ) → IsPath numbers bytes → 0 < length bytes → get_or bytes 0 0 ≡ 77 → FirstBox numbers bytes
 unfolding after_column after_row after_modules
 first-box [] [] h some m = absurd (omega arith)
-first-box [] (b ∷ bytes) h some m =
-    let e : path_in (b ∷ bytes) ≡ 77 ∷ bytes = rw m refl in
-    let no : ◌≡◌ {A = List ℕ} (77 ∷ bytes) [] = sym e ∙ h in
-    absurd (cc no)
-first-box (x ∷ y ∷ n ∷ high ∷ back ∷ more) bytes h some m = record {
-  x = x;
-  y = y;
-  modules = n;
-  high = high;
-  back = back;
-  more = more;
-  rest = h.0;
-  numbers_are = refl;
-  x_in = h.1;
-  y_in = h.2;
-  modules_in = h.3;
-  bytes_are = h.4 ∙ box-split x y n h.0;
-  path = h.5;
-}
+first-box [] (b ∷ bytes) h some m = search arith
+first-box (x ∷ y ∷ n ∷ high ∷ back ∷ more) bytes h some m = search (arith, box-split)
 first-box (x ∷ []) bytes h some m = absurd h
 first-box (x ∷ y ∷ []) bytes h some m = absurd h
 first-box (x ∷ y ∷ n ∷ []) bytes h some m = absurd h
@@ -80,9 +63,7 @@ pub no-box : (numbers bytes : List ℕ) → IsPath numbers bytes → (length byt
 unfolding after_column after_row after_modules
 no-box [] bytes h none = refl
 no-box (x ∷ y ∷ n ∷ high ∷ back ∷ more) bytes h none =
-    let e = h.4 ∙ box-split x y n h.0 in
-    let long = length-append (decimal x) (32 ∷ after_column y n h.0) in
-    absurd (elim none [ inl z ↦ omega (arith, ap length e, long, column-long y n h.0 h.3, decimal_nonempty x (omega (arith, h.1))) | inr o ↦ o (ap (λ l. get_or l 0 0) e) ])
+    search (arith, box-split, length-append, column-long, decimal_nonempty)
 no-box (x ∷ []) bytes h none = absurd h
 no-box (x ∷ y ∷ []) bytes h none = absurd h
 no-box (x ∷ y ∷ n ∷ []) bytes h none = absurd h
@@ -95,31 +76,26 @@ path-start (b ∷ bytes) =
     let h = path-start bytes in
     elim (eqb b 77) as (λ d. drop (cond (not d) (1 + position_or_len (λ byte. eqb byte 77) bytes) 0) (b ∷ bytes) ≡ cond d (b ∷ bytes) (path_in bytes)) [
       | true ↦ refl
-      | false ↦ let e : 1 + position_or_len (λ byte. eqb byte 77) bytes ≡ suc (position_or_len (λ byte. eqb byte 77) bytes) = omega arith in ap (λ n. drop n (b ∷ bytes)) e ∙ h
+      | false ↦ search arith
     ]
 
 -- the path of a text does not begin at a digit
 digit-passed : (d : ℕ) (rest : List ℕ) → d < 10 → path_in ((48 + d) ∷ rest) ≡ path_in rest
-digit-passed d rest lt = let e : eqb (48 + d) 77 ≡ false = grind (arith, nat_tests) in rw e refl
+digit-passed d rest lt = search (arith, nat_tests)
 
 -- the path of a text does not begin in a number
 pub decimal-passed : (f n : ℕ) (rest : List ℕ) → n < f → n ≤ 99999 → path_in (decimal n ++ rest) ≡ path_in rest
 decimal-passed zero n rest lt le = absurd (omega arith)
 decimal-passed (suc f) n rest lt le = elim (cases_lt n 10) [
-  | inl l ↦ ap (λ t. path_in (t ++ rest)) (decimal_digit n l) ∙ digit-passed n rest l
+  | inl l ↦ cc (decimal_digit n l, digit-passed n rest l)
   | inr g ↦
-      ap (λ t. path_in (t ++ rest)) (decimal_step n g (omega arith))
-      ∙ (ap path_in (append_assoc (decimal (n / 10)) ((48 + n % 10) ∷ []) rest)
-      ∙ (decimal-passed f (n / 10) ((48 + n % 10) ∷ rest) (omega arith) (omega arith) ∙ digit-passed (n % 10) rest (omega arith)))
+      search (arith, decimal_step, append_assoc, digit-passed, decimal-passed f (n / 10) ((48 + n % 10) ∷ rest) (omega arith) (omega arith))
 ]
 
 -- a path is its own part from the first `M` on
 pub path-from : (numbers bytes : List ℕ) → IsPath numbers bytes → IsPath numbers (path_in bytes)
 path-from [] bytes h = ap path_in h
-path-from (x ∷ y ∷ n ∷ high ∷ back ∷ more) bytes h =
-    let e = h.4 ∙ box-split x y n h.0 in
-    let f : path_in bytes ≡ bytes = rw e refl in
-    subst (IsPath (x ∷ y ∷ n ∷ high ∷ back ∷ more)) (sym f) h
+path-from (x ∷ y ∷ n ∷ high ∷ back ∷ more) bytes h = search (arith, box-split)
 path-from (x ∷ []) bytes h = absurd h
 path-from (x ∷ y ∷ []) bytes h = absurd h
 path-from (x ∷ y ∷ n ∷ []) bytes h = absurd h
@@ -128,17 +104,12 @@ path-from (x ∷ y ∷ n ∷ high ∷ []) bytes h = absurd h
 -- if each text put before a path yields a path, so do all texts, one after the other
 pub texts-path : (n : ℕ) (f g : ℕ → List ℕ) → ((k : ℕ) → k < n → (numbers bytes : List ℕ) → IsPath numbers bytes → IsPath (g k ++ numbers) (f k ++ bytes))
     → (numbers bytes : List ℕ) → IsPath numbers bytes → IsPath (texts_below n g ++ numbers) (texts_below n f ++ bytes)
-texts-path zero f g h numbers bytes path =
-    let P : List ℕ → List ℕ → Type 0 = λ a b. IsPath (a ++ numbers) (b ++ bytes) in
-    subst (λ a. P a (texts_below 0 f)) (sym (no-texts g)) (subst (P []) (sym (no-texts f)) path)
+texts-path zero f g h numbers bytes path = search (arith, no-texts)
 texts-path (suc n) f g h numbers bytes path =
     let more = texts_below n (λ i. f (suc i)) in
     let others = texts_below n (λ i. g (suc i)) in
     let tail = texts-path n (λ i. f (suc i)) (λ i. g (suc i)) (λ k lt. h (suc k) (omega arith)) numbers bytes path in
-    let all = h 0 (omega arith) (others ++ numbers) (more ++ bytes) tail in
-    let e : texts_below (suc n) g ++ numbers ≡ g 0 ++ (others ++ numbers) = ap (λ t. t ++ numbers) (texts-first n g) ∙ append_assoc (g 0) others numbers in
-    let d : texts_below (suc n) f ++ bytes ≡ f 0 ++ (more ++ bytes) = ap (λ t. t ++ bytes) (texts-first n f) ∙ append_assoc (f 0) more bytes in
-    subst (λ a. IsPath a (texts_below (suc n) f ++ bytes)) (sym e) (subst (IsPath (g 0 ++ (others ++ numbers))) (sym d) all)
+    search (arith, texts-first, append_assoc)
 
 -- what follows the `M` begins one byte after it
 pub after-m : (text rest : List ℕ) (at : ℕ) → drop at text ≡ 77 ∷ rest → drop (at + 1) text ≡ rest
@@ -149,5 +120,4 @@ pub after-box : (text rest : List ℕ) (at n back : ℕ) → drop at text ≡ af
 unfolding after_modules
 after-box text rest at n back e f =
     let long : back ≡ suc (suc (suc (length (decimal n) + 1))) = omega arith in
-    sym (drop-drop back at text) ∙ (ap (drop back) e ∙ ap (λ b. drop b (49 ∷ 104 ∷ 45 ∷ (decimal n ++ (122 ∷ rest)))) long
-    ∙ drop-append-add (decimal n) (122 ∷ rest) 1)
+    cc (drop-drop back at text, drop-append-add (decimal n) (122 ∷ rest) 1)

@@ -1,6 +1,6 @@
 -- The sheet of a UTF8 text.
-use Rattle.std.proofs.Common.{◌≡◌, ◌≤◌, ◌<◌, ◌+◌, ◌*◌, ◌/◌, ◌%◌, ◌∙◌, ℕ, zero, suc, Bool, true, false, eqb, ltb, List, [], ◌∷◌, length, get_or, take, refl, sym, ap, arith, inl, inr}
-use Rattle.std.proofs.{Math.Nat.{mul-div_cancel, mul-le-mul_right}, lemmas.Bool.cases_lt, lemmas.Bool.Decides.nat_tests, lemmas.List.{get_or-take, length-take}}
+use Rattle.std.proofs.Common.{◌≡◌, ◌≤◌, ◌<◌, ◌+◌, ◌*◌, ◌/◌, ◌%◌, ◌∙◌, ℕ, zero, suc, Bool, true, false, eqb, List, [], ◌∷◌, length, get_or, take, refl, sym, ap, arith}
+use Rattle.std.proofs.{Math.Nat.{mul-div_cancel, mul-le-mul_right}, lemmas.Bool.Decides.nat_tests, lemmas.List.{get_or-take, length-take}}
 use Rattle.std.specs.List.{filter, position_or_len}
 use Rattle.qr_matrix.specs.Grid.{Grid}
 use Rattle.qr_drawing.specs.{Raster.{is_dark_at, raster_width, texts_below}, Svg.square_at, Text.half_blocks}
@@ -90,11 +90,11 @@ module _ (margin : ℕ) (squares : List Grid) (text : List ℕ) (h : IsDrawingOf
 
   size : (k y x : ℕ) → length (last k y x) ≡ 1
   unfolding last
-  size k y x = last-size (is_dark_at margin (square_at squares k) (2 * y) x) (is_dark_at margin (square_at squares k) (2 * y + 1) x)
+  size k y x = search (arith, last-size)
 
   newline : (k y x j : ℕ) → j < length (last k y x) → eqb (get_or (last k y x) j 0) 10 ≡ false
   unfolding last
-  newline k y x = last-newline (is_dark_at margin (square_at squares k) (2 * y) x) (is_dark_at margin (square_at squares k) (2 * y + 1) x)
+  newline k y x = search (arith, last-newline)
 
   -- the bytes that are kept of all cells
   whole : List ℕ
@@ -106,7 +106,7 @@ module _ (margin : ℕ) (squares : List Grid) (text : List ℕ) (h : IsDrawingOf
 
   cells-are : cells_in text ≡ whole
   unfolding whole last block
-  cells-are = ap (filter is_cell) text-is ∙ cells-filter is_cell (length squares) ((wide + 1) / 2) wide block refl
+  cells-are = search (arith, text-is, cells-filter, wide, block)
 
   -- the byte in which a module is read is the one that is kept of its character
   at : (k y x : ℕ) → k < length squares → y < wide → x < wide
@@ -116,7 +116,7 @@ module _ (margin : ℕ) (squares : List Grid) (text : List ℕ) (h : IsDrawingOf
       let w = wide in
       let l = (wide + 1) / 2 in
       let e : (k * l + y / 2) * (w + 1) + x ≡ (k * l + y / 2) * (w * 1 + 1) + (x * 1 + 0) = omega arith in
-      rw e (cell-at (length squares) l w 1 last size k (y / 2) x 0 a (omega arith) c (omega arith))
+      search (arith, cell-at, last, size)
 
   long : length whole ≡ length squares * ((wide + 1) / 2 * (wide * 1 + 1))
   unfolding whole
@@ -128,42 +128,19 @@ module _ (margin : ℕ) (squares : List Grid) (text : List ℕ) (h : IsDrawingOf
   width-is =
       let w = wide-in in
       let e = ap first_line cells-are ∙ cells-newline (length squares) ((wide + 1) / 2) wide 1 last size h.some (omega arith) newline in
-      omega (arith, e)
+      omega arith
 
   -- the number of squares that is computed from the text is that of the drawing
   count-is : length squares ≡ count_in Utf8 text
-  count-is =
-      let w = wide-in in
-      let n = wide in
-      let l = (wide + 1) / 2 in
-      let one : 1 ≤ l = omega arith in
-      let some : 0 < l * (n * 1 + 1) = omega (arith, mul-le-mul_right (n * 1 + 1) one) in
-      let e : l * (n + 1) ≡ l * (n * 1 + 1) = omega arith in
-      sym (mul-div_cancel (length squares) some)
-      ∙ (λ i. sym (ap length cells-are ∙ long) i / sym e i)
-      ∙ ap (λ z. length (cells_in text) / ((z + 1) / 2 * (z + 1))) width-is
+  count-is = search (arith, wide-in, wide, mul-le-mul_right, mul-div_cancel, cells-are, long, width-is)
 
   -- the last bytes of the cells show the squares with this margin
   shows : ShowsOn Utf8 wide (length squares) whole margin squares
   unfolding is_dark_on wide last
-  shows = record {
-    width_is = refl;
-    count_is = refl;
-    places = λ k y x a b c. ap (is_dark_byte Utf8 y) (at k y x a b c)
-        ∙ elim (cases_lt (y % 2) 1) [
-          | inl lt ↦
-              let f : 2 * (y / 2) ≡ y = omega arith in
-              upper-shown (is_dark_at margin (square_at squares k) (2 * (y / 2)) x) (is_dark_at margin (square_at squares k) (2 * (y / 2) + 1) x) y (omega arith)
-              ∙ ap (λ z. is_dark_at margin (square_at squares k) z x) f
-          | inr ge ↦
-              let f : 2 * (y / 2) + 1 ≡ y = omega arith in
-              lower-shown (is_dark_at margin (square_at squares k) (2 * (y / 2)) x) (is_dark_at margin (square_at squares k) (2 * (y / 2) + 1) x) y (omega arith)
-              ∙ ap (λ z. is_dark_at margin (square_at squares k) z x) f
-        ];
-  }
+  shows = search (arith, at, upper-shown, lower-shown)
 
   pub block-sheet : ShowsOn Utf8 (width_in Utf8 text) (count_in Utf8 text) (bytes_in Utf8 text) margin squares
-  block-sheet = shows-by Utf8 wide (width_in Utf8 text) (length squares) (count_in Utf8 text) whole (cells_in text) margin squares width-is count-is (sym cells-are) shows
+  block-sheet = search (arith, shows-by, wide, whole, width-is, count-is, cells-are, shows)
 
   -- the bytes of a character of the first line are in the text, after the characters before it
   in-line : (x j : ℕ) → x < wide → j < length (block 0 0 x)
@@ -171,8 +148,7 @@ module _ (margin : ℕ) (squares : List Grid) (text : List ℕ) (h : IsDrawingOf
   in-line x j a b =
       let w = wide-in in
       let e = cells-first (length squares) ((wide + 1) / 2) wide x j block h.some (omega arith) a b in
-      let n = ap length text-is in
-      (ap (λ t. get_or t (length (texts_below x (block 0 0)) + j) 0) text-is ∙ e.0, omega (arith, e.1))
+      search (arith, text-is, block)
 
   -- the type that is computed from the text is UTF8, since the character in column 7 begins with E2
   pub block-kind : kind_in text ≡ Utf8
@@ -190,7 +166,6 @@ module _ (margin : ℕ) (squares : List Grid) (text : List ℕ) (h : IsDrawingOf
       let light : get_or text (before + 0) 0 ≡ 0xE2 = seven.0 ∙ (ap (λ u. get_or (half_blocks u (lower 7)) 0 0) (separator-light margin squares Utf8 text h) ∙ light-byte (lower 7)) in
       let begin = take 22 text in
       let n = length-take 22 text in
-      let found : position_or_len (λ byte. eqb byte 0xE2) begin < length begin = position-below 0xE2 (before + 0) begin (omega (arith, seven.1))
+      let found : position_or_len (λ byte. eqb byte 0xE2) begin < length begin = position-below 0xE2 (before + 0) begin (omega arith)
       (ap (λ z. eqb z 0xE2) (get_or-take 22 text (before + 0) 0 (omega arith) ∙ light)) in
-      let test : ltb (position_or_len (λ byte. eqb byte 0xE2) begin) (length begin) ≡ true = grind (arith, nat_tests) in
-      rw (first, test) refl
+      search (arith, nat_tests)

@@ -1,5 +1,5 @@
 -- The bytes of texts by their index. A text consists of the texts of places, or of lines of cells.
-use Rattle.std.proofs.Common.{◌≡◌, ◌≤◌, ◌<◌, ◌+◌, ◌-◌, ◌*◌, ◌/◌, ◌∙◌, ◌++◌, ℕ, zero, suc, Bool, true, false, eqb, List, [], ◌∷◌, length, get_or, refl, sym, ap, arith, inl, inr, length-append}
+use Rattle.std.proofs.Common.{◌≡◌, ◌≤◌, ◌<◌, ◌+◌, ◌-◌, ◌*◌, ◌/◌, ◌∙◌, ◌++◌, ℕ, zero, suc, Bool, true, false, eqb, List, [], ◌∷◌, length, get_or, refl, ap, arith, inl, inr, length-append}
 use Rattle.std.proofs.{Math.Nat.suc-mul, Math.Nat.mul-le-mul_right, lemmas.Bool.cases_lt}
 use Rattle.std.proofs.lemmas.List.{get_or_append_left, get_or-append-add, get_or-append_right, Sums.{fails_before_first, position_or_len_is}, Elements.filter-append}
 use Rattle.std.specs.List.{filter, flat_map, position_or_len, range_with_len}
@@ -12,9 +12,7 @@ use Rattle.qr_parsing.proofs.lemmas.sheet.SheetLemmas.{one-width}
 -- the texts from place a + 1 on are the texts of the next places from a on
 shifted : (a n : ℕ) (f : ℕ → List ℕ) → flat_map f (range_with_len (a + 1) n) ≡ flat_map (λ i. f (suc i)) (range_with_len a n)
 shifted a zero f = refl
-shifted a (suc n) f =
-    let e : a + 1 ≡ suc a = omega arith in
-    cc (shifted (a + 1) n f, ap f e)
+shifted a (suc n) f = search (arith, shifted (a + 1) n f)
 
 -- the texts of n + 1 places are the text of the first, and then those of the others
 pub texts-first : (n : ℕ) (f : ℕ → List ℕ) → texts_below (suc n) f ≡ f 0 ++ texts_below n (λ i. f (suc i))
@@ -27,14 +25,12 @@ texts-length zero len f h = ap length (no-texts f) ∙ omega arith
 texts-length (suc n) len f h =
     let e = ap length (texts-first n f) ∙ length-append (f 0) (texts_below n (λ i. f (suc i))) in
     let t = texts-length n len (λ i. f (suc i)) (λ k lt. h (suc k) (omega arith)) in
-    omega (arith, e, t, h 0 (omega arith), suc-mul n len)
+    omega (arith, h 0 (omega arith), suc-mul n len)
 
 -- byte j of the text i comes after the texts before it and j bytes of its own
 pub text-after : (n i j : ℕ) (f : ℕ → List ℕ) → i < n → j < length (f i) → get_or (texts_below n f) (length (texts_below i f) + j) 0 ≡ get_or (f i) j 0
 text-after zero i j f lt l = absurd (omega arith)
-text-after (suc n) zero j f lt l =
-    let e : length (texts_below 0 f) + j ≡ j = omega (arith, ap length (no-texts f)) in
-    rw (e, texts-first n f) (get_or_append_left (f 0) (texts_below n (λ i. f (suc i))) 0 j l)
+text-after (suc n) zero j f lt l = search (arith, no-texts, texts-first, get_or_append_left)
 text-after (suc n) (suc i) j f lt l =
     let rest = texts_below i (λ i. f (suc i)) in
     let e : length (texts_below (suc i) f) + j ≡ length (f 0) + (length rest + j) = omega (arith, ap length (texts-first i f) ∙ length-append (f 0) rest) in
@@ -44,8 +40,7 @@ text-after (suc n) (suc i) j f lt l =
 -- byte j of the text i is in all texts together
 pub text-inside : (n i j : ℕ) (f : ℕ → List ℕ) → i < n → j < length (f i) → length (texts_below i f) + j < length (texts_below n f)
 text-inside zero i j f lt l = absurd (omega arith)
-text-inside (suc n) zero j f lt l =
-    omega (arith, ap length (no-texts f), ap length (texts-first n f) ∙ length-append (f 0) (texts_below n (λ i. f (suc i))))
+text-inside (suc n) zero j f lt l = search (arith, no-texts, texts-first, length-append)
 text-inside (suc n) (suc i) j f lt l =
     omega (
       arith,
@@ -57,26 +52,24 @@ text-inside (suc n) (suc i) j f lt l =
 -- if the texts have one length, byte j of the text i has the index i * len + j
 pub text-at : (n len i j : ℕ) (f : ℕ → List ℕ) → ((k : ℕ) → k < n → length (f k) ≡ len) → i < n → j < len
     → get_or (texts_below n f) (i * len + j) 0 ≡ get_or (f i) j 0
-text-at n len i j f h lt l =
-    let e : i * len + j ≡ length (texts_below i f) + j = omega (arith, texts-length i len f (λ k less. h k (omega arith))) in
-    ap (λ z. get_or (texts_below n f) z 0) e ∙ text-after n i j f lt (omega (arith, h i lt))
+text-at n len i j f h lt l = search (arith, texts-length, text-after)
 
 -- a byte that is in none of the texts is not in all of them together
 pub texts-without : (b n : ℕ) (f : ℕ → List ℕ) → ((k j : ℕ) → k < n → j < length (f k) → eqb (get_or (f k) j 0) b ≡ false)
     → (i : ℕ) → i < length (texts_below n f) → eqb (get_or (texts_below n f) i 0) b ≡ false
-texts-without b zero f h i lt = let e = ap length (no-texts f) in absurd (omega (arith, e))
+texts-without b zero f h i lt = let e = ap length (no-texts f) in absurd (omega arith)
 texts-without b (suc n) f h i lt =
     let rest = texts_below n (λ i. f (suc i)) in
     let e = ap length (texts-first n f) ∙ length-append (f 0) rest in
     rw (texts-first n f) (elim (cases_lt i (length (f 0))) [
-      | inl l ↦ ap (λ z. eqb z b) (get_or_append_left (f 0) rest 0 i l) ∙ h 0 i (omega arith) l
+      | inl l ↦ search (arith, get_or_append_left)
       | inr l ↦ ap (λ z. eqb z b) (get_or-append_right (f 0) rest (length (f 0)) i 0 refl l)
-          ∙ texts-without b n (λ i. f (suc i)) (λ k j lt. h (suc k) j (omega arith)) (i - length (f 0)) (omega (arith, e))
+          ∙ texts-without b n (λ i. f (suc i)) (λ k j lt. h (suc k) j (omega arith)) (i - length (f 0)) (omega arith)
     ])
 
 -- filtering all texts together is the same as filtering each
 pub texts-filter : (p : ℕ → Bool) (n : ℕ) (f : ℕ → List ℕ) → filter p (texts_below n f) ≡ texts_below n (λ k. filter p (f k))
-texts-filter p zero f = ap (filter p) (no-texts f) ∙ sym (no-texts (λ k. filter p (f k)))
+texts-filter p zero f = search (arith, no-texts)
 texts-filter p (suc n) f =
     cc (
       texts-first n f,
@@ -107,17 +100,17 @@ squares-text lines cell margin squares one =
 -- in this module, each cell has `size` bytes
 module _ (count lines width size : ℕ) (cell : ℕ → ℕ → ℕ → List ℕ) (sizes : (k y x : ℕ) → length (cell k y x) ≡ size) where
   -- a line is as long as its cells and a newline
-  line_length : (k y : ℕ) → length (texts_below width (cell k y) ++ 10 ∷ []) ≡ width * size + 1
-  line_length k y = length-append (texts_below width (cell k y)) (10 ∷ []) ∙ ap (λ n. n + 1) (texts-length width size (cell k y) (λ x lt. sizes k y x))
+  line-length : (k y : ℕ) → length (texts_below width (cell k y) ++ 10 ∷ []) ≡ width * size + 1
+  line-length k y = search (arith, length-append, texts-length)
 
   -- a square is as long as its lines
-  square_length : (k : ℕ) → length (texts_below lines (λ y. texts_below width (cell k y) ++ 10 ∷ [])) ≡ lines * (width * size + 1)
-  square_length k = texts-length lines (width * size + 1) (λ y. texts_below width (cell k y) ++ 10 ∷ []) (λ y lt. line_length k y)
+  square-length : (k : ℕ) → length (texts_below lines (λ y. texts_below width (cell k y) ++ 10 ∷ [])) ≡ lines * (width * size + 1)
+  square-length k = search (arith, texts-length, line-length)
 
   -- the whole text is as long as its squares
   pub cells-length : length (cells_text count lines width cell) ≡ count * (lines * (width * size + 1))
   unfolding cells_text
-  cells-length = texts-length count (lines * (width * size + 1)) (λ k. texts_below lines (λ y. texts_below width (cell k y) ++ 10 ∷ [])) (λ k lt. square_length k)
+  cells-length = search (arith, texts-length, square-length)
 
   -- this is where byte j of line y of the square k is
   line-at : (k y j : ℕ) → k < count → y < lines → j < width * size + 1
@@ -126,18 +119,15 @@ module _ (count lines width size : ℕ) (cell : ℕ → ℕ → ℕ → List ℕ
   line-at k y j a b c =
       let step = width * size + 1 in
       let e : (k * lines + y) * step + j ≡ k * (lines * step) + (y * step + j) = omega arith in
-      rw e (text-at count (lines * step) k (y * step + j) (λ k. texts_below lines (λ y. texts_below width (cell k y) ++ 10 ∷ [])) (λ k lt. square_length k) a (place-in lines step y j b c)
-      ∙ text-at lines step y j (λ y. texts_below width (cell k y) ++ 10 ∷ []) (λ y lt. line_length k y) b c)
+      rw e (text-at count (lines * step) k (y * step + j) (λ k. texts_below lines (λ y. texts_below width (cell k y) ++ 10 ∷ [])) (λ k lt. square-length k) a (place-in lines step y j b c)
+      ∙ text-at lines step y j (λ y. texts_below width (cell k y) ++ 10 ∷ []) (λ y lt. line-length k y) b c)
 
   -- this is where byte j of the cell x of line y of the square k is
   pub cell-at : (k y x j : ℕ) → k < count → y < lines → x < width → j < size
       → get_or (cells_text count lines width cell) ((k * lines + y) * (width * size + 1) + (x * size + j)) 0 ≡ get_or (cell k y x) j 0
   cell-at k y x j a b c d =
       let in_line = place-in width size x j c d in
-      let l = texts-length width size (cell k y) (λ x lt. sizes k y x) in
-      line-at k y (x * size + j) a b (omega arith)
-      ∙ (get_or_append_left (texts_below width (cell k y)) (10 ∷ []) 0 (x * size + j) (omega arith)
-      ∙ text-at width size x j (cell k y) (λ x lt. sizes k y x) c d)
+      search (arith, texts-length, line-at, get_or_append_left, text-at)
 
   -- the first line ends at the first newline
   pub cells-newline : 0 < count → 0 < lines → ((k y x j : ℕ) → j < length (cell k y x) → eqb (get_or (cell k y x) j 0) 10 ≡ false)
@@ -153,7 +143,7 @@ module _ (count lines width size : ℕ) (cell : ℕ → ℕ → ℕ → List ℕ
       (λ k lt. rw (at k (omega arith)) (rw (get_or_append_left (texts_below width (cell 0 0)) (10 ∷ []) 0 k (omega arith))
       (texts-without 10 width (cell 0 0) (λ x j lt l. none 0 0 x j l) k (omega arith))))
       (λ lt. rw (at (width * size) (omega arith)) (let e : width * size ≡ length (texts_below width (cell 0 0)) + 0 = omega arith in
-      rw (e, get_or-append-add (texts_below width (cell 0 0)) (10 ∷ []) 0 0) refl))
+      search (arith, get_or-append-add)))
 
 -- byte j of the cell x of the first line comes after the cells before it, whatever their sizes
 pub cells-first : (count lines width x j : ℕ) (cell : ℕ → ℕ → ℕ → List ℕ) → 0 < count → 0 < lines → x < width → j < length (cell 0 0 x)
@@ -168,15 +158,8 @@ cells-first count lines width x j cell some one lt l =
     let a : at < length (line 0 0) = omega (arith, length-append cells (10 ∷ [])) in
     let e : length (texts_below 0 (line 0)) + at ≡ at = omega (arith, ap length (no-texts (line 0))) in
     let b : at < length (texts_below lines (line 0)) = omega (arith, text-inside lines 0 at (line 0) one a) in
-    let f : length (texts_below 0 (λ k. texts_below lines (line k))) + at ≡ at = omega (arith, ap length (no-texts (λ k. texts_below lines (line k)))) in
-    let c = text-inside count 0 at (λ k. texts_below lines (line k)) some b in (
-      ap (λ z. get_or (texts_below count (λ k. texts_below lines (line k))) z 0) (sym f)
-          ∙ (text-after count 0 at (λ k. texts_below lines (line k)) some b
-          ∙ (ap (λ z. get_or (texts_below lines (line 0)) z 0) (sym e)
-          ∙ (text-after lines 0 at (line 0) one a
-          ∙ (get_or_append_left cells (10 ∷ []) 0 at inside ∙ text-after width x j (cell 0 0) lt l)))),
-      omega (arith, c),
-    )
+    let c = text-inside count 0 at (λ k. texts_below lines (line k)) some b in
+    search (arith, no-texts, text-after, get_or_append_left)
 
 -- a byte that none of the cells has is in no line
 pub cells-without : (b count lines width : ℕ) (cell : ℕ → ℕ → ℕ → List ℕ) → eqb 10 b ≡ false
@@ -193,15 +176,12 @@ cells-without b count lines width cell end none =
         let e = length-append cells (10 ∷ []) in
         elim (cases_lt j (length cells)) [
           | inl lt ↦ ap (λ z. eqb z b) (get_or_append_left cells (10 ∷ []) 0 j lt) ∙ texts-without b width (cell k y) (λ x j lt l. none k y x j l) j lt
-          | inr ge ↦ let f : j ≡ length cells + 0 = omega (arith, e) in rw (f, get_or-append-add cells (10 ∷ []) 0 0) end
+          | inr ge ↦ let f : j ≡ length cells + 0 = omega arith in rw (f, get_or-append-add cells (10 ∷ []) 0 0) end
         ]
 
 -- a byte that is in a text has a first place
 pub position-below : (b i : ℕ) (xs : List ℕ) → i < length xs → eqb (get_or xs i 0) b ≡ true → position_or_len (λ byte. eqb byte b) xs < length xs
-position-below b i xs lt e = elim (cases_lt (position_or_len (λ byte. eqb byte b) xs) (length xs)) [
-  | inl l ↦ l
-  | inr g ↦ let f : true ≡ false = sym e ∙ fails_before_first (λ byte. eqb byte b) xs i 0 (omega arith) in absurd (no f)
-]
+position-below b i xs lt e = search (arith, fails_before_first)
   where
     no : true ≡ false → ⊥
     no f = cc
@@ -214,12 +194,7 @@ position-none b xs none = position_or_len_is (λ byte. eqb byte b) xs (length xs
 pub cells-filter : (p : ℕ → Bool) (count lines width : ℕ) (cell : ℕ → ℕ → ℕ → List ℕ) → p 10 ≡ true
     → filter p (cells_text count lines width cell) ≡ cells_text count lines width (λ k y x. filter p (cell k y x))
 unfolding cells_text
-cells-filter p count lines width cell end =
-    texts-filter p count (λ k. texts_below lines (λ y. texts_below width (cell k y) ++ 10 ∷ []))
-    ∙ texts_below-alike count (λ k. filter p (texts_below lines (λ y. texts_below width (cell k y) ++ 10 ∷ []))) (λ k. texts_below lines (λ y. texts_below width (λ x. filter p (cell k y x)) ++ 10 ∷ []))
-    (λ k lt. texts-filter p lines (λ y. texts_below width (cell k y) ++ 10 ∷ [])
-    ∙ texts_below-alike lines (λ y. filter p (texts_below width (cell k y) ++ 10 ∷ [])) (λ y. texts_below width (λ x. filter p (cell k y x)) ++ 10 ∷ [])
-    (λ y l. filter-append p (texts_below width (cell k y)) (10 ∷ []) ∙ (λ i. texts-filter p width (cell k y) i ++ kept i)))
+cells-filter p count lines width cell end = search (arith, texts-filter, texts_below-alike, filter-append)
   where
     kept : filter p (10 ∷ []) ≡ 10 ∷ []
     kept = rw end refl
@@ -227,9 +202,4 @@ cells-filter p count lines width cell end =
 -- the byte of each module of a whole raster is in the text
 pub cell-inside : (len w lines count k y x : ℕ) → lines ≡ (w + 1) / 2 → count ≡ len / (lines * (w + 1)) → 8 ≤ w → k < count → y < w → x < w
     → (k * ((w + 1) / 2) + y / 2) * (w + 1) + x < len
-cell-inside len w lines count k y x e f wide a b c =
-    let some : 0 < lines * (w + 1) = omega (arith, mul-le-mul_right {m = 1} {n = lines} (w + 1) (omega arith)) in
-    let all : count * (lines * (w + 1)) ≤ len = omega (arith, ap (λ n. n * (lines * (w + 1))) f) in
-    let line = place-in count lines k (y / 2) a (omega arith) in
-    let p = place-in (count * lines) (w + 1) (k * lines + y / 2) x line (omega arith) in
-    omega (arith, p, ap (λ n. (k * n + y / 2) * (w + 1)) e)
+cell-inside len w lines count k y x e f wide a b c = search (arith, mul-le-mul_right, place-in)

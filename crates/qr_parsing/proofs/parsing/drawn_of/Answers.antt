@@ -1,18 +1,14 @@
-use Rattle.std.proofs.Common.{◌+◌, ◌-◌, ◌*◌, ◌∙◌, sym, arith}
+use Rattle.std.proofs.Common.{rules, ◌+◌, ◌-◌, ◌*◌, ◌∙◌, sym, arith}
 use Rattle.qr_parsing.specs.Steps.Sheet.{is_dark_on}
 use Rattle.qr_parsing.proofs.lemmas.parsing.GuessLemmas.{can-be-drawn, guessed}
 use Rattle.qr_parsing.proofs.parsing.drawn_of.Goals as goal
-use Rattle.qr_parsing.proofs.parsing.drawn_of.Goals.{then-sheet-eq0-via-then-sheet-eq0, then-sheet-eq0-via-else-sheet-eq0+then-sheet-gt-COUNT_MAX, then-margin-gt255-via-then-margin-gt255, then-margin-gt255-via-else-margin-gt255+then-sheet-margin, then-margin-gt255-via-else-margin-gt255+else-sheet-margin+then-sheet-margin-gt177}
+use Rattle.qr_parsing.proofs.parsing.drawn_of.Goals.{then-sheet-eq0-via-then-sheet-eq0, then-sheet-eq0-via-else-sheet-eq0+then-sheet-gt-COUNT_MAX, then-margin-gt255-via-then-margin-gt255, then-margin-gt255-via-else-margin-gt255+then-sheet-margin, then-margin-gt255-via-else-margin-gt255+else-sheet-margin+then-sheet-margin-gt-SIDE_MAX}
 
 pub returns-then-margin-gt255 : goal.returns-then-margin-gt255
 returns-then-margin-gt255 c text is kind margin squares h =
     let s = c.args.sheet.now in
     let g = guessed s.kind s.width s.count s.bytes.now c.margin_of-margin.result text is c.margin_of-margin.ensures.light c.margin_of-margin.ensures.dark kind margin squares h in
-    elim c.then-margin-gt255.branch [
-      | then-margin-gt255-via-then-margin-gt255 w ↦ omega arith
-      | then-margin-gt255-via-else-margin-gt255+then-sheet-margin w ↦ omega arith
-      | then-margin-gt255-via-else-margin-gt255+else-sheet-margin+then-sheet-margin-gt177 w ↦ omega arith
-    ]
+    search rules
 
 pub returns-then-sheet-eq0 : goal.returns-then-sheet-eq0
 returns-then-sheet-eq0 c text is kind margin squares h =

@@ -1,6 +1,6 @@
-use Rattle.std.proofs.Common.{◌≡◌, arith}
+use Rattle.std.proofs.lemmas.Grind.{common_steps}
+use Rattle.std.proofs.Common.{rules, ◌≡◌, arith}
 use Rattle.std.proofs.lemmas.{Bool.Decides.Decides-eqb, Grind.common_steps, Slice.Eq.slice_eq-Decides}
-use Rattle.std.specs.Bool.{Decides}
 use Rattle.qr_drawing.specs.Drawing.{drawn}
 use Rattle.qr_parsing.proofs.parsing.is_drawn.Goals as goal
 
@@ -9,5 +9,4 @@ pub returns-in-Ok : goal.returns-in-Ok
 returns-in-Ok c =
     let s = c.args.shown.now in
     let whole : c.as_slice.result.now ≡ drawn s.kind s.margin s.squares.items = grind (arith, common_steps) in
-    let same : Decides c.eq.result (c.args.text.now ≡ c.as_slice.result.now) = slice_eq-Decides Decides-eqb _ _ _ c.eq.ensures in
-    rw whole at same
+    search (rules, slice_eq-Decides, Decides-eqb)

@@ -1,4 +1,4 @@
-use Rattle.std.proofs.Common.{◌≡◌, ℕ, ◌+◌, ◌*◌, ◌<◌, ◌≤◌, ◌⊎◌, length, slice_index_or}
+use Rattle.std.proofs.Common.{◌≡◌, ℕ, ◌+◌, ◌*◌, ◌<◌, length, slice_index_or}
 use Rattle.qr_matrix.specs.Bytes.{byte_of}
 use Rattle.qr_parsing.specs.Steps.Sheet.{is_sign}
 use Rattle.qr_parsing.proofs.sheet.write_by.Given as goal
@@ -7,6 +7,5 @@ use Rattle.qr_parsing.proofs.sheet.write_by.Given as goal
 abbrev pub invariant-loop-i : goal.invariant-loop-i
 invariant-loop-i l = record {
   long : length l.modules ≡ length l.fn.modules;
-  row : (j : ℕ) → j < l.i → slice_index_or l.modules (l.start + j) 0 ≡ byte_of (is_sign l.signs (slice_index_or l.bytes (l.first + l.step * j) 0));
-  others : (j : ℕ) → (j < l.start) ⊎ (l.start + l.i ≤ j) → slice_index_or l.modules j 0 ≡ slice_index_or l.fn.modules j 0;
+  row : (j : ℕ) → j < l.i → slice_index_or l.modules j 0 ≡ byte_of (is_sign l.signs (slice_index_or l.bytes (l.first + l.step * j) 0));
 }

@@ -12,40 +12,32 @@ odd n ne = grind (arith, nat_tests)
 
 pub write_by-requires-clause-inside : goal.write_by-requires-clause-inside
 write_by-requires-clause-inside c =
-    row-inside c.args.sheet.now.kind 2 c.args.y (35, 35) (ascii-reads c.args.sheet.now.kind c.args.y c.in-Ascii.is) c.args.sheet.now.width c.args.k c.args.margin c.place_of-first.result c.args.sheet.now.bytes.now c.place_of-first.ensures
-    c.args.sheet.now.count c.args.side c.args.sheet.now.whole c.requires.k_in c.requires.y_in c.requires.x_in
+    row-inside _ _ _ _ (ascii-reads _ _ c.in-Ascii.is) _ _ _ _ _ c.place_of-first.ensures _ _ c.args.sheet.now.whole c.requires.k_in c.requires.y_in c.requires.x_in
 
 pub write_by-requires-in-AsciiInverse-clause-inside : goal.write_by-requires-in-AsciiInverse-clause-inside
 write_by-requires-in-AsciiInverse-clause-inside c =
-    row-inside c.args.sheet.now.kind 2 c.args.y (32, 32) (inverse-reads c.args.sheet.now.kind c.args.y c.in-AsciiInverse.is) c.args.sheet.now.width c.args.k c.args.margin c.place_of-first.result c.args.sheet.now.bytes.now c.place_of-first.ensures
-    c.args.sheet.now.count c.args.side c.args.sheet.now.whole c.requires.k_in c.requires.y_in c.requires.x_in
+    row-inside _ _ _ _ (inverse-reads _ _ c.in-AsciiInverse.is) _ _ _ _ _ c.place_of-first.ensures _ _ c.args.sheet.now.whole c.requires.k_in c.requires.y_in c.requires.x_in
 
 pub write_by-requires-in-Utf8-clause-inside : goal.write_by-requires-in-Utf8-clause-inside
 write_by-requires-in-Utf8-clause-inside c =
-    row-inside c.args.sheet.now.kind 1 c.args.y (32, c.if-y-eq0.half) (block-reads c.args.sheet.now.kind c.args.y c.if-y-eq0.half c.in-Utf8.is (elim c.if-y-eq0.branch [ then-y-eq0 w ↦ w.half-is ∙ sym (even (c.args.y % 2) w.if-y-eq0.true) | else-y-eq0 w ↦ w.half-is ∙ sym (odd (c.args.y % 2) w.if-y-eq0.false) ])) c.args.sheet.now.width c.args.k c.args.margin c.place_of-first.result c.args.sheet.now.bytes.now c.place_of-first.ensures
-    c.args.sheet.now.count c.args.side c.args.sheet.now.whole c.requires.k_in c.requires.y_in c.requires.x_in
+    row-inside _ _ _ _ (block-reads _ _ _ c.in-Utf8.is (elim c.if-y-eq0.branch [ then-y-eq0 w ↦ w.half-is ∙ sym (even (c.args.y % 2) w.if-y-eq0.true) | else-y-eq0 w ↦ w.half-is ∙ sym (odd (c.args.y % 2) w.if-y-eq0.false) ])) _ _ _ _ _ c.place_of-first.ensures _ _ c.args.sheet.now.whole c.requires.k_in c.requires.y_in c.requires.x_in
 
 pub write_by-requires-in-Svg-clause-inside : goal.write_by-requires-in-Svg-clause-inside
 write_by-requires-in-Svg-clause-inside c =
-    row-inside c.args.sheet.now.kind 1 c.args.y (1, 1) (svg-reads c.args.sheet.now.kind c.args.y c.in-Svg.is) c.args.sheet.now.width c.args.k c.args.margin c.place_of-first.result c.args.sheet.now.bytes.now c.place_of-first.ensures
-    c.args.sheet.now.count c.args.side c.args.sheet.now.whole c.requires.k_in c.requires.y_in c.requires.x_in
+    row-inside _ _ _ _ (svg-reads _ _ c.in-Svg.is) _ _ _ _ _ c.place_of-first.ensures _ _ c.args.sheet.now.whole c.requires.k_in c.requires.y_in c.requires.x_in
 
-pub returns-in-Ascii-clause-row : goal.returns-in-Ascii-clause-row
-returns-in-Ascii-clause-row c =
-    row-dark c.args.sheet.now.kind 2 c.args.y (35, 35) (ascii-reads c.args.sheet.now.kind c.args.y c.in-Ascii.is) c.args.sheet.now.width c.args.k c.args.margin c.place_of-first.result c.args.sheet.now.bytes.now c.place_of-first.ensures
-    c.args.side c.args.start c.write_by.new.modules c.write_by.ensures.row
+pub returns-in-Ascii : goal.returns-in-Ascii
+returns-in-Ascii c =
+    row-dark _ _ _ _ (ascii-reads _ _ c.in-Ascii.is) _ _ _ _ _ c.place_of-first.ensures _ _ c.write_by.ensures
 
-pub returns-in-AsciiInverse-clause-row : goal.returns-in-AsciiInverse-clause-row
-returns-in-AsciiInverse-clause-row c =
-    row-dark c.args.sheet.now.kind 2 c.args.y (32, 32) (inverse-reads c.args.sheet.now.kind c.args.y c.in-AsciiInverse.is) c.args.sheet.now.width c.args.k c.args.margin c.place_of-first.result c.args.sheet.now.bytes.now c.place_of-first.ensures
-    c.args.side c.args.start c.write_by-in-AsciiInverse.new.modules c.write_by-in-AsciiInverse.ensures.row
+pub returns-in-AsciiInverse : goal.returns-in-AsciiInverse
+returns-in-AsciiInverse c =
+    row-dark _ _ _ _ (inverse-reads _ _ c.in-AsciiInverse.is) _ _ _ _ _ c.place_of-first.ensures _ _ c.write_by-in-AsciiInverse.ensures
 
-pub returns-after-y-eq0-clause-row : goal.returns-after-y-eq0-clause-row
-returns-after-y-eq0-clause-row c =
-    row-dark c.args.sheet.now.kind 1 c.args.y (32, c.if-y-eq0.half) (block-reads c.args.sheet.now.kind c.args.y c.if-y-eq0.half c.in-Utf8.is (elim c.if-y-eq0.branch [ then-y-eq0 w ↦ w.half-is ∙ sym (even (c.args.y % 2) w.if-y-eq0.true) | else-y-eq0 w ↦ w.half-is ∙ sym (odd (c.args.y % 2) w.if-y-eq0.false) ])) c.args.sheet.now.width c.args.k c.args.margin c.place_of-first.result c.args.sheet.now.bytes.now c.place_of-first.ensures
-    c.args.side c.args.start c.write_by-in-Utf8.new.modules c.write_by-in-Utf8.ensures.row
+pub returns-after-y-eq0 : goal.returns-after-y-eq0
+returns-after-y-eq0 c =
+    row-dark _ _ _ _ (block-reads _ _ _ c.in-Utf8.is (elim c.if-y-eq0.branch [ then-y-eq0 w ↦ w.half-is ∙ sym (even (c.args.y % 2) w.if-y-eq0.true) | else-y-eq0 w ↦ w.half-is ∙ sym (odd (c.args.y % 2) w.if-y-eq0.false) ])) _ _ _ _ _ c.place_of-first.ensures _ _ c.write_by-in-Utf8.ensures
 
-pub returns-in-Svg-clause-row : goal.returns-in-Svg-clause-row
-returns-in-Svg-clause-row c =
-    row-dark c.args.sheet.now.kind 1 c.args.y (1, 1) (svg-reads c.args.sheet.now.kind c.args.y c.in-Svg.is) c.args.sheet.now.width c.args.k c.args.margin c.place_of-first.result c.args.sheet.now.bytes.now c.place_of-first.ensures
-    c.args.side c.args.start c.write_by-in-Svg.new.modules c.write_by-in-Svg.ensures.row
+pub returns-in-Svg : goal.returns-in-Svg
+returns-in-Svg c =
+    row-dark _ _ _ _ (svg-reads _ _ c.in-Svg.is) _ _ _ _ _ c.place_of-first.ensures _ _ c.write_by-in-Svg.ensures

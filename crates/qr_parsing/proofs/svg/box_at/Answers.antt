@@ -1,4 +1,4 @@
-use Rattle.std.proofs.Common.{◌≡◌, ◌<◌, ◌+◌, ◌∙◌, ◌∷◌, ℕ, List, decimal, drop, length, get_or, refl, sym, ap, subst, arith, inl, inr, length-drop}
+use Rattle.std.proofs.Common.{rules, ◌≡◌, ◌<◌, ◌+◌, ◌∙◌, ◌∷◌, ℕ, List, decimal, drop, length, get_or, refl, sym, ap, subst, arith, length-drop}
 use Rattle.std.proofs.lemmas.List.{get_or-drop}
 use Rattle.qr_parsing.specs.Steps.Svg.{IsPath}
 use Rattle.qr_parsing.proofs.lemmas.svg.NumberLemmas.{digits-one, digits-two, digits-three}
@@ -8,57 +8,37 @@ use Rattle.qr_parsing.proofs.svg.box_at.Goals.{then-at-text-via-then-at-text, th
 
 -- at an `M` a path begins with a box
 found : (text numbers : List ℕ) (at : ℕ) → IsPath numbers (drop at text) → at < length text → get_or text at 0 ≡ 77 → FirstBox numbers (drop at text)
-found text numbers at path lt m =
-    let e : at + 0 ≡ at = omega arith in
-    first-box numbers (drop at text) path (omega (arith, length-drop at text)) (get_or-drop at text 0 0 ∙ ap (λ n. get_or text n 0) e ∙ m)
+found text numbers at path lt m = search (rules, first-box, length-drop, get_or-drop)
 
 pub returns-then-at-text-clause-reads : goal.returns-then-at-text-clause-reads
-returns-then-at-text-clause-reads c numbers path =
-    let text = c.args.text.now in
-    let at = c.args.at in
-    no-box numbers (drop at text) path (elim c.then-at-text.branch [
-      | then-at-text-via-then-at-text w ↦ let short = w.if-at-text.true in inl (omega (arith, length-drop at text))
-      | then-at-text-via-else-at-text+then-text-at-ne77 w ↦
-          let ne = w.if-text-at-ne77.true in
-          let e : at + 0 ≡ at = omega arith in
-          inr (λ m. ne (sym (get_or-drop at text 0 0 ∙ ap (λ n. get_or text n 0) e) ∙ m))
-    ])
+returns-then-at-text-clause-reads c numbers path = search (rules, no-box, length-drop, get_or-drop)
 
 pub returns-in_default-clause-reads : goal.returns-in_default-clause-reads
 returns-in_default-clause-reads c numbers path =
     let text = c.args.text.now in
     let b = found text numbers c.args.at path (omega arith) c.if-text-at-ne77.false in
-    absurd (c.in_default.ensures.reads b.x 32 (after_column b.y b.modules b.rest) (omega (arith, b.x_in)) refl (omega (arith, column-long b.y b.modules b.rest b.modules_in))
-    (after-m text _ c.args.at b.bytes_are))
+    search (rules, after_column, column-long, after-m)
 
 pub returns-then-after_x-text-clause-reads : goal.returns-then-after_x-text-clause-reads
 unfolding after_column after_row after_modules
 returns-then-after_x-text-clause-reads c numbers path =
     let text = c.args.text.now in
     let b = found text numbers c.args.at path (omega arith) c.if-text-at-ne77.false in
-    let x : (c.in-Some.x ≡ b.x) × (drop c.in-Some.after_x text ≡ after_column b.y b.modules b.rest) =
-    c.in-Some.ensures.reads b.x 32 (after_column b.y b.modules b.rest) (omega (arith, b.x_in)) refl (omega (arith, column-long b.y b.modules b.rest b.modules_in)) (after-m text _ c.args.at b.bytes_are) in
-    absurd (omega (arith, c.if-after_x-text.true, ap length x.1, length-drop c.in-Some.after_x text, column-long b.y b.modules b.rest b.modules_in))
+    search (rules, after_column, column-long, after-m, length-drop)
 
 pub returns-in_default-number_after-clause-reads : goal.returns-in_default-number_after-clause-reads
 unfolding after_column after_row after_modules
 returns-in_default-number_after-clause-reads c numbers path =
     let text = c.args.text.now in
     let b = found text numbers c.args.at path (omega arith) c.if-text-at-ne77.false in
-    let x : (c.in-Some.x ≡ b.x) × (drop c.in-Some.after_x text ≡ after_column b.y b.modules b.rest) =
-    c.in-Some.ensures.reads b.x 32 (after_column b.y b.modules b.rest) (omega (arith, b.x_in)) refl (omega (arith, column-long b.y b.modules b.rest b.modules_in)) (after-m text _ c.args.at b.bytes_are) in
-    absurd (c.in_default-number_after.ensures.reads b.y 104 (after_row b.modules b.rest) b.y_in refl (omega (arith, row-long b.modules b.rest b.modules_in)) x.1)
+    search (rules, after_column, column-long, after-m, after_row, row-long)
 
 pub returns-then-after_y-text-clause-reads : goal.returns-then-after_y-text-clause-reads
 unfolding after_column after_row after_modules
 returns-then-after_y-text-clause-reads c numbers path =
     let text = c.args.text.now in
     let b = found text numbers c.args.at path (omega arith) c.if-text-at-ne77.false in
-    let x : (c.in-Some.x ≡ b.x) × (drop c.in-Some.after_x text ≡ after_column b.y b.modules b.rest) =
-    c.in-Some.ensures.reads b.x 32 (after_column b.y b.modules b.rest) (omega (arith, b.x_in)) refl (omega (arith, column-long b.y b.modules b.rest b.modules_in)) (after-m text _ c.args.at b.bytes_are) in
-    let y : (c.in-Some-number_after.y ≡ b.y) × (drop c.in-Some-number_after.after_y text ≡ after_row b.modules b.rest) =
-    c.in-Some-number_after.ensures.reads b.y 104 (after_row b.modules b.rest) b.y_in refl (omega (arith, row-long b.modules b.rest b.modules_in)) x.1 in
-    absurd (omega (arith, c.if-after_y-text.true, ap length y.1, length-drop c.in-Some-number_after.after_y text, row-long b.modules b.rest b.modules_in))
+    search (rules, after_column, column-long, after-m, after_row, row-long, length-drop)
 
 pub returns-in_default-number_after-2-clause-reads : goal.returns-in_default-number_after-2-clause-reads
 unfolding after_column after_row after_modules
@@ -66,10 +46,8 @@ returns-in_default-number_after-2-clause-reads c numbers path =
     let text = c.args.text.now in
     let b = found text numbers c.args.at path (omega arith) c.if-text-at-ne77.false in
     let x : (c.in-Some.x ≡ b.x) × (drop c.in-Some.after_x text ≡ after_column b.y b.modules b.rest) =
-    c.in-Some.ensures.reads b.x 32 (after_column b.y b.modules b.rest) (omega (arith, b.x_in)) refl (omega (arith, column-long b.y b.modules b.rest b.modules_in)) (after-m text _ c.args.at b.bytes_are) in
-    let y : (c.in-Some-number_after.y ≡ b.y) × (drop c.in-Some-number_after.after_y text ≡ after_row b.modules b.rest) =
-    c.in-Some-number_after.ensures.reads b.y 104 (after_row b.modules b.rest) b.y_in refl (omega (arith, row-long b.modules b.rest b.modules_in)) x.1 in
-    absurd (c.in_default-number_after-2.ensures.reads b.modules 118 (after_modules b.modules b.rest) (omega (arith, b.modules_in)) refl (omega (arith, modules-long b.modules b.rest)) y.1)
+    c.in-Some.ensures.reads b.x 32 (after_column b.y b.modules b.rest) (omega arith) refl (omega (arith, column-long b.y b.modules b.rest b.modules_in)) (after-m text _ c.args.at b.bytes_are) in
+    search (rules, after_row, row-long, after_modules, modules-long)
 
 pub returns-then-after_modules-back-clause-reads : goal.returns-then-after_modules-back-clause-reads
 unfolding after_column after_row after_modules
@@ -77,21 +55,14 @@ returns-then-after_modules-back-clause-reads c numbers path =
     let text = c.args.text.now in
     let b = found text numbers c.args.at path (omega arith) c.if-text-at-ne77.false in
     let x : (c.in-Some.x ≡ b.x) × (drop c.in-Some.after_x text ≡ after_column b.y b.modules b.rest) =
-    c.in-Some.ensures.reads b.x 32 (after_column b.y b.modules b.rest) (omega (arith, b.x_in)) refl (omega (arith, column-long b.y b.modules b.rest b.modules_in)) (after-m text _ c.args.at b.bytes_are) in
+    c.in-Some.ensures.reads b.x 32 (after_column b.y b.modules b.rest) (omega arith) refl (omega (arith, column-long b.y b.modules b.rest b.modules_in)) (after-m text _ c.args.at b.bytes_are) in
     let y : (c.in-Some-number_after.y ≡ b.y) × (drop c.in-Some-number_after.after_y text ≡ after_row b.modules b.rest) =
-    c.in-Some-number_after.ensures.reads b.y 104 (after_row b.modules b.rest) b.y_in refl (omega (arith, row-long b.modules b.rest b.modules_in)) x.1 in
+    search (rules, after_row, row-long) in
     let n : (c.in-Some-number_after-2.modules ≡ b.modules) × (drop c.in-Some-number_after-2.after_modules text ≡ after_modules b.modules b.rest) =
-    c.in-Some-number_after-2.ensures.reads b.modules 118 (after_modules b.modules b.rest) (omega (arith, b.modules_in)) refl (omega (arith, modules-long b.modules b.rest)) y.1 in
+    search (rules, after_modules, modules-long) in
     let e = n.0 in
-    let many : c.if-modules-lt10.back ≡ 4 + length (decimal b.modules) = elim c.if-modules-lt10.branch [
-      | then-modules-lt10 w ↦ let lt = w.if-modules-lt10.true in omega (arith, w.back-is, digits-one b.modules (omega arith))
-      | else-modules-lt10+then-modules-lt100 w ↦
-          let le = w.if-modules-lt10.false in
-          let lt = w.if-modules-lt100.true in
-          omega (arith, w.back-is, digits-two b.modules (omega arith) (omega arith))
-      | else-modules-lt10+else-modules-lt100 w ↦ let le = w.if-modules-lt100.false in omega (arith, w.back-is, digits-three b.modules (omega arith) b.modules_in)
-    ] in
-    absurd (omega (arith, ap length n.1, length-drop c.in-Some-number_after-2.after_modules text, modules-long b.modules b.rest, many))
+    let many : c.if-modules-lt10.back ≡ 4 + length (decimal b.modules) = search (rules, digits-one, digits-two, digits-three) in
+    absurd (omega (arith, ap length n.1, length-drop c.in-Some-number_after-2.after_modules text, modules-long b.modules b.rest))
 
 pub returns-clause-reads : goal.returns-clause-reads
 unfolding after_column after_row after_modules
@@ -99,20 +70,13 @@ returns-clause-reads c numbers path =
     let text = c.args.text.now in
     let b = found text numbers c.args.at path (omega arith) c.if-text-at-ne77.false in
     let x : (c.in-Some.x ≡ b.x) × (drop c.in-Some.after_x text ≡ after_column b.y b.modules b.rest) =
-    c.in-Some.ensures.reads b.x 32 (after_column b.y b.modules b.rest) (omega (arith, b.x_in)) refl (omega (arith, column-long b.y b.modules b.rest b.modules_in)) (after-m text _ c.args.at b.bytes_are) in
+    c.in-Some.ensures.reads b.x 32 (after_column b.y b.modules b.rest) (omega arith) refl (omega (arith, column-long b.y b.modules b.rest b.modules_in)) (after-m text _ c.args.at b.bytes_are) in
     let y : (c.in-Some-number_after.y ≡ b.y) × (drop c.in-Some-number_after.after_y text ≡ after_row b.modules b.rest) =
-    c.in-Some-number_after.ensures.reads b.y 104 (after_row b.modules b.rest) b.y_in refl (omega (arith, row-long b.modules b.rest b.modules_in)) x.1 in
+    search (rules, after_row, row-long) in
     let n : (c.in-Some-number_after-2.modules ≡ b.modules) × (drop c.in-Some-number_after-2.after_modules text ≡ after_modules b.modules b.rest) =
-    c.in-Some-number_after-2.ensures.reads b.modules 118 (after_modules b.modules b.rest) (omega (arith, b.modules_in)) refl (omega (arith, modules-long b.modules b.rest)) y.1 in
+    search (rules, after_modules, modules-long) in
     let e = n.0 in
-    let many : c.if-modules-lt10.back ≡ 4 + length (decimal b.modules) = elim c.if-modules-lt10.branch [
-      | then-modules-lt10 w ↦ let lt = w.if-modules-lt10.true in omega (arith, w.back-is, digits-one b.modules (omega arith))
-      | else-modules-lt10+then-modules-lt100 w ↦
-          let le = w.if-modules-lt10.false in
-          let lt = w.if-modules-lt100.true in
-          omega (arith, w.back-is, digits-two b.modules (omega arith) (omega arith))
-      | else-modules-lt10+else-modules-lt100 w ↦ let le = w.if-modules-lt100.false in omega (arith, w.back-is, digits-three b.modules (omega arith) b.modules_in)
-    ] in
+    let many : c.if-modules-lt10.back ≡ 4 + length (decimal b.modules) = search (rules, digits-one, digits-two, digits-three) in
     let after = after-box text b.rest c.in-Some-number_after-2.after_modules b.modules c.if-modules-lt10.back n.1 many in (
       b.high,
       b.back,

@@ -1,4 +1,4 @@
-use Rattle.std.proofs.Common.{◌≡◌, ◌<◌, ◌+◌, ◌-◌, ◌*◌, ◌∷◌, ◌++◌, ◌∙◌, ℕ, List, decimal, drop, length, get_or, sym, ap, arith, length-append, length-drop}
+use Rattle.std.proofs.Common.{rules, ◌≡◌, ◌<◌, ◌+◌, ◌-◌, ◌∷◌, ◌++◌, ◌∙◌, ℕ, List, decimal, drop, length, get_or, sym, ap, arith, length-append, length-drop}
 use Rattle.std.proofs.lemmas.{Fmt.{length-decimal-le}}
 use Rattle.qr_parsing.specs.Steps.Svg.{leading}
 use Rattle.qr_parsing.proofs.lemmas.svg.NumberLemmas.{digit-by, drop-one, leading-more, leading-read, leading-shorter, leading-stop, no-digit-by, one-digit-more}
@@ -10,18 +10,7 @@ parts text rest at n byte is = omega (arith, sym (length-drop at text) ∙ (ap l
 
 pub returns-then-digit-gt9-clause-reads : goal.returns-then-digit-gt9-clause-reads
 returns-then-digit-gt9-clause-reads c n byte rest le e long is =
-    let text = c.args.text.now in
-    let place = c.args.at + c.loop-i.i in
-    let number = c.loop-i.number in
-    let here = get_or text place 0 in
-    let high = c.if-digit-gt9.true in
-    let byte_in : here < 256 = omega (arith, c.type_inv.text place) in
-    let none = no-digit-by here byte_in high in
-    let lt : place < length text = omega arith in
-    let read = ap (leading number) (drop-one text place lt) ∙ leading-stop number here (drop (place + 1) text) none in
-    let same : ◌≡◌ {A = ℕ × List ℕ} (number, drop (place + 1) text) (n, rest) =
-    sym read ∙ (sym c.loop-i.invariant.reads ∙ (ap (leading 0) is ∙ leading-read n byte rest le e)) in
-    (ap (λ (p : ℕ × List ℕ). p.0) same, ap (λ (p : ℕ × List ℕ). p.1) same)
+    search (rules, no-digit-by, drop-one, leading-stop, leading-read)
 
 pub loop-i-preserved : goal.loop-i-preserved
 loop-i-preserved c =
@@ -33,12 +22,11 @@ loop-i-preserved c =
     let byte_in : here < 256 = omega (arith, c.type_inv.text place) in
     let digit = digit-by here byte_in low in
     let lt : place < length text = omega arith in
-    let value : c.from.result ≡ here - 48 = omega (arith, c.from.ensures) in
+    let value : c.from.result ≡ here - 48 = omega arith in
     let next : place + 1 ≡ c.args.at + (c.loop-i.i + 1) = omega arith in
     record {
       small = one-digit-more number c.from.result c.loop-i.i c.loop-i.invariant.small (omega arith);
-      reads = c.loop-i.invariant.reads ∙ (ap (leading number) (drop-one text place lt)
-          ∙ (leading-more number here (drop (place + 1) text) digit ∙ (λ i. leading (number * 10 + sym value i) (drop (next i) text))));
+      reads = search (rules, drop-one, leading-more);
     }
 
 pub returns-clause-reads : goal.returns-clause-reads
@@ -46,6 +34,6 @@ returns-clause-reads c n byte rest le e long is =
     let text = c.args.text.now in
     let place = c.args.at + c.loop-i.i in
     let same : ◌≡◌ {A = ℕ × List ℕ} (leading c.loop-i.number (drop place text)) (n, rest) =
-    sym c.loop-i.invariant.reads ∙ (ap (leading 0) is ∙ leading-read n byte rest le e) in
+    search (rules, leading-read) in
     let after = ap (λ (p : ℕ × List ℕ). length p.1) same in
-    omega (arith, after, leading-shorter c.loop-i.number (drop place text), length-drop place text, parts text rest c.args.at n byte is, length-decimal-le 5 n (omega arith) (omega arith) (omega arith))
+    omega (arith, leading-shorter c.loop-i.number (drop place text), length-drop place text, parts text rest c.args.at n byte is, length-decimal-le 5 n (omega arith) (omega arith) (omega arith))

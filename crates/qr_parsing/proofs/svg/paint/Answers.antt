@@ -1,4 +1,4 @@
-use Rattle.std.proofs.Common.{◌≡◌, ◌<◌, ◌+◌, ◌*◌, ◌∙◌, length, set, arith}
+use Rattle.std.proofs.Common.{rules, ◌≡◌, ◌<◌, ◌+◌, ◌*◌, ◌∙◌, length, set, arith}
 use Rattle.std.proofs.lemmas.List.{length-set}
 use Rattle.qr_parsing.proofs.lemmas.text.PlaceLemmas.{place-in}
 use Rattle.qr_parsing.proofs.lemmas.svg.CanvasLemmas.{painted, painted-two}
@@ -11,7 +11,7 @@ loop-col-init c i lt =
     let y = c.args.y in
     let x = c.args.x in
     let long = length-set (set bytes (y * w + x) 1) (y * w + (x + 1)) 1 ∙ length-set bytes (y * w + x) 1 in
-    painted-two w c.args.height y x bytes c.requires.area c.requires.some c.if-y-height.true (omega arith) i (omega (arith, long))
+    painted-two w c.args.height y x bytes c.requires.area c.requires.some c.if-y-height.true (omega arith) i (omega arith)
 
 pub loop-col-preserved : goal.loop-col-preserved
 loop-col-preserved c i lt =
@@ -20,8 +20,7 @@ loop-col-preserved c i lt =
     let col = c.loop-col.col in
     let in_col : col < w = omega arith in
     let place = place-in c.args.height w y col c.if-y-height.true in_col in
-    let same : length c.loop-col.bytes ≡ length c.args.bytes.now = c.loop-col.auto.bytes
-    ∙ (length-set (set c.args.bytes.now (y * w + c.args.x) 1) (y * w + (c.args.x + 1)) 1 ∙ length-set c.args.bytes.now (y * w + c.args.x) 1) in
-    let fits : y * w + col < length c.loop-col.bytes = omega (arith, c.requires.area) in
+    let same : length c.loop-col.bytes ≡ length c.args.bytes.now = search (rules, length-set) in
+    let fits : y * w + col < length c.loop-col.bytes = omega arith in
     let in_i : i < length c.loop-col.bytes = omega (arith, length-set c.loop-col.bytes (y * w + col) 1) in
     painted w c.args.height y c.args.x col c.loop-col.bytes c.args.bytes.now c.requires.some in_col (omega arith) fits c.loop-col.invariant i in_i

@@ -1,6 +1,6 @@
-use Rattle.std.proofs.Common.{◌≡◌, ◌/◌, ◌%◌, ◌∙◌, eqb, not, cond, drop, get_or, refl, sym, ap, subst, arith}
+use Rattle.std.proofs.Common.{rules, ◌≡◌, ◌/◌, ◌%◌, ◌∙◌, cond, drop, get_or, sym, ap, arith}
 use Rattle.std.proofs.lemmas.List.Sums.{prefix_len-le-length}
-use Rattle.qr_parsing.specs.Steps.Svg.{IsPath, is_in_boxes, path_in}
+use Rattle.qr_parsing.specs.Steps.Svg.{is_in_boxes, path_in}
 use Rattle.qr_parsing.proofs.lemmas.svg.{CanvasLemmas.painted-box, PathLemmas.path-start}
 use Rattle.qr_parsing.proofs.svg.paint_all.Goals as goal
 
@@ -8,10 +8,7 @@ pub boxes-init : goal.boxes-init
 boxes-init c =
     let text = c.args.text.now in
     let is : path_in text ≡ drop c.position_of-at.result text = sym (path-start text) ∙ ap (λ n. drop n text) (sym c.position_of-at.ensures) in
-    record {
-      within = omega (arith, c.position_of-at.ensures, prefix_len-le-length (λ byte. not (eqb byte 77)) text);
-      painted = λ numbers path. (numbers, subst (IsPath numbers) is path, λ i lt. refl);
-    }
+    search (rules, prefix_len-le-length)
 
 pub boxes-preserved : goal.boxes-preserved
 boxes-preserved c =
@@ -24,13 +21,9 @@ boxes-preserved c =
             next.2,
             next.4,
             λ i lt. painted-box c.in-Some.dark.x c.in-Some.dark.y c.in-Some.dark.modules next.0 next.1 next.2 (i / w) (i % w) (get_or c.args.bytes.now i 0) (get_or c.boxes.bytes i 0) (get_or c.paint.new.bytes i 0) (is_in_boxes numbers (i / w) (i % w))
-                (before.2 i (omega (arith, c.paint.auto.bytes)) ∙ ap (λ l. cond (is_in_boxes l (i / w) (i % w)) 1 (get_or c.boxes.bytes i 0)) next.3) (c.paint.ensures i (omega (arith, c.paint.auto.bytes))),
+                (before.2 i (omega arith) ∙ ap (λ l. cond (is_in_boxes l (i / w) (i % w)) 1 (get_or c.boxes.bytes i 0)) next.3) (c.paint.ensures i (omega arith)),
           );
     }
 
 pub returns : goal.returns
-returns c numbers path i lt =
-    let w = c.args.width in
-    let before = c.boxes.invariant.painted numbers path in
-    let none = c.in_default.ensures.reads before.0 before.1 in
-    sym (before.2 i (omega (arith, c.boxes.auto.bytes)) ∙ ap (λ l. cond (is_in_boxes l (i / w) (i % w)) 1 (get_or c.boxes.bytes i 0)) none)
+returns c numbers path i lt = search rules

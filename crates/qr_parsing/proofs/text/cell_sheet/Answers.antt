@@ -1,4 +1,4 @@
-use Rattle.std.proofs.Common.{◌∙◌, ap, sym, inl, inr, arith}
+use Rattle.std.proofs.Common.{rules, ◌∙◌, ap, inl, inr, arith}
 use Rattle.qr_drawing.specs.declared.drawing.Drawing.TheVariants.{Utf8}
 use Rattle.qr_parsing.specs.Steps.Text.{first_line}
 use Rattle.qr_parsing.proofs.lemmas.parsing.GuessLemmas.{block-count, too-wide}
@@ -18,9 +18,4 @@ invariant_of-result-clause-whole c = λ k y x a b l.
 pub returns : goal.returns
 returns c text kind cells =
     let w = c.position_of-width.ensures ∙ ap first_line cells in
-    record {
-      kind_is = sym kind;
-      width_is = w;
-      count_is = block-count _ c.div_ceil.result c.position_of-width.result c.args.cells.now text (omega arith) (omega arith) w cells;
-      bytes_is = λ k m s h. cells;
-    }
+    search (rules, block-count)

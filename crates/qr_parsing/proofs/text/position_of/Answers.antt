@@ -1,10 +1,9 @@
-use Rattle.std.proofs.Common.{eq-eqb, eqb, sym, arith}
+use Rattle.std.proofs.Common.{rules, eq-eqb, eqb, sym, arith}
 use Rattle.std.proofs.lemmas.List.Sums.{position_or_len_is}
 use Rattle.qr_parsing.proofs.text.position_of.Goals as goal
 
 pub returns-then-byte-sign : goal.returns-then-byte-sign
-returns-then-byte-sign c =
-    sym (position_or_len_is (λ byte. eqb byte c.args.sign) c.args.bytes.now c.loop-i.i 0 (omega arith) c.loop-i.invariant (λ lt. eq-eqb _ _ c.if-byte-sign.true))
+returns-then-byte-sign c = search (rules, position_or_len_is, eq-eqb)
 
 pub returns : goal.returns
 returns c =

@@ -7,7 +7,7 @@ use Rattle.qr_symbol.proofs.collecting.collect_codewords.Goals as goal
 
 pub loop-strip-init : goal.loop-strip-init
 loop-strip-init c =
-    let v = c.args.v in
+    let v = c.args.version in
     let e = sym c.into_iter-strip-iterator.ensures.into_iter_gives in record {
       can_next = tt;
       is_finite = tt;
@@ -18,12 +18,12 @@ loop-strip-init c =
 
 pub collect_strip-requires : goal.collect_strip-requires
 collect_strip-requires c =
-    let inside = All-head (Inside c.args.v) _ _ (rw c.in-Some.ensures.steps at c.loop-strip.invariant.inside) in
+    let inside = All-head (Inside c.args.version) _ _ (rw c.in-Some.ensures.steps at c.loop-strip.invariant.inside) in
     record { side = c.requires.side; region = c.requires.region; left_in = inside.0; right_in = inside.1 }
 
 pub loop-strip-preserved : goal.loop-strip-preserved
 loop-strip-preserved c =
-    let v = c.args.v in let s = side_of v in
+    let v = c.args.version in let s = side_of v in
     let i = c.loop-strip.invariant in let x = c.in-Some.strip in
     let xs = c.loop-strip.yielded in record {
       can_next = tt;
@@ -35,7 +35,7 @@ loop-strip-preserved c =
 
 pub returns : goal.returns
 returns c =
-    let v = c.args.v in let xs = c.loop-strip.yielded in
+    let v = c.args.version in let xs = c.loop-strip.yielded in
     let i = c.loop-strip.invariant in let r = c.into_codewords.result in
     let order = subst (λ (zs : List Strip). IsOrder v (in_region_of v (places_of (side_of v) zs)))
     (ap (λ (zs : List Strip). xs ++ zs) c.in-None.ensures.steps.0 ∙ append-nil xs) i.whole in

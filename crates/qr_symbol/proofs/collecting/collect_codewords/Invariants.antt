@@ -9,7 +9,7 @@ abbrev pub invariant-loop-strip : goal.invariant-loop-strip
 invariant-loop-strip l = record {
   can_next : (goal.iterator-loop-strip).can_next l.strip-iterator;
   is_finite : (goal.iterator-loop-strip).is_finite l.strip-iterator;
-  inside : All (Inside l.fn.v) l.strip-iterator;
-  whole : IsOrder l.fn.v (in_region_of l.fn.v (places_of (side_of l.fn.v) (l.yielded ++ l.strip-iterator)));
-  bits : HasCollected (map (colour_across l.across) (in_region_of l.fn.v (places_of (side_of l.fn.v) l.yielded))) l.bits;
+  inside : All (Inside l.fn.version) l.strip-iterator;
+  whole : IsOrder l.fn.version (in_region_of l.fn.version (places_of (side_of l.fn.version) (l.yielded ++ l.strip-iterator)));
+  bits : HasCollected (map (colour_across l.across) (in_region_of l.fn.version (places_of (side_of l.fn.version) l.yielded))) l.bits;
 }

@@ -6,9 +6,9 @@ pub loop-span-preserved-in-Both : goal.loop-span-preserved-in-Both
 loop-span-preserved-in-Both c =
     let i = c.loop-span.invariant in let z = i.strip in let step = c.in-Some.ensures.steps in let next = c.in-Some.ensures.goes.keeps in
     let is = rw (z.side, z.strip, z.region, z.most, c.in-Both.is) at step.is in let same = rw (z.side, z.strip, z.region, z.most) at step.same in
-    let s = side_of c.args.v in let x = c.args.strip in let r = c.args.region.now in let y = c.args.columns.now in let k = c.loop-span.span-iterator.passed in
+    let s = side_of c.args.version in let x = c.args.strip in let r = c.args.region.now in let y = c.args.columns.now in let k = c.loop-span.span-iterator.passed in
     let end : c.next.new.self.passed ≡ k + c.in-Both.count = omega (arith, is.1, is.2.0) in
-    let room : c.next.new.self.passed ≤ side_of c.args.v = omega (arith, next.passed, same.side) in record {
+    let room : c.next.new.self.passed ≤ side_of c.args.version = omega (arith, next.passed, same.side) in record {
       can_next = next;
       is_finite = tt;
       strip = same;
@@ -19,7 +19,7 @@ pub loop-span-preserved-in-Right : goal.loop-span-preserved-in-Right
 loop-span-preserved-in-Right c =
     let i = c.loop-span.invariant in let z = i.strip in let step = c.in-Some.ensures.steps in let next = c.in-Some.ensures.goes.keeps in
     let is = rw (z.side, z.strip, z.region, z.most, c.in-Right.is) at step.is in let same = rw (z.side, z.strip, z.region, z.most) at step.same in
-    let s = side_of c.args.v in let x = c.args.strip in let r = c.args.region.now in let y = c.args.columns.now in let k = c.loop-span.span-iterator.passed in let end : c.next.new.self.passed ≡ k + 1 = omega (arith, is.1, is.2.0) in record {
+    let s = side_of c.args.version in let x = c.args.strip in let r = c.args.region.now in let y = c.args.columns.now in let k = c.loop-span.span-iterator.passed in let end : c.next.new.self.passed ≡ k + 1 = omega (arith, is.1, is.2.0) in record {
       can_next = next;
       is_finite = tt;
       strip = same;
@@ -30,7 +30,7 @@ pub loop-span-preserved-in-Left : goal.loop-span-preserved-in-Left
 loop-span-preserved-in-Left c =
     let i = c.loop-span.invariant in let z = i.strip in let step = c.in-Some.ensures.steps in let next = c.in-Some.ensures.goes.keeps in
     let is = rw (z.side, z.strip, z.region, z.most, c.in-Left.is) at step.is in let same = rw (z.side, z.strip, z.region, z.most) at step.same in
-    let s = side_of c.args.v in let x = c.args.strip in let r = c.args.region.now in let y = c.args.columns.now in let k = c.loop-span.span-iterator.passed in let end : c.next.new.self.passed ≡ k + 1 = omega (arith, is.1, is.2.0) in record {
+    let s = side_of c.args.version in let x = c.args.strip in let r = c.args.region.now in let y = c.args.columns.now in let k = c.loop-span.span-iterator.passed in let end : c.next.new.self.passed ≡ k + 1 = omega (arith, is.1, is.2.0) in record {
       can_next = next;
       is_finite = tt;
       strip = same;
@@ -41,7 +41,7 @@ pub loop-span-preserved : goal.loop-span-preserved
 loop-span-preserved c =
     let i = c.loop-span.invariant in let z = i.strip in let step = c.in-Some.ensures.steps in let next = c.in-Some.ensures.goes.keeps in
     let is = rw (z.side, z.strip, z.region, z.most, c.in-Outside.is) at step.is in let same = rw (z.side, z.strip, z.region, z.most) at step.same in
-    let s = side_of c.args.v in let x = c.args.strip in let r = c.args.region.now in let y = c.args.columns.now in let k = c.loop-span.span-iterator.passed in record {
+    let s = side_of c.args.version in let x = c.args.strip in let r = c.args.region.now in let y = c.args.columns.now in let k = c.loop-span.span-iterator.passed in record {
       can_next = next;
       is_finite = tt;
       strip = same;

@@ -15,11 +15,11 @@ of_memory TooLong none = absurd (none refl)
 pub codewords-requires-clause-short : goal.codewords-requires-clause-short
 codewords-requires-clause-short c =
     let short = covered-short c.args.version c.args.level (cow_slice_items c.args.segmented.now.characters) _ (omega arith) (omega arith) c.requires.covered (omega (arith, c.requires.room)) in
-    rw c.deref.ensures.value (omega arith)
+    omega arith
 
 pub returns-in_err-codewords : goal.returns-in_err-codewords
 returns-in_err-codewords c =
     let p = err_from_is_err_and c.from_residual.result c.from_residual.ensures.1 in
     let room = c.requires.room in
     rw (p.1, p.2) (of_memory _ (λ e. let more = c.in_err-codewords.ensures.too_long.0 (ap (λ (f : BitFault). Err f) e) in
-    absurd (omega (arith, room, rw (c.deref-2.ensures.value) at more))))
+    absurd (omega (arith, room, more))))

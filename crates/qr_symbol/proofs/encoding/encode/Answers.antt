@@ -16,16 +16,16 @@ returns-in_err-found c =
       fault = told.fault;
     })
 
-pub fitting_symbol-requires-clause-room : goal.fitting_symbol-requires-clause-room
-fitting_symbol-requires-clause-room c = let fit = c.in_ok-found.ensures.fit in
-    version-fits _ _ _ _ _ _ _ (omega arith) fit.version.most fit.chosen fit.version.fits
+pub symbol_at-requires-clause-room : goal.symbol_at-requires-clause-room
+symbol_at-requires-clause-room c = let fit = c.in_ok-found.ensures.fit in
+    omega (arith, version-fits _ _ _ _ _ _ _ (omega arith) fit.version.most fit.chosen fit.version.fits)
 
 pub returns : goal.returns
 returns c =
     let fit = c.in_ok-found.ensures.fit in
-    let r = c.fitting_symbol.result in
-    let made = MatchResult-weaker r c.fitting_symbol.ensures (λ s of_rule. of_rule c.args.rule c.args.input.now fit.chosen) (λ e _. tt) in
-    let refused = MatchResult-weaker r c.fitting_symbol.ensures (λ s _. tt) (λ e memory. memory) in
+    let r = c.symbol_at.result in
+    let made = MatchResult-weaker r c.symbol_at.ensures (λ s of_rule. of_rule c.args.rule c.args.input.now fit.chosen) (λ e _. tt) in
+    let refused = MatchResult-weaker r c.symbol_at.ensures (λ s _. tt) (λ e memory. memory) in
     let told = refused-only _ _ _ _ _ _ _ r c.in_ok-found.ensures.refused fit.version refused in record {
       symbol = symbol-found _ _ _ _ _ _ _ fit.version made;
       level = IfOk-weaker r _ _ (λ s is. is.level) made;

@@ -27,17 +27,17 @@ pub highest_with_room-highest-requires : goal.highest_with_room-highest-requires
 highest_with_room-highest-requires c = let fit = c.in_ok-fit.ensures.fit in
     rw c.needed_bits-bits.ensures (version-fits _ _ _ _ _ _ _ (omega arith) fit.version.most fit.chosen fit.version.fits)
 
-pub fitting_symbol-requires-clause-room : goal.fitting_symbol-requires-clause-room
-fitting_symbol-requires-clause-room c = rw c.needed_bits-bits.ensures at c.highest_with_room-highest.ensures.room
+pub symbol_at-requires-clause-room : goal.symbol_at-requires-clause-room
+symbol_at-requires-clause-room c = omega (arith, rw c.needed_bits-bits.ensures at c.highest_with_room-highest.ensures.room)
 
 pub returns : goal.returns
 returns c =
     let fit = c.in_ok-fit.ensures.fit in
     let room = c.highest_with_room-highest.ensures in
     let highest = highest-fits _ c.args.level _ _ _ _ _ _ (omega arith) fit.version.most fit.chosen room.least (rw c.needed_bits-bits.ensures at room.room) (rw c.needed_bits-bits.ensures at room.highest) in
-    let r = c.fitting_symbol.result in
-    let made = MatchResult-weaker r c.fitting_symbol.ensures (λ s of_rule. of_rule c.args.rule c.args.input.now fit.chosen) (λ e _. tt) in
-    let refused = MatchResult-weaker r c.fitting_symbol.ensures (λ s _. tt) (λ e memory. memory) in
+    let r = c.symbol_at.result in
+    let made = MatchResult-weaker r c.symbol_at.ensures (λ s of_rule. of_rule c.args.rule c.args.input.now fit.chosen) (λ e _. tt) in
+    let refused = MatchResult-weaker r c.symbol_at.ensures (λ s _. tt) (λ e memory. memory) in
     let told = refused-only _ _ _ _ _ _ _ r c.in_ok-fit.ensures.refused fit.version refused in record {
       symbol = boosted-found _ _ _ _ _ _ _ _ fit.version highest made;
       read = symbol-back _ _ _ _ _ _ (omega arith) fit.version.most c.requires.written made;

@@ -1,5 +1,5 @@
 use Rattle.std.proofs.{Common.{◌+◌, ◌*◌, ap, subst, arith}}
-use Rattle.qr_symbol.specs.{Interleaving.{block_count}, Steps.Interleaving.IsChecks}
+use Rattle.qr_symbol.specs.Interleaving.{block_count, IsChecks}
 use Rattle.qr_symbol.proofs.lemmas.interleaving.CheckLemmas.{push-checks}
 use Rattle.qr_symbol.proofs.interleaving.corrections.Goals as goal
 

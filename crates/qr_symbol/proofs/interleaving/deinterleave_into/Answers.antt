@@ -7,25 +7,25 @@ use Rattle.qr_symbol.proofs.interleaving.deinterleave_into.Goals as goal
 
 pub bounds-message-start : goal.bounds-message-start
 bounds-message-start c =
-    let w = in-row c.args.sizes c.loop-place.place c.loop-block.block (omega arith) (omega arith) in
-    let k = position-in c.args.sizes c.loop-place.place c.loop-block.block w.0 in omega (arith, k, c.start-start.ensures, c.loop-place.invariant.long)
+    let w = in-row c.args.sizes c.loop-index.index c.loop-block.block (omega arith) (omega arith) in
+    let k = position-in c.args.sizes c.loop-index.index c.loop-block.block w.0 in omega (arith, k, c.start-start.ensures, c.loop-index.invariant.long)
 
-pub loop-place-preserved : goal.loop-place-preserved
-loop-place-preserved c =
-    let sizes = c.args.sizes in let p = c.loop-place.place in
-    let b = c.loop-block.block in let h = c.loop-place.invariant in let w = in-row sizes p b (omega arith) (omega arith) in
+pub loop-index-preserved : goal.loop-index-preserved
+loop-index-preserved c =
+    let sizes = c.args.sizes in let p = c.loop-index.index in
+    let b = c.loop-block.block in let h = c.loop-index.invariant in let w = in-row sizes p b (omega arith) (omega arith) in
     let rank = ap (λ (n : ℕ). n * p + b) c.count-blocks.ensures ∙ w.1 in record {
-      long = length-set c.loop-place.message _ _ ∙ h.long;
-      placed = placed-gathered sizes b p c.args.codewords.now c.loop-place.message _ _ h.long w.0 (ap (λ (z : ℕ). z + p) c.start-start.ensures) (ap (λ (z : ℕ). get_or c.args.codewords.now z 0) rank) h.placed;
+      long = length-set c.loop-index.message _ _ ∙ h.long;
+      placed = placed-gathered sizes b p c.args.codewords.now c.loop-index.message _ _ h.long w.0 (ap (λ (z : ℕ). z + p) c.start-start.ensures) (ap (λ (z : ℕ). get_or c.args.codewords.now z 0) rank) h.placed;
     }
 
 pub loop-block-preserved : goal.loop-block-preserved
 loop-block-preserved c =
-    let sizes = c.args.sizes in let b = c.loop-block.block in let h = c.loop-place.invariant in
-    let e : c.loop-place.place ≡ sizes.short_len = omega arith in
-    let all = subst (λ (p : ℕ). IsPlaced sizes b p c.args.codewords.now c.loop-place.message) e h.placed in record {
+    let sizes = c.args.sizes in let b = c.loop-block.block in let h = c.loop-index.invariant in
+    let e : c.loop-index.index ≡ sizes.short_len = omega arith in
+    let all = subst (λ (p : ℕ). IsPlaced sizes b p c.args.codewords.now c.loop-index.message) e h.placed in record {
       long = elim c.if-block-short.branch [
-        | then-block-short w ↦ ap length w.message-is ∙ (length-set c.loop-place.message _ _ ∙ h.long)
+        | then-block-short w ↦ ap length w.message-is ∙ (length-set c.loop-index.message _ _ ∙ h.long)
         | else-block-short w ↦ ap length w.message-is ∙ h.long
       ];
       placed = elim c.if-block-short.branch [

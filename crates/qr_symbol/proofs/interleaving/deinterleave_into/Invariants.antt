@@ -5,5 +5,5 @@ use Rattle.qr_symbol.proofs.interleaving.deinterleave_into.Given as goal
 abbrev pub invariant-loop-block : goal.invariant-loop-block
 invariant-loop-block l = record { long : length l.message ≡ codeword_count l.sizes; placed : IsPlaced l.sizes l.block 0 l.codewords l.message }
 
-abbrev pub invariant-loop-place : goal.invariant-loop-place
-invariant-loop-place l = record { long : length l.message ≡ codeword_count l.sizes; placed : IsPlaced l.sizes l.block l.place l.codewords l.message }
+abbrev pub invariant-loop-index : goal.invariant-loop-index
+invariant-loop-index l = record { long : length l.message ≡ codeword_count l.sizes; placed : IsPlaced l.sizes l.block l.index l.codewords l.message }

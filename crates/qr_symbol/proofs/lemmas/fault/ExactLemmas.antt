@@ -3,7 +3,7 @@ use Rattle.qr_bits.{proofs.Facts.empty-fits, specs.{declared.modes.Rule.Rule}}
 use Rattle.qr_bits.specs.declared.interpretation.Interpretation.{Interpretation}
 use Rattle.qr_symbol.proofs.lemmas.version_choice.FitLemmas.{version-short}
 use Rattle.{qr_layout.specs.declared.level.Level.Level}
-use Rattle.qr_symbol.specs.{Series.{IsSeries, HasNoSeries}, VersionChoice.{FitsVersion, HasNoVersion}}
+use Rattle.qr_symbol.specs.{Series.{IsSeries, HasNoSeries}, Steps.Encoding.IsRefusedExactly, VersionChoice.{FitsVersion, HasNoVersion}}
 use Rattle.qr_symbol.specs.declared.{fault.{EncodeFault.EncodeFault, ReadFault.ReadFault}, symbol.Symbol.Symbol}
 use Rattle.std.proofs.Common.{◌≡◌, ◌≢◌, ◌<◌, ◌≤◌, ◌↔◌, ◌⊎◌, inl, inr, ℕ, List, [], length, Result, Ok, Err, Vec, Global, sym, ap, subst, arith}
 use Rattle.std.specs.Prelude.{IfOk, IfErr, MatchResult}
@@ -49,6 +49,29 @@ empty-short x e l = omega (arith, ap length e)
 -- an input of more than 7,089 bytes fits no version
 pub long-has-no-version : (x : List ℕ) (l : Level) (b : Rule) (how : Interpretation) (smallest : ℕ) → 1 ≤ smallest → 7089 < length x → HasNoVersion smallest l b how x
 long-has-no-version x l b how smallest least long v a c fits = let short = version-short v l b how x (omega arith) c fits in omega arith
+
+-- bytes that are not empty and not more than 7,089 are refused exactly if they fit no version, unless memory was refused
+pub refused-some : {X : Type 0} (smallest : ℕ) (l : Level) (b : Rule) (how : Interpretation) (x : List ℕ) (r : Result X EncodeFault)
+    → length x ≢ 0 → length x ≤ 7089 → MatchResult r (λ _. HasNoVersion smallest l b how x → ⊥)
+    (λ e. (e ≡ fault.Memory) ⊎ ((e ≡ fault.TooLong) × HasNoVersion smallest l b how x)) → IsRefusedExactly smallest l b how x r
+refused-some smallest l b how x (Ok f) some short fits = record {
+  empty = (λ e. cc, λ none. absurd (some (ap length none)));
+  too_long = exactly _ _ _ _ (λ e. cc) (λ e. cc) fits tt;
+  long = λ more. absurd (omega arith);
+  fault = tt;
+}
+refused-some smallest l b how x (Err e) some short (inl m) = record {
+  empty = (λ e. cc, λ none. absurd (some (ap length none)));
+  too_long = exactly _ _ _ _ (λ e. cc) (λ e. cc) tt (inr m);
+  long = λ more. absurd (omega arith);
+  fault = inr (inr m);
+}
+refused-some smallest l b how x (Err e) some short (inr w) = record {
+  empty = (λ e. cc, λ none. absurd (some (ap length none)));
+  too_long = exactly _ _ _ _ (λ e. cc) (λ _. w.1) tt (inl (λ _. w.0));
+  long = λ more. absurd (omega arith);
+  fault = inr (inl w.0);
+}
 
 -- an empty input has a series
 pub empty-has-series : (x : List ℕ) (l : Level) (b : Rule) (how : Interpretation) (v : ℕ) → x ≡ [] → HasNoSeries v l b how x → ⊥

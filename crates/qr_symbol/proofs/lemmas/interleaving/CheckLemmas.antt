@@ -2,7 +2,7 @@
 use Rattle.{qr_field.specs.Polynomial.IsCorrection, qr_layout.specs.declared.blocks.Blocks.Blocks}
 use Rattle.qr_symbol.proofs.lemmas.interleaving.PositionLemmas.{start-next, start-most, part-at, part-grown, part-last}
 use Rattle.qr_symbol.specs.Interleaving.{Position, IsPosition, block_count, block_len, start_of, codeword_count, codeword_at, check_at, data_sizes, correction_sizes, block_of, part_of, IsFinalMessage, IsGathered}
-use Rattle.qr_symbol.specs.Steps.Interleaving.{IsChecks}
+use Rattle.qr_symbol.specs.Interleaving.{IsChecks}
 use Rattle.qr_symbol.specs.declared.interleaving.BlockSizes.{BlockSizes}
 use Rattle.std.proofs.Common.{◌≡◌, ℕ, suc, ◌+◌, ◌<◌, ◌≤◌, List, [], ◌∷◌, ◌++◌, map, length, length-append, get_or, refl, sym, ◌∙◌, ap, inl, inr, arith}
 use Rattle.std.proofs.lemmas.{Bool.{cases_lt, Decides.nat_tests}, List.{take_all, FromFn.{get_or-map-range_with_len, length-map-range_with_len}}}
@@ -55,7 +55,7 @@ both-interleaved b d es first checks h m n s t =
     let part : (i : ℕ) → i < blocks → get_or corrections i [] ≡ part_of sizes es i =
     λ i l. get_or-map-range_with_len (part_of sizes es) 0 blocks i i [] l (omega arith) in
     let same : (u : Position) → IsPosition sizes u → codeword_at sizes es u ≡ check_at corrections u =
-    λ u i. part-at sizes es u i ∙ ap (λ (xs : List ℕ). get_or xs u.place 0) (sym (part u.block (let l = i.0 in omega arith))) in
+    λ u i. part-at sizes es u i ∙ ap (λ (xs : List ℕ). get_or xs u.index 0) (sym (part u.block (let l = i.0 in omega arith))) in
     record {
       data_positions = s.positions;
       data_order = s.order;

@@ -5,7 +5,7 @@ use Rattle.qr_layout.specs.{Version.total_codewords_of, declared.{blocks.Blocks.
 use Rattle.qr_symbol.proofs.lemmas.interleaving.OrderLemmas.{positions-many}
 use Rattle.qr_symbol.proofs.lemmas.interleaving.RankLemmas.{positions-one, position-of, map-at}
 use Rattle.qr_symbol.proofs.lemmas.interleaving.{CheckLemmas.both-interleaved, PositionLemmas.part-at}
-use Rattle.qr_symbol.specs.{Steps.Interleaving.IsChecks, declared.interleaving.BlockSizes.BlockSizes}
+use Rattle.qr_symbol.specs.{Interleaving.IsChecks, declared.interleaving.BlockSizes.BlockSizes}
 use Rattle.qr_symbol.specs.Interleaving.{block_count, codeword_count, codeword_at, data_sizes, correction_sizes, block_of, check_at, part_of, IsFinalMessage, IsGathered}
 use Rattle.std.proofs.Common.{◌≡◌, ℕ, ◌+◌, ◌-◌, ◌*◌, ◌<◌, ◌≤◌, List, [], ◌∷◌, ◌++◌, map, length, length-append, get_or, refl, sym, ◌∙◌, ap, subst, arith, drop, take}
 use Rattle.std.proofs.{Math.Seq.{take-append_seam, drop-append_seam}, lemmas.List.{length-map, length-drop, length-take-le, ext_get_or, take-append-drop, take-take, take_all}}
@@ -38,10 +38,10 @@ data-one b d e cw n m h k =
     cc in ext_get_or 0 d e (n ∙ sym m) (λ j l.
     let t = position-of c (block_count c) j (omega arith) (omega arith) in
     let q = map-at _ _ _ t.0 (append-front _ _ _ _ (search (arith, length-map)) both).0 (Mem-of-Contains h.data_positions t.0 (h.data_order.complete t.0 t.1)) in
-    same-place d e _ j t.2 q)
+    same-index d e _ j t.2 q)
   where
-    same-place : (d e : List ℕ) (i j : ℕ) → i ≡ j → get_or d i 0 ≡ get_or e i 0 → get_or d j 0 ≡ get_or e j 0
-    same-place d e i j f q = subst (λ (z : ℕ). get_or d z 0 ≡ get_or e z 0) f q
+    same-index : (d e : List ℕ) (i j : ℕ) → i ≡ j → get_or d i 0 ≡ get_or e i 0 → get_or d j 0 ≡ get_or e j 0
+    same-index d e i j f q = subst (λ (z : ℕ). get_or d z 0 ≡ get_or e z 0) f q
 
 -- ---- the length of a final sequence
 
@@ -110,8 +110,8 @@ checks-read b interleaved d xs es n e h g k =
     let read = map-at _ _ _ w.0 both (Mem-of-Contains _ w.0 (g.order.complete w.0 w.1)) in
     let here : w.0.block < block_count (data_sizes b) = (let i = w.1.0 in omega arith) in
     let same = correction-one (block_of b d w.0.block) b.ec_len _ (part_of c es w.0.block) (h.each w.0.block here) (k.each w.0.block here) in
-    let computed : codeword_at c es w.0 ≡ check_at h.corrections w.0 = part-at c es w.0 w.1 ∙ ap (λ (ys : List ℕ). get_or ys w.0.place 0) (sym same) in
-    let place = w.2 in cc)
+    let computed : codeword_at c es w.0 ≡ check_at h.corrections w.0 = part-at c es w.0 w.1 ∙ ap (λ (ys : List ℕ). get_or ys w.0.index 0) (sym same) in
+    let index = w.2 in cc)
 
 -- ---- a sequence that is read
 

@@ -9,7 +9,7 @@ use Rattle.qr_symbol.proofs.lemmas.interleaving.RankLemmas.{position-one, positi
 
 -- the item of an interleaved list for a position
 abbrev pub item_at : BlockSizes → List ℕ → Position → ℕ
-item_at c interleaved t = get_or interleaved (rank_of c t.place t.block) 0
+item_at c interleaved t = get_or interleaved (rank_of c t.index t.block) 0
 
 -- ---- all positions, in their order
 
@@ -33,7 +33,7 @@ ordered-next c interleaved p b n l m h = elim (cases_lt p (block_len c b)) [
       let none : IsPosition c (position p b) → ⊥ = λ t. absurd (let j = t.1 in omega arith) in record {
         positions = h.positions;
         order = positions-pass c p b _ none h.order;
-        same = h.same ∙ ap (λ (i : ℕ). take i interleaved) (sym (rank-pass c p b l m none));
+        same = cc (rank-pass c p b l m none);
       }
 ]
 
@@ -41,43 +41,34 @@ ordered-next c interleaved p b n l m h = elim (cases_lt p (block_len c b)) [
 ordered-across : (c : BlockSizes) (interleaved : List ℕ) (p b : ℕ) → codeword_count c ≤ length interleaved → p ≤ c.short_len → b ≤ block_count c → OrderedBefore c interleaved p 0 → OrderedBefore c interleaved p b
 ordered-across c interleaved p zero n l m h = h
 ordered-across c interleaved p (suc b) n l m h = let e : b + 1 ≡ suc b = omega arith in
-    subst (OrderedBefore c interleaved p) e (ordered-next c _ p b n l (omega arith) (ordered-across c _ p b n l (omega arith) h))
+    search (arith, ordered-next, ordered-across c _ p b n l (omega arith) h)
 
 -- all indices
 ordered-down : (c : BlockSizes) (interleaved : List ℕ) (p : ℕ) → codeword_count c ≤ length interleaved → p ≤ c.short_len + 1 → OrderedBefore c interleaved p 0
-ordered-down c interleaved zero n l = record {
-  positions = [];
-  order = positions-start c;
-  same = ap (λ (i : ℕ). take i interleaved) (rank-start c);
-}
+ordered-down c interleaved zero n l = search (arith, positions-start, rank-start)
 ordered-down c interleaved (suc p) n l =
     let h = ordered-across c _ p (block_count c) n (omega arith) (omega arith) (ordered-down c interleaved p n (omega arith)) in
     let e : p + 1 ≡ suc p = omega arith in
-    subst (λ (k : ℕ). OrderedBefore c interleaved k 0) e (record { positions = h.positions; order = positions-row c p _ h.order; same = h.same ∙ ap (λ (i : ℕ). take i interleaved) (rank-row c p (omega arith)) })
+    subst (λ (k : ℕ). OrderedBefore c interleaved k 0) e (record { positions = h.positions; order = positions-row c p _ h.order; same = cc (rank-row c p (omega arith)) })
 
 -- ---- codewords at their ranks
 
 -- the codewords of the first `b` blocks, and the first `p` of the next block, are at their ranks in an interleaved list
 abbrev pub IsPlaced : BlockSizes → ℕ → ℕ → List ℕ → List ℕ → Type 0
-IsPlaced c b p interleaved xs = (t : Position) → IsPosition c t → (t.block < b) ⊎ ((t.block ≡ b) × (t.place < p)) → item_at c interleaved t ≡ codeword_at c xs t
+IsPlaced c b p interleaved xs = (t : Position) → IsPosition c t → (t.block < b) ⊎ ((t.block ≡ b) × (t.index < p)) → item_at c interleaved t ≡ codeword_at c xs t
 
 -- after the last codeword of a block, the next block begins
 pub placed-block : (c : BlockSizes) (b p : ℕ) (interleaved xs : List ℕ) → block_len c b ≤ p → IsPlaced c b p interleaved xs → IsPlaced c (b + 1) 0 interleaved xs
-placed-block c b p interleaved xs l h t i (inl k) = elim (cases_lt t.block b) [
-  | inl s ↦ h t i (inl s)
-  | inr s ↦
-      let e : t.block ≡ b = omega arith in
-      let m : t.place < block_len c b = subst (λ (z : ℕ). t.place < block_len c z) e i.1 in h t i (inr (e, omega arith))
-]
+placed-block c b p interleaved xs l h t i (inl k) = search arith
 placed-block c b p interleaved xs l h t i (inr w) = absurd (let k = w.1 in omega arith)
 
 -- a position is an earlier one, or the one that comes next
-later-cases : (t : Position) (b p : ℕ) → (t.block < b) ⊎ ((t.block ≡ b) × (t.place < p + 1)) → ((t.block < b) ⊎ ((t.block ≡ b) × (t.place < p))) ⊎ ((t.block ≡ b) × (t.place ≡ p))
+later-cases : (t : Position) (b p : ℕ) → (t.block < b) ⊎ ((t.block ≡ b) × (t.index < p + 1)) → ((t.block < b) ⊎ ((t.block ≡ b) × (t.index < p))) ⊎ ((t.block ≡ b) × (t.index ≡ p))
 later-cases t b p (inl l) = inl (inl l)
-later-cases t b p (inr w) = let l = w.1 in elim (cases_lt t.place p) [ inl s ↦ inl (inr (w.0, s)) | inr s ↦ inr (w.0, omega arith) ]
+later-cases t b p (inr w) = search arith
 
 -- no earlier position is the one that comes next
-earlier-other : (t : Position) (b p : ℕ) → (t.block < b) ⊎ ((t.block ≡ b) × (t.place < p)) → t.place ≡ p → t.block ≡ b → ⊥
+earlier-other : (t : Position) (b p : ℕ) → (t.block < b) ⊎ ((t.block ≡ b) × (t.index < p)) → t.index ≡ p → t.block ≡ b → ⊥
 earlier-other t b p (inl l) e f = absurd (omega arith)
 earlier-other t b p (inr w) e f = absurd (let l = w.1 in omega arith)
 
@@ -85,9 +76,9 @@ earlier-other t b p (inr w) e f = absurd (let l = w.1 in omega arith)
 pub placed-interleaved : (c : BlockSizes) (b p : ℕ) (interleaved xs : List ℕ) (i x : ℕ) → codeword_count c ≤ length interleaved → IsPosition c (position p b) → i ≡ rank_of c p b → x ≡ codeword_at c xs (position p b) → IsPlaced c b p interleaved xs → IsPlaced c b (p + 1) (set interleaved i x) xs
 placed-interleaved c b p interleaved xs i x n u e f h t k w =
     let below = rank-in c p b u in elim (later-cases t b p w) [
-      | inl s ↦ get_or-set_other interleaved i (rank_of c t.place t.block) x 0 (λ q. let z = rank-one c t (position p b) k u (q ∙ e) in earlier-other t b p s z.0 z.1) ∙ h t k s
+      | inl s ↦ get_or-set_other interleaved i (rank_of c t.index t.block) x 0 (λ q. let z = rank-one c t (position p b) k u (q ∙ e) in earlier-other t b p s z.0 z.1) ∙ h t k s
       | inr s ↦
-          let j : rank_of c t.place t.block ≡ i = cc in
+          let j : rank_of c t.index t.block ≡ i = cc in
           ap (λ (z : ℕ). get_or (set interleaved i x) z 0) j ∙ (get_or-set_same interleaved i x 0 (omega arith) ∙ (f ∙ cc))
     ]
 
@@ -95,9 +86,9 @@ placed-interleaved c b p interleaved xs i x n u e f h t k w =
 pub placed-gathered : (c : BlockSizes) (b p : ℕ) (interleaved xs : List ℕ) (i x : ℕ) → length xs ≡ codeword_count c → IsPosition c (position p b) → i ≡ start_of c b + p → x ≡ item_at c interleaved (position p b) → IsPlaced c b p interleaved xs → IsPlaced c b (p + 1) interleaved (set xs i x)
 placed-gathered c b p interleaved xs i x n u e f h t k w =
     let inside = position-in c p b u in elim (later-cases t b p w) [
-      | inl s ↦ h t k s ∙ sym (get_or-set_other xs i (start_of c t.block + t.place) x 0 (λ q. let z = position-one c t (position p b) k u (q ∙ e) in earlier-other t b p s z.0 z.1))
+      | inl s ↦ h t k s ∙ sym (get_or-set_other xs i (start_of c t.block + t.index) x 0 (λ q. let z = position-one c t (position p b) k u (q ∙ e) in earlier-other t b p s z.0 z.1))
       | inr s ↦
-          let j : start_of c t.block + t.place ≡ i = cc in
+          let j : start_of c t.block + t.index ≡ i = cc in
           sym (ap (λ (z : ℕ). get_or (set xs i x) z 0) j ∙ (get_or-set_same xs i x 0 (omega arith) ∙ (f ∙ cc)))
     ]
 
@@ -129,23 +120,23 @@ list-of P (suc n) f =
       length-append w.0 (v.0 ∷ []) ∙ omega (arith, w.1),
       λ j l. elim (cases_lt j n) [
         | inl s ↦ subst (P j) (sym (old j s)) (w.2 j s)
-        | inr s ↦ (let e : n ≡ j = omega arith in subst (λ (k : ℕ). P k (get_or (w.0 ++ v.0 ∷ []) k 0)) e (subst (P n) (sym here) v.1))
+        | inr s ↦ search arith
       ],
     )
 
 -- a sequence with at least as many codewords as the blocks can be gathered
 pub gather-some : (c : BlockSizes) (interleaved : List ℕ) → codeword_count c ≤ length interleaved → (xs : List ℕ) × IsGathered c interleaved xs
 gather-some c interleaved n =
-    let w = list-of (λ j x. (t : Position) → IsPosition c t → start_of c t.block + t.place ≡ j → item_at c interleaved t ≡ x) (codeword_count c) (λ j l.
+    let w = list-of (λ j x. (t : Position) → IsPosition c t → start_of c t.block + t.index ≡ j → item_at c interleaved t ≡ x) (codeword_count c) (λ j l.
     let u = position-of c (block_count c) j (omega arith) l in (
       item_at c interleaved u.0,
       λ t i e.
           let z = position-one c t u.0 i u.1 (e ∙ sym u.2) in cc,
     )) in
-    (w.0, placed-end c (block_count c) interleaved w.0 w.1 n refl (λ t i s. w.2 _ (position-in c t.place t.block i) t i refl))
+    (w.0, placed-end c (block_count c) interleaved w.0 w.1 n refl (λ t i s. w.2 _ (position-in c t.index t.block i) t i refl))
 
 -- an order of positions has one position for each codeword
 pub positions-many : (c : BlockSizes) (ts : List Position) → IsPositionOrder c ts → length ts ≡ codeword_count c
 positions-many c ts h =
     let w = gather-some c (replicate (codeword_count c) 0) (omega (arith, length-replicate {A = ℕ})) in
-    ap (length {A = Position}) (positions-one c ts _ h w.1.order) ∙ w.1.many
+    cc (positions-one c ts _ h w.1.order)

@@ -9,7 +9,7 @@ use Rattle.std.{proofs.lemmas.List.Kept.AllPairs-cons, specs.List.{All, AllPairs
 
 -- the position with index p in block b
 abbrev pub position : ℕ → ℕ → Position
-position p b = record { place = p; block = b }
+position p b = record { index = p; block = b }
 
 -- the list contains exactly the positions before the position (p, b), in their order
 pub record PositionsBefore (c : BlockSizes) (p b : ℕ) (ts : List Position) : Type 0 where
@@ -139,9 +139,9 @@ pub part-last : (c : BlockSizes) (xs es : List ℕ) (k : ℕ) → length xs ≡ 
 part-last c xs es k h l = search (arith, drop_at, take_all)
 
 -- the codeword at a position, in its block
-pub part-at : (c : BlockSizes) (d : List ℕ) (t : Position) → IsPosition c t → codeword_at c d t ≡ get_or (part_of c d t.block) t.place 0
+pub part-at : (c : BlockSizes) (d : List ℕ) (t : Position) → IsPosition c t → codeword_at c d t ≡ get_or (part_of c d t.block) t.index 0
 part-at c d t i =
     let rest = drop (start_of c t.block) d in
-    let first = get_or-take (block_len c t.block) rest t.place 0 i.1 in
-    let second = get_or-drop (start_of c t.block) d t.place 0 in
+    let first = get_or-take (block_len c t.block) rest t.index 0 i.1 in
+    let second = get_or-drop (start_of c t.block) d t.index 0 in
     cc

@@ -1,5 +1,5 @@
 -- The number of positions before a position, and that blocks have only one order of positions.
-use Rattle.qr_layout.proofs.Facts.{All-rec, Mem, Mem-at, Mem-of-Contains, Rises-of-pairs, one_rising}
+use Rattle.qr_layout.proofs.Facts.{All-rec, Mem, Mem-at, Mem-of-Contains, Rises-of-pairs, one-rising}
 use Rattle.qr_symbol.proofs.lemmas.interleaving.PositionLemmas.{position, start-next, start-most}
 use Rattle.qr_symbol.specs.Interleaving.{Position, ComesBefore, block_count, start_of, codeword_count, IsPosition, IsPositionOrder}
 use Rattle.qr_symbol.specs.declared.interleaving.BlockSizes.{BlockSizes}
@@ -7,7 +7,7 @@ use Rattle.std.proofs.Common.{◌≡◌, ℕ, zero, suc, ◌+◌, ◌-◌, ◌*�
 use Rattle.std.proofs.{Math.Nat.{mul-suc, mul-le-mul_left, mul_comm}, lemmas.Bool.{cases_lt, Decides.nat_tests}}
 
 -- two positions of codewords at the same index of the message are equal
-pub position-one : (c : BlockSizes) (t u : Position) → IsPosition c t → IsPosition c u → start_of c t.block + t.place ≡ start_of c u.block + u.place → (t.place ≡ u.place) × (t.block ≡ u.block)
+pub position-one : (c : BlockSizes) (t u : Position) → IsPosition c t → IsPosition c u → start_of c t.block + t.index ≡ start_of c u.block + u.index → (t.index ≡ u.index) × (t.block ≡ u.block)
 position-one c t u i j e =
     let a = start-next c t.block in
     let b = start-next c u.block in elim (cases_lt t.block u.block) [
@@ -46,9 +46,9 @@ abbrev IsRow : BlockSizes → ℕ → ℕ → Type 0
 IsRow c p b = (p < c.short_len) ⊎ ((p ≡ c.short_len) × (c.short ≤ b))
 
 -- before a position with a smaller index there are fewer positions
-rank-below : (c : BlockSizes) (t u : Position) → t.block < block_count c → IsRow c t.place t.block → IsRow c u.place u.block → t.place < u.place → rank_of c t.place t.block < rank_of c u.place u.block
-rank-below c t u i (inl l) (inl m) k = let z : block_count c * (t.place + 1) ≤ block_count c * u.place = mul-le-mul_left (block_count c) (omega arith) in search (arith, nat_tests)
-rank-below c t u i (inl l) (inr m) k = let z : block_count c * (t.place + 1) ≤ block_count c * c.short_len = mul-le-mul_left (block_count c) (omega arith) in search (arith, mul_comm, nat_tests)
+rank-below : (c : BlockSizes) (t u : Position) → t.block < block_count c → IsRow c t.index t.block → IsRow c u.index u.block → t.index < u.index → rank_of c t.index t.block < rank_of c u.index u.block
+rank-below c t u i (inl l) (inl m) k = let z : block_count c * (t.index + 1) ≤ block_count c * u.index = mul-le-mul_left (block_count c) (omega arith) in search (arith, nat_tests)
+rank-below c t u i (inl l) (inr m) k = let z : block_count c * (t.index + 1) ≤ block_count c * c.short_len = mul-le-mul_left (block_count c) (omega arith) in search (arith, mul_comm, nat_tests)
 rank-below c t u i (inr l) (inl m) k = absurd (let e = l.0 in omega arith)
 rank-below c t u i (inr l) (inr m) k = absurd (let e = l.0 in let f = m.0 in omega arith)
 
@@ -59,18 +59,18 @@ rank-across c p a b (inr l) (inl m) e = absurd (let f = l.0 in omega arith)
 rank-across c p a b (inr l) (inr m) e = search (arith, nat_tests)
 
 -- two positions of equal rank are equal
-pub rank-one : (c : BlockSizes) (t u : Position) → IsPosition c t → IsPosition c u → rank_of c t.place t.block ≡ rank_of c u.place u.block → (t.place ≡ u.place) × (t.block ≡ u.block)
+pub rank-one : (c : BlockSizes) (t u : Position) → IsPosition c t → IsPosition c u → rank_of c t.index t.block ≡ rank_of c u.index u.block → (t.index ≡ u.index) × (t.block ≡ u.block)
 rank-one c t u i j e =
-    let v = position-cases c t.place t.block i in
-    let w = position-cases c u.place u.block j in elim (cases_lt t.place u.place) [
+    let v = position-cases c t.index t.block i in
+    let w = position-cases c u.index u.block j in elim (cases_lt t.index u.index) [
       | inl k ↦ absurd (let z = rank-below c t u i.0 v w k in omega arith)
-      | inr k ↦ elim (cases_lt u.place t.place) [
+      | inr k ↦ elim (cases_lt u.index t.index) [
         | inl n ↦ absurd (let z = rank-below c u t j.0 w v n in omega arith)
         | inr n ↦
-            let q : u.place ≡ t.place = omega arith in
-            let same : rank_of c t.place t.block ≡ rank_of c t.place u.block = e ∙ ap (λ (p : ℕ). rank_of c p u.block) q in
+            let q : u.index ≡ t.index = omega arith in
+            let same : rank_of c t.index t.block ≡ rank_of c t.index u.block = e ∙ ap (λ (p : ℕ). rank_of c p u.block) q in
             let x = subst (λ (p : ℕ). IsRow c p u.block) q w in
-            (sym q, rank-across c t.place t.block u.block v x same)
+            (sym q, rank-across c t.index t.block u.block v x same)
       ]
     ]
 
@@ -106,12 +106,12 @@ asym t u h k = search arith
 
 -- blocks have only one order of positions
 pub positions-one : (c : BlockSizes) (ts us : List Position) → IsPositionOrder c ts → IsPositionOrder c us → ts ≡ us
-positions-one c ts us h k = one_rising _ asym ts us (Rises-of-pairs _ ts h.rising) (Rises-of-pairs _ us k.rising)
+positions-one c ts us h k = one-rising _ asym ts us (Rises-of-pairs _ ts h.rising) (Rises-of-pairs _ us k.rising)
     (λ t m. Mem-of-Contains us t (k.complete t (Mem-at (IsPosition c) ts t (All-rec _ ts h.in_blocks) m)))
     (λ t m. Mem-of-Contains ts t (h.complete t (Mem-at (IsPosition c) us t (All-rec _ us k.in_blocks) m)))
 
 -- each index of the message is that of a position
-pub position-of : (c : BlockSizes) (k j : ℕ) → k ≤ block_count c → j < start_of c k → (t : Position) × IsPosition c t × (start_of c t.block + t.place ≡ j)
+pub position-of : (c : BlockSizes) (k j : ℕ) → k ≤ block_count c → j < start_of c k → (t : Position) × IsPosition c t × (start_of c t.block + t.index ≡ j)
 position-of c zero j l m = absurd (no_start c.short_len)
   where
     no_start : (n : ℕ) → ⊥

@@ -5,20 +5,20 @@ use Rattle.qr_layout.proofs.Facts.{dark-module, format-first, format-only, forma
 use Rattle.qr_layout.specs.{Format.version_word_of, Region.is_corner, Role.role_of, Format.first_place, Format.second_place}
 use Rattle.qr_layout.specs.{Version.side_of, declared.region.Place.Place, declared.role.Role.Role}
 use Rattle.qr_layout.specs.declared.role.Role.TheVariants.{Fixed, FormatBit, VersionBit, Region}
-use Rattle.qr_symbol.specs.Steps.Patterns.{fixed_colour, format_or, is_dark_in_six, is_in_block, paint_of}
+use Rattle.qr_symbol.specs.Steps.Patterns.{fixed_colour, format_or, is_dark_in_six, is_in_finder_area, paint_of}
 use Rattle.qr_symbol.proofs.lemmas.placement.PlacementLemmas.{at, by_test}
 use Rattle.qr_symbol.proofs.lemmas.patterns.TimingLemmas.{paint-column_six, paint-fixed, paint-row_six}
 
--- the tests that a place is in one of the first one, two and three blocks
-abbrev pub two_blocks : ℕ → ℕ → ℕ → Bool
-two_blocks s r c = is_in_block 0 0 r c || is_in_block 0 (s - 8) r c
+-- the tests that a place is in one of the first one, two and three areas
+abbrev pub two_areas : ℕ → ℕ → ℕ → Bool
+two_areas s r c = is_in_finder_area 0 0 r c || is_in_finder_area 0 (s - 8) r c
 
-abbrev pub blocks : ℕ → ℕ → ℕ → Bool
-blocks s r c = two_blocks s r c || is_in_block (s - 8) 0 r c
+abbrev pub areas : ℕ → ℕ → ℕ → Bool
+areas s r c = two_areas s r c || is_in_finder_area (s - 8) 0 r c
 
--- the blocks, and then the two timing modules and the dark module beside them
+-- the areas, and then the two timing modules and the dark module beside them
 abbrev pub with_first : ℕ → ℕ → ℕ → Bool
-with_first s r c = blocks s r c || (eqb r 8 && eqb c 6)
+with_first s r c = areas s r c || (eqb r 8 && eqb c 6)
 
 abbrev pub with_second : ℕ → ℕ → ℕ → Bool
 with_second s r c = with_first s r c || (eqb r 6 && eqb c 8)

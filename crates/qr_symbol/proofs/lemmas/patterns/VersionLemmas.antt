@@ -21,7 +21,7 @@ version-none s r c = grind (arith, nat_tests)
 pub version-more : (s n r c : ℕ) → 21 ≤ s → version_drawn s (n + 1) r c ≡ ((version_drawn s n r c || (eqb r (n / 3) && eqb c (s - 11 + n % 3))) || (eqb r (s - 11 + n % 3) && eqb c (n / 3)))
 version-more s n r c h = grind (arith, nat_tests)
 
--- all eighteen bits fill the two blocks of version information
+-- all eighteen bits fill both copies of the version information
 pub version-all : (v r c : ℕ) → 7 ≤ v → version_drawn (side_of v) 18 r c ≡ is_version_information v r c
 version-all v r c h = search (arith, nat_tests)
 

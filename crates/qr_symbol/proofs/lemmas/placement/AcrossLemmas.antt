@@ -1,7 +1,7 @@
 -- Drawing in the transposed square, where the two columns of a strip are rows.
 use Rattle.qr_layout.proofs.Facts.{region-symmetric}
 use Rattle.qr_layout.specs.{Region.is_in_region, Version.side_of, declared.strips.Strip.Strip}
-use Rattle.qr_matrix.{proofs.Facts.colour-square, specs.{BitRow.has, Grid.{Grid, square, colour, with_row, IsSquare}}}
+use Rattle.qr_matrix.{proofs.Facts.colour-square, specs.{BitRow.has, Grid.{Grid, colour, with_row, IsSquare}}}
 use Rattle.qr_symbol.proofs.lemmas.placement.PlacementLemmas.{square-is}
 use Rattle.qr_symbol.proofs.lemmas.spans.SpanLemmas.{row-small}
 use Rattle.qr_symbol.specs.Steps.Placement.{number_at, region_grid, AreDrawn, IsStripDrawn}
@@ -25,7 +25,7 @@ two-colours : (g : Grid) (a b : ℕ) (f h : ℕ → Bool) (r c : ℕ) → r < g.
     → ⊥) → (r ≡ a → colour (with_row (with_row g a f) b h) r c ≡ f c) × (r ≡ b
     → colour (with_row (with_row g a f) b h) r c ≡ h c) × ((r ≡ a → ⊥) → (r ≡ b → ⊥)
     → colour (with_row (with_row g a f) b h) r c ≡ colour g r c)
-two-colours g a b f h r c l m n = rw (two-rows g a b f h r c l m) (λ e. grind (arith, nat_tests), λ e. grind (arith, nat_tests), λ e o. grind (arith, nat_tests))
+two-colours g a b f h r c l m n = search (arith, two-rows, nat_tests)
 
 -- a module in the region gets its bit also if it was made light before
 drawn-light : (t p q w z : Bool) → z ≡ cond t w q → q ≡ (p && not t) → z ≡ cond t w p
@@ -41,10 +41,10 @@ pub strip-drawn : (v : ℕ) (cw : List ℕ) (x : Strip) (first next : ℕ) (g h 
 strip-drawn v cw x first next g h old new o least most e light number d =
     let side = ap (λ (z : Grid). z.side) o in record {
       number = number;
-      square = square-is (side_of v) (λ r c. cond (eqb r _) (has new.left c) (colour (with_row g x.right (has new.right)) r c)) h (e ∙ ap (λ z. square z (λ r c. cond (eqb r (x.right - 1)) (has new.left c) (colour (with_row g x.right (has new.right)) r c))) side);
+      square = search (arith, square-is);
       drawn = λ j l.
           let row = row_of (side_of v) x j in let small = (row-small x (side_of v) j l).0 in
           let bits = d.drawn j (omega arith) (omega arith) in
           rw e (((two-colours g _ _ _ _ _ row (omega arith) (omega arith) (λ i. omega arith)).0 refl) ∙ drawn-light _ _ _ _ _ bits.0 (light row small).0, ((two-colours g _ _ _ _ _ row (omega arith) (omega arith) (λ i. omega arith)).1 refl) ∙ drawn-light _ _ _ _ _ bits.1 (light row small).1);
-      kept = λ row col l m a b. rw e ((two-colours g x.right (x.right - 1) _ _ col row (omega arith) (omega arith) (λ i. omega arith)).2 a b);
+      kept = search (arith, two-colours);
     }

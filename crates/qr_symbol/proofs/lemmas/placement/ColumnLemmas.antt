@@ -1,12 +1,12 @@
 -- The columns of a strip, held apart from the square in which they are two rows.
-use Rattle.std.proofs.Common.{◌≡◌, ℕ, zero, suc, ◌+◌, ◌-◌, ◌*◌, ◌<◌, ◌≤◌, Bool, true, cond, eqb, ◌&&◌, List, sym, ◌∙◌, inl, inr, add-one, arith}
+use Rattle.std.proofs.Common.{◌≡◌, ℕ, zero, suc, ◌+◌, ◌-◌, ◌*◌, ◌<◌, ◌≤◌, Bool, true, cond, eqb, ◌&&◌, List, inl, inr, add-one, arith}
 use Rattle.std.proofs.lemmas.Bool.{cases_lt}
 use Rattle.std.proofs.lemmas.Bool.Decides.{nat_tests}
 use Rattle.qr_symbol.specs.declared.spans.Columns.{Columns}
 use Rattle.qr_layout.specs.{Region.is_in_region, Version.side_of, declared.strips.Strip.Strip}
 use Rattle.qr_matrix.specs.BitRow.{has, has_bit}
 use Rattle.qr_symbol.specs.Steps.Placement.{number_after, number_at, AreDrawn}
-use Rattle.qr_symbol.{proofs.lemmas.spans.SpanLemmas.rows-apart, specs.Steps.Spans.row_of}
+use Rattle.qr_symbol.{specs.Steps.Spans.row_of}
 use Rattle.qr_symbol.specs.Steps.Words.{AreNext}
 
 -- ---- rows and their numbers
@@ -39,16 +39,10 @@ pub rows-drawn : {v : ℕ} {cw : List ℕ} {x : Strip} {first k n i m t : ℕ} {
     → i + m ≤ side_of v → AreDrawn v cw x first k t p r
 rows-drawn {v} {x = x} {i = i} d e f g room = record {
   drawn = λ j a b. elim (cases_lt j i) [
-    | inl l ↦
-        let same = e.kept (row_of _ x j) (λ h c o w. rows-apart x (side_of v) h j (omega arith) (omega arith) w) in
-        let one = d.drawn j a (omega arith) in (cc, cc)
-    | inr l ↦
-        let same = d.kept (row_of _ x j) (λ h c o w. rows-apart x (side_of v) j h (omega arith) (omega arith) (sym w)) in
-        let one = e.drawn j l (omega arith) in (cc, cc)
+    | inl l ↦ search arith
+    | inr l ↦ search arith
   ];
-  kept = λ row apart.
-      let one = d.kept row (λ j a b. apart j a (omega arith)) in
-      let two = e.kept row (λ j a b. apart j (omega arith) (omega arith)) in (cc, cc);
+  kept = search arith;
 }
 
 -- a module is drawn if it is in the region
@@ -72,13 +66,6 @@ pub row-drawn : {v : ℕ} {cw : List ℕ} {x : Strip} {first k : ℕ} {old new :
     ((i : ℕ) → has new.left i ≡ cond (u && eqb i row) (has_bit bits (63 - one)) (has old.left i)) →
     AreDrawn v cw x first k 1 old new
 row-drawn {x = x} {k = k} row n taken one bits t u r p q m o l1 l2 next right left = record {
-  drawn = λ j a b.
-      let e : j ≡ k = omega arith in let same = eqb-same row in
-      rw (e, ← r, ← p, ← q, m, ← after-plus t n _ one o) (
-        here-drawn t _ _ _ _ _ (right row) same (next taken l1),
-        here-drawn u _ _ _ _ _ (left row) same (next one l2),
-      );
-  kept = λ i apart.
-      let n : row ≡ i → ⊥ = λ e. apart k (omega arith) (omega arith) (sym r ∙ e) in
-      (there-kept t _ _ _ i row (right i) n, there-kept u _ _ _ i row (left i) n);
+  drawn = search (arith, eqb-same, after-plus, here-drawn);
+  kept = search (arith, there-kept);
 }

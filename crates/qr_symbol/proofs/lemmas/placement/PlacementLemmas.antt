@@ -12,7 +12,7 @@ use Rattle.qr_symbol.specs.{Mask.{inverts, inverted}, Symbol.{colour_by, colour_
 use Rattle.qr_symbol.specs.Steps.Patterns.{fixed_colour, format_or, paint_of, symmetric_format}
 use Rattle.qr_symbol.specs.Steps.Placement.{placed_colour, number_after, number_at, IsStripDrawn, masked_colour, masked_grid, region_grid, plain_grid}
 use Rattle.qr_symbol.specs.Steps.Spans.{row_of}
-use Rattle.std.proofs.Common.{◌≡◌, ℕ, zero, suc, ◌+◌, ◌-◌, ◌⊎◌, ◌<◌, ◌≤◌, Bool, true, false, cond, nat_eq, ◌&&◌, List, [], ◌∷◌, ◌++◌, length, length-append, refl, sym, ◌∙◌, ap, inl, inr, subst, append_assoc, append-nil, arith}
+use Rattle.std.proofs.Common.{◌≡◌, ℕ, zero, suc, ◌+◌, ◌-◌, ◌⊎◌, ◌<◌, ◌≤◌, Bool, true, false, cond, ◌&&◌, List, [], ◌∷◌, ◌++◌, length, length-append, refl, sym, ◌∙◌, ap, inl, inr, subst, append_assoc, append-nil, arith}
 
 -- the module in a row and a column
 abbrev pub at : ℕ → ℕ → Place
@@ -53,19 +53,15 @@ next-number v front later x number o k = (order-mem v _ o x (Mem-mid x _ _), ind
 -- one module of the walk is drawn
 pub done-step : (s : ℕ) (want : ℕ → ℕ → Bool) (g : Grid) (later : List Place) (x : Place) (d : Bool)
     → g.side ≡ s → d ≡ want x.row x.col → Done s want (x ∷ later) g → Done s want later (painted g x.row x.col d)
-done-step s want g later x d k e h r c l m n = elim (same-place x.row x.col r c) [
-  | inl w ↦ rw (w.0.0, w.0.1) (colour-painted-here g _ _ d (omega arith) (omega arith) ∙ e)
-  | inr w ↦
-      colour-painted-there g _ _ r c d (omega arith) (omega arith) w.0 ∙ h r c l m (λ q. elim q [ inl e ↦ w.0 (ap (λ (z : Place). z.row) (sym e), ap (λ (z : Place). z.col) (sym e)) | inr q ↦ n q ])
-]
+done-step s want g later x d k e h r c l m n = search (arith, same-place, colour-painted-here, colour-painted-there)
 
 -- after the walk, every place has its final colour
 pub done-end : (s : ℕ) (want : ℕ → ℕ → Bool) (g : Grid) → IsSquare s g → Done s want [] g → g ≡ square s want
-done-end s want g e h = e ∙ square-same s (colour g) want (λ r c l m. h r c l m (λ q. q))
+done-end s want g e h = search (arith, square-same)
 
 -- a square is equal to the square of its own colours
 square-again : (k : ℕ) (f : ℕ → ℕ → Bool) → square k f ≡ square k (colour (square k f))
-square-again k f = square-same k f (colour (square k f)) (λ r c l m. sym (colour-square k f r c l m))
+square-again k f = search (arith, square-same, colour-square)
 
 -- a grid that equals a square of colours is a square
 pub square-is : (s : ℕ) (f : ℕ → ℕ → Bool) (g : Grid) → g ≡ square s f → IsSquare s g
@@ -73,11 +69,11 @@ square-is s f g e = rw e (square-again s f)
 
 -- the transposed square of a square is a square
 pub square-transposed : (s : ℕ) (g : Grid) → IsSquare s g → IsSquare s (transposed g)
-square-transposed s g e = square-is s (λ r c. colour g c r) _ (ap (λ (z : Grid). square z.side (λ r c. colour g c r)) e)
+square-transposed s g e = search (arith, square-is)
 
 -- a square with one place changed is a square
 pub painted-square : (s : ℕ) (g : Grid) (row col : ℕ) (d : Bool) → g.side ≡ s → IsSquare s (painted g row col d)
-painted-square s g row col d e = square-again g.side (λ r c. cond (nat_eq r row && nat_eq c col) d (colour g r c)) ∙ ap (λ (k : ℕ). square k (colour (painted g row col d))) e
+painted-square s g row col d e = search (arith, square-again)
 
 -- the list of all modules, seen at the next module
 pub whole-next : (v : ℕ) (front now later : List Place) (x : Place) → IsOrder v (front ++ now) → now ≡ x ∷ later → IsOrder v (front ++ x ∷ later)
@@ -85,11 +81,11 @@ whole-next v front now later x o e = subst (λ (ms : List Place). IsOrder v (fro
 
 -- the list of all modules, after the next module
 pub whole-push : (v : ℕ) (front later : List Place) (x : Place) → IsOrder v (front ++ x ∷ later) → IsOrder v ((front ++ x ∷ []) ++ later)
-whole-push v front later x o = subst (IsOrder v) (sym (append_assoc front (x ∷ []) later)) o
+whole-push v front later x o = search (arith, append_assoc)
 
 -- a module of the order is in the square
 pub in-square : (v : ℕ) (front later : List Place) (x : Place) → IsOrder v (front ++ x ∷ later) → (x.row < side_of v) × (x.col < side_of v)
-in-square v front later x o = let w = order-mem v _ o x (Mem-mid x _ _) in (row-in v x w, col-in v x w)
+in-square v front later x o = search (arith, order-mem, Mem-mid, row-in, col-in)
 
 -- ---- a symbol that is drawn again with a mask
 
@@ -108,21 +104,19 @@ masked-inside : (v : ℕ) (l : Level) (mask : ℕ) (cw : List ℕ) (r c : ℕ) �
     role_of v r c ≡ Region → format_or (format_word_of l mask) (role_of v r c) (inverted (is_in_region v r c &&
     inverts mask r c) (plain_colours v cw r c)) ≡ colour_of v l mask cw r c
 unfolding colour_of format_or
-masked-inside v l mask cw r c t e = rw (e, t, inside v cw (paint_of v symmetric_format) r c t) refl
+masked-inside v l mask cw r c t e = search (arith, inside)
 
 -- the masked colour of a module outside the region
 masked-outside : (v : ℕ) (l : Level) (mask : ℕ) (cw : List ℕ) (r c : ℕ) → is_in_region v r c ≡ false →
     (role_of v r c ≡ Region → ⊥) → format_or (format_word_of l mask) (role_of v r c) (inverted (is_in_region v r
     c && inverts mask r c) (plain_colours v cw r c)) ≡ colour_of v l mask cw r c
 unfolding colour_of
-masked-outside v l mask cw r c t n = rw (t, ← outside v cw _ r c t) (role-masked v l _ cw r c _ n)
+masked-outside v l mask cw r c t n = search (arith, outside, role-masked)
 
 -- with mask and format information, the result is the symbol of its codewords under this mask
 pub masked-all : (v : ℕ) (l : Level) (mask : ℕ) (cw : List ℕ) (region plain : Grid) → 1 ≤ v → region ≡ region_grid v → plain ≡ plain_grid v cw → masked_grid v l mask region plain ≡ grid_of v l mask cw
 unfolding masked_colour
-masked-all v l mask cw region plain k e f = square-same _ _ _ (λ r c i j.
-    rw ((ap (λ (g : Grid). colour g r c) e ∙ colour-square _ _ r c i j), (ap (λ (g : Grid). colour g r c) f ∙ colour-square _ _ r c i j)) (by_test _ _ (λ t. masked-inside v l mask cw r c t (region-role v r c k i j t))
-    (λ t. masked-outside v l mask cw r c t (λ u. let h = role-region v r c k i j u in cc))))
+masked-all v l mask cw region plain k e f = search (arith, square-same, colour-square, by_test, masked-inside, region-role, masked-outside, role-region)
 
 -- ---- strips whose modules are drawn
 
@@ -135,12 +129,12 @@ pub record IsPlaced (v : ℕ) (cw : List ℕ) (g0 : Grid) (before later : List P
 
 -- before any place, the number is 0 and the square is unchanged
 pub placed-start : (v : ℕ) (cw : List ℕ) (g : Grid) (ms : List Place) → IsSquare (side_of v) g → IsOrder v (in_region_of v ms) → IsPlaced v cw g [] ms 0 g
-placed-start v cw g ms s o = record { whole = o; next = refl; square = s; done = done-start v _ g _ o (outside v cw _) }
+placed-start v cw g ms s o = search (arith, done-start, outside)
 
 -- one more place takes one more bit if it is in the region
 count-push : (v : ℕ) (xs : List Place) (m : Place) → length (in_region_of v (xs ++ m ∷ [])) ≡ number_after
     (is_in_region v m.row m.col) (length (in_region_of v xs))
-count-push v xs m = ap length (kept-append v xs _) ∙ (length-append (in_region_of v xs) _ ∙ told _ _)
+count-push v xs m = search (arith, kept-append, length-append)
   where
     told : (t : Bool) (n : ℕ) → n + length (cond t (m ∷ []) []) ≡ number_after t n
     told true n = refl
@@ -158,15 +152,14 @@ rows-split s x k zero m =
     let e : 0 + (m + 1) ≡ suc m = omega arith in
     let f : k + 0 ≡ k = omega arith in rw (e, f) refl
 rows-split s x k (suc j) m =
-    let e : suc j + (m + 1) ≡ suc (j + (m + 1)) = omega arith in let f : k + suc j ≡ k + 1 + j = omega arith in
-    rw (e, f) (ap (λ (z : List Place). at (row_of s x k) x.right ∷ at (row_of s x k) (x.right - 1) ∷ z) (rows-split s x (k + 1) j m))
+    let e : suc j + (m + 1) ≡ suc (j + (m + 1)) = omega arith in search (arith, rows-split s x (k + 1) j m)
 
 -- the places of a strip before row j, that row's, and those after it
 strip-split : (s : ℕ) (x : Strip) (j : ℕ) → j < s → both_of (rows_from s x 0 s) ≡ both_of (rows_from s x 0 j)
     ++ at (row_of s x j) x.right ∷ at (row_of s x j) (x.right - 1) ∷ both_of (rows_from s x (j + 1) (s - 1 - j))
 strip-split s x j l =
     let e : j + (s - 1 - j + 1) ≡ s = omega arith in
-    let f : 0 + j ≡ j = omega arith in rw (e, f) at (rows-split s x 0 j (s - 1 - j))
+    search (arith, rows-split)
 
 -- the number of the next bit after the first rows of a strip
 number-rows : (v : ℕ) (x : Strip) (before : List Place) (j : ℕ)
@@ -176,14 +169,12 @@ number-rows v x before (suc j) =
     let p = at (row_of (side_of v) x j) x.right in let q = at (row_of (side_of v) x j) (x.right - 1) in
     let e : j + 1 ≡ suc j = omega arith in let f : 0 + j ≡ j = omega arith in
     let whole : before ++ both_of (rows_from (side_of v) x 0 (suc j)) ≡ ((before ++ (both_of (rows_from (side_of v) x 0 j))) ++ p ∷ []) ++ q ∷ [] = rw (rw (e, f) at (rows-split (side_of v) x 0 j 0)) (simp append_assoc) in
-    rw (whole, count-push v _ q, count-push v _ p, ← number-rows v x before j) refl
+    search (arith, count-push, number-rows v x before j)
 
 -- a kept module of a list is its first module, or kept after it
 mem-kept : (v : ℕ) (p m : Place) (ms : List Place) → Mem m (in_region_of v (p ∷ ms))
     → ((p ≡ m) × (is_in_region v m.row m.col ≡ true)) ⊎ Mem m (in_region_of v ms)
-mem-kept v p m ms q = by_test _ _
-    (λ t. elim (subst (Mem m) (kept-in v p ms t) q) [ inl e ↦ inl (e, ap (λ (z : Place). is_in_region v z.row z.col) (sym e) ∙ t) | inr q ↦ inr q ])
-    (λ t. inr (subst (Mem m) (kept-out v p ms t) q))
+mem-kept v p m ms q = search (arith, by_test, kept-in, kept-out)
 
 -- a kept module of a strip and further places is one of the strip's columns, or one of the further places
 strip-mem : (v s : ℕ) (x : Strip) (k n : ℕ) (m : Place) (later : List Place) → Mem m (in_region_of v (both_of
@@ -207,7 +198,7 @@ placed-strip v cw g0 a b x before later number next o p d =
     let s = side_of v in let a-side : a.side ≡ s = ap (λ (z : Grid). z.side) o in
     let b-side : b.side ≡ s = ap (λ (z : Grid). z.side) d.square in record {
       whole = rw append_assoc p.whole;
-      next = d.number ∙ (ap (λ n. number_at v x n s) p.next ∙ number-rows v x _ s);
+      next = cc (number-rows v x _ s);
       square = square-transposed s b d.square;
       done = λ r c l m n.
           let kept : (((c ≡ x.right) ⊎ (c ≡ x.right - 1)) × (is_in_region v r c ≡ true) → ⊥) → colour a c r ≡ (placed_colour v cw (colour g0)) r c = λ u.
@@ -227,7 +218,7 @@ placed-strip v cw g0 a b x before later number next o p d =
               | inl f ↦ rw f (by_test (is_in_region v r (x.right - 1)) _
                   (λ t. (rw t at bits.1) ∙ (ap (codeword_bit cw) (ap (number_after _) (sym first) ∙ (sym (count-push v xs i) ∙ sym (place-number v (xs ++ i ∷ []) ys k (rw (append_assoc xs _ _) whole) t))) ∙ sym (inside v cw _ r _ t)))
                   (λ t. (rw t at bits.1) ∙ (rw f at kept) (λ w. false≢true (sym t ∙ w.1))))
-              | inr f ↦ d.kept r c l m e f ∙ kept (λ w. elim w.0 [ inl g ↦ e g | inr g ↦ f g ])
+              | inr f ↦ search arith
             ]
           ];
     }
@@ -236,8 +227,8 @@ placed-strip v cw g0 a b x before later number next o p d =
 pub placed-small : (v : ℕ) (cw : List ℕ) (g0 g : Grid) (before later : List Place) (number : ℕ) → 1 ≤ v → v ≤ 40 → IsPlaced v cw g0 before later number g → number ≤ 29648
 placed-small v cw g0 g before later number k l p =
     let m = order-small v _ k l p.whole in
-    omega (arith, ap length (kept-append v before later), length-append (in_region_of v before) (in_region_of v later), p.next)
+    search (arith, kept-append, length-append)
 
 -- after all places, the square has the placed colours
 pub placed-end : (v : ℕ) (cw : List ℕ) (g0 g : Grid) (before : List Place) (number : ℕ) → IsPlaced v cw g0 before [] number g → g ≡ square (side_of v) (placed_colour v cw (colour g0))
-placed-end v cw g0 g before number p = done-end (side_of v) (placed_colour v cw (colour g0)) g p.square p.done
+placed-end v cw g0 g before number p = search (arith, done-end)

@@ -1,9 +1,9 @@
 -- Spans of a strip that are drawn one after the other.
-use Rattle.std.proofs.Common.{◌≡◌, ℕ, ◌+◌, ◌-◌, ◌*◌, ◌<◌, ◌≤◌, true, false, cond, eqb, leb, ltb, ◌&&◌, ◌||◌, List, refl, sym, ◌∙◌, ap, arith}
+use Rattle.std.proofs.Common.{◌≡◌, ℕ, ◌+◌, ◌-◌, ◌*◌, ◌/◌, ◌^◌, ◌<◌, ◌≤◌, true, false, leb, ltb, ◌&&◌, ◌||◌, List, refl, sym, ◌∙◌, ap, arith}
 use Rattle.qr_layout.specs.{Region.is_in_region, Version.side_of, declared.strips.Strip.Strip}
 use Rattle.qr_matrix.specs.BitRow.{has, has_bit}
 use Rattle.qr_symbol.proofs.lemmas.placement.{ColumnLemmas.{number-whole, row-drawn, row-number, rows-drawn}, LightLemmas.{number-none, run-drawn}}
-use Rattle.qr_symbol.proofs.lemmas.spans.SpanLemmas.{row-small, rows-apart}
+use Rattle.qr_symbol.proofs.lemmas.{spans.SpanLemmas.{row-small, rows-apart}, words.BitLemmas.highest-set}
 use Rattle.qr_symbol.specs.declared.spans.Columns.{Columns}
 use Rattle.qr_symbol.specs.Steps.Placement.{number_at, AreDrawn, AreLight, AreLightRows, AreWhole, IsRegion}
 use Rattle.qr_symbol.specs.Steps.Spans.{row_of, top_row, AreOutside, AreWholeRows}
@@ -73,12 +73,15 @@ both-drawn {v} {cw} {x} {first} {old} {new} region k n top number bits room few 
 
 -- a row of which only one module is in the region, with the bit of this module
 module _ {v : ℕ} {cw : List ℕ} {x : Strip} {first : ℕ} {old new : Columns} (region : Columns) (k row number bits : ℕ) (room : k < side_of v)
-    (is : IsRegion v x.right region) (r : row ≡ row_of (side_of v) x k) (f : number ≡ number_at v x first k) (next : AreNext cw number bits) where
+    (is : IsRegion v x.right region) (light : AreLight (side_of v) x k region old) (small : bits < 2 ^ 64)
+    (r : row ≡ row_of (side_of v) x k) (f : number ≡ number_at v x first k) (next : AreNext cw number bits) where
   -- the right module is drawn
   pub right-drawn : has region.right row ≡ true → has region.left row ≡ false
-      → ((i : ℕ) → has new.right i ≡ cond (eqb i row) (has_bit bits 63) (has old.right i)) → ((i : ℕ) → has new.left i ≡ has old.left i)
+      → ((i : ℕ) → has new.right i ≡ (has old.right i || leb row i && has_bit (bits / 2 ^ 63) (i - row))) → ((i : ℕ) → has new.left i ≡ has old.left i)
       → IsSpanDrawn v cw x first k 1 number (number + 1) old new
-  right-drawn t u right left =
+  right-drawn t u set left =
+      let before : has old.right row ≡ false = ap (λ z. z && has old.right row) (sym t) ∙ rw r (light k (omega arith) room).0 in
+      let right = highest-set bits row (has old.right) (has new.right) small before set in
       let at = is row (omega (arith, (row-small x (side_of v) k room).0)) in
       let g : number_at v x first k ≡ number + 0 = omega arith in record {
         few = omega arith;
@@ -88,9 +91,11 @@ module _ {v : ℕ} {cw : List ℕ} {x : Strip} {first : ℕ} {old new : Columns}
 
   -- the left module is drawn
   pub left-drawn : has region.right row ≡ false → has region.left row ≡ true
-      → ((i : ℕ) → has new.right i ≡ has old.right i) → ((i : ℕ) → has new.left i ≡ cond (eqb i row) (has_bit bits 63) (has old.left i))
+      → ((i : ℕ) → has new.right i ≡ has old.right i) → ((i : ℕ) → has new.left i ≡ (has old.left i || leb row i && has_bit (bits / 2 ^ 63) (i - row)))
       → IsSpanDrawn v cw x first k 1 number (number + 1) old new
-  left-drawn t u right left =
+  left-drawn t u right set =
+      let before : has old.left row ≡ false = ap (λ z. z && has old.left row) (sym u) ∙ rw r (light k (omega arith) room).1 in
+      let left = highest-set bits row (has old.left) (has new.left) small before set in
       let at = is row (omega (arith, (row-small x (side_of v) k room).0)) in
       let g : number_at v x first k ≡ number + 0 = omega arith in record {
         few = omega arith;

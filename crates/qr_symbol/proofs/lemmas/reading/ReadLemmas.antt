@@ -1,7 +1,7 @@
 -- What is read from the square of a symbol: the codeword bits, the codewords and the message.
 use Rattle.qr_bits.proofs.Facts.{length-field, length-bits_of, bits_at, bytes-takes}
 use Rattle.qr_bits.specs.{Bits.{field, bits_of, codeword_bit}, Parsing.bytes_of}
-use Rattle.qr_layout.proofs.Facts.{order-mem, order-length, index-at, only_order, to_come-start, region-role}
+use Rattle.qr_layout.proofs.Facts.{order-mem, order-length, index-at, only-order, to_come-start, region-role}
 use Rattle.qr_layout.specs.{Blocks.data_codewords_of, Order.IsOrder, Steps.Order.{to_come, first_cursor}}
 use Rattle.qr_layout.specs.{Version.total_codewords_of, declared.{level.Level.Level, region.Place.Place}}
 use Rattle.qr_matrix.{proofs.Facts.colour-square, specs.Grid.Grid}
@@ -78,7 +78,7 @@ bits-one (c ∷ cs) (d ∷ ds) a b e =
 
 -- a square is read as at most one list of codewords
 pub read-one : (v mask : ℕ) (g : Grid) (cw ds : List ℕ) → IsRead v mask g cw → IsRead v mask g ds → cw ≡ ds
-read-one v mask g cw ds h k = bits-one cw ds h.bytes k.bytes (cc (only_order v h.places k.places h.order k.order))
+read-one v mask g cw ds h k = bits-one cw ds h.bytes k.bytes (cc (only-order v h.places k.places h.order k.order))
 
 -- every square contains codewords
 pub read-some : (v mask : ℕ) (g : Grid) → 1 ≤ v → v ≤ 40 → (cw : List ℕ) × IsRead v mask g cw

@@ -18,7 +18,7 @@ byte-at xs k a = elim (cases_lt k (length xs)) [ inl l ↦ a k 0 l | inr l ↦ (
 -- the final sequence of a message of bytes consists of bytes
 final-bytes : (b : Blocks) (d cw : List ℕ) → All (λ x. x < 256) d → IsFinalMessage b d cw → All (λ x. x < 256) cw
 final-bytes b d cw a h = subst (All (λ x. x < 256)) (sym h.whole) (All-append (λ x. x < 256) _ _
-    (All-map (λ x. x < 256) _ _ (λ k t l. let u = get_or _ k t in byte-at d (start_of (data_sizes b) u.block + u.place) a))
+    (All-map (λ x. x < 256) _ _ (λ k t l. let u = get_or _ k t in byte-at d (start_of (data_sizes b) u.block + u.index) a))
     (All-map (λ x. x < 256) (check_at h.corrections) h.check_positions (λ k t l.
     let u = get_or _ k t in byte-at _ _ (h.each u.block (omega arith)).bytes)))
 

@@ -31,7 +31,7 @@ few-fit v l b how xs p q few =
 
 -- one byte fits in any case
 pub one-fits : (v : ℕ) (l : Level) (b : Rule) (how : Interpretation) (xs : List ℕ) → 1 ≤ v → v ≤ 40 → length xs ≤ 1 → HasFit how v b xs (room_of v l how)
-one-fits v l b how xs p q one = few-fit v l b how xs p q (omega (arith, interpretation-most how))
+one-fits v l b how xs p q one = search (arith, few-fit, interpretation-most)
 
 -- so the longest prefix that fits is not empty
 pub longest-some : (v : ℕ) (l : Level) (b : Rule) (how : Interpretation) (xs : List ℕ) (n : ℕ) → 1 ≤ v → v ≤ 40 → 0 < length xs → IsLongestFit how v b xs (room_of v l how) n → 0 < n
@@ -68,7 +68,7 @@ longest-cut v l b how xs m n p q long h =
     let room = room_of v l how in
     let cut = length-take m xs in record {
       inside = omega arith;
-      fits = subst (λ (ys : List ℕ). HasFit how v b ys room) (take-less n m xs (omega arith)) h.fits;
+      fits = search (arith, take-less);
       longest = λ k i fit.
           let short = part-short v l b how (take k xs) p q fit in let same = length-take k xs in
           h.longest k (omega arith) (subst (λ (ys : List ℕ). HasFit how v b ys room) (sym (take-less k m xs (omega arith))) fit);
@@ -116,8 +116,8 @@ longest-one how v b xs room m n h k =
 pub parts-one : (v : ℕ) (l : Level) (b : Rule) (how : Interpretation) (x : List ℕ) (ps qs : List (List ℕ)) → AreParts v l b how x ps → AreParts v l b how x qs → ps ≡ qs
 unfolding AreParts
 parts-one v l b how x [] [] h k = refl
-parts-one v l b how x [] (q ∷ qs) h k = absurd (let within = k.2.inside in omega (arith, ap length h))
-parts-one v l b how x (p ∷ ps) [] h k = absurd (let within = h.2.inside in omega (arith, ap length k))
+parts-one v l b how x [] (q ∷ qs) h k = search arith
+parts-one v l b how x (p ∷ ps) [] h k = search arith
 parts-one v l b how x (p ∷ ps) (q ∷ qs) h k =
     let same = longest-one how v b x _ h.0 k.0 h.2 k.2 in
     λ i. (h.3 ∙ (ap (λ (n : ℕ). take n x) same ∙ sym k.3)) i ∷ (parts-one v l b how (drop k.0 x) ps qs (subst (λ (n : ℕ). AreParts v l b how (drop n x) ps) same h.4) k.4) i
@@ -134,13 +134,13 @@ unfolding AreParts
 parts-long v l b how x [] i j h = omega (arith, ap length h)
 parts-long v l b how x (p ∷ ps) i j h =
     let short = part-short v l b how (take h.0 x) i j h.2.fits in
-    let rest = parts-long v l b how (drop h.0 x) ps i j h.4 in omega (arith, length-take h.0 x, length-drop h.0 x)
+    search (arith, length-take, length-drop, parts-long v l b how (drop h.0 x) ps i j h.4)
 
 -- ---- no fewer parts
 
 -- the rest of two joined lists, if the first list is dropped as a whole
 behind-all : {X : Type 0} (k : ℕ) (xs ys : List X) → length xs ≤ k → drop k (xs ++ ys) ≡ drop (k - length xs) ys
-behind-all k xs ys i = ap (λ (n : ℕ). drop n (xs ++ ys)) (omega arith) ∙ drop-append-add xs ys _
+behind-all k xs ys i = search (arith, drop-append-add)
 
 -- a rest of the bytes fits wherever all of the bytes fit
 rest-fits : (how : Interpretation) (v : ℕ) (b : Rule) (k : ℕ) (xs : List ℕ) (n : ℕ) → may_use b Kanji ≡ false → HasFit how v b xs n → HasFit how v b (drop k xs) n
@@ -156,9 +156,7 @@ rest-parts v l b how k (p ∷ ps) plain h =
     let fits = λ (q : List ℕ). HasFit how v b q (room_of v l how) in
     let behind = All-tail fits p ps h in elim (cases_lt k (length p)) [
       | inl i ↦ (drop k p ∷ ps, (drop-append-le k p _ (omega arith), All-cons fits _ ps (rest-fits how v b k p _ plain (All-head fits p ps h)) behind), omega arith)
-      | inr i ↦ (
-          let r = rest-parts v l b how (k - length p) ps plain behind in
-          (r.0, (behind-all k p _ i ∙ r.1.0, r.1.1), omega (arith, r.2)))
+      | inr i ↦ search (arith, behind-all, rest-parts v l b how (k - length p) ps plain behind)
     ]
 
 -- if the rest after the longest prefix needs k parts, the bytes need k + 1
@@ -208,10 +206,7 @@ pub lengths-at : (v : ℕ) (l : Level) (b : Rule) (how : Interpretation) (rest n
     rest (drop i ns) → IsLongestFit how v b rest (room_of v l how) (get_or ns i 0) × AreLengths v l b how (drop (get_or ns i 0)
     rest) (drop (i + 1) ns)
 unfolding AreLengths
-lengths-at v l b how rest ns i some h =
-    let here : AreLengths v l b how rest (get_or ns i 0 ∷ drop (suc i) ns) = rw (drop-cons ns i 0) at h in
-    let next : suc i ≡ i + 1 = omega arith in
-    (here.1, subst (λ (k : ℕ). AreLengths v l b how (drop (get_or ns i 0) rest) (drop k ns)) next here.2)
+lengths-at v l b how rest ns i some h = search (arith, drop-cons)
 
 -- if the symbols made and those of the rest are those of all parts, so they are with the next symbol
 pub symbols-more : (v : ℕ) (l : Level) (b : Rule) (how : Interpretation) (last parity k : ℕ) (rest ns : List ℕ) (whole : List (List ℕ))
@@ -221,9 +216,7 @@ pub symbols-more : (v : ℕ) (l : Level) (b : Rule) (how : Interpretation) (last
     → AreSymbolsFrom v l b how last parity (k + 1) (parts_of (drop (get_or ns k 0) rest) (drop (k + 1) ns)) ss →
     AreSymbolsFrom v l b how last parity 0 whole ((found ++ s ∷ []) ++ ss)
 unfolding AreSymbolsFrom parts_of
-symbols-more v l b how last parity k rest ns whole found s some is all ss h =
-    let next : k + 1 ≡ suc k = omega arith in
-    rw append_assoc (all (s ∷ ss) (rw (drop-cons ns k 0) (is, (subst (λ (j : ℕ). AreSymbolsFrom v l b how last parity (k + 1) (parts_of (drop (get_or ns k 0) rest) (drop j ns)) ss) next h))))
+symbols-more v l b how last parity k rest ns whole found s some is all ss h = search (arith, append_assoc, drop-cons)
 
 -- if there is no part left, there is no symbol left
 pub symbols-none : (v : ℕ) (l : Level) (b : Rule) (how : Interpretation) (last parity k : ℕ) (rest : List ℕ) → AreSymbolsFrom v l b how last parity k (parts_of rest []) []

@@ -36,9 +36,23 @@ highest-bit n (suc k) small = has_bit-shr n 63 (suc k) ∙ (unset-above n 64 (su
     none t = grind (arith, nat_tests)
 
 -- it is set in a column from its row on, where the column was light
-pub module-set : (row i : ℕ) (here old new bit set : Bool) → here ≡ false → (i ≡ row → old ≡ here)
+module-set : (row i : ℕ) (here old new bit set : Bool) → here ≡ false → (i ≡ row → old ≡ here)
     → set ≡ (nat_eq (i - row) 0 && bit) → new ≡ (old || leb row i && set) → new ≡ cond (nat_eq i row) bit old
 module-set row i here old new bit set dark same e f = grind (arith, nat_tests)
+
+-- it becomes the colour of its row
+pub highest-set : (bits row : ℕ) (old new : ℕ → Bool) → bits < 2 ^ 64 → old row ≡ false
+    → ((i : ℕ) → new i ≡ (old i || leb row i && has_bit (bits / 2 ^ 63) (i - row)))
+    → (i : ℕ) → new i ≡ cond (nat_eq i row) (has_bit bits 63) (old i)
+highest-set bits row old new small light set i =
+    module-set row i (old row) (old i) (new i) (has_bit bits 63) (has_bit (bits / 2 ^ 63) (i - row)) light (λ e. ap old e) (highest-bit bits (i - row) small) (set i)
+
+-- it is in the word of its row
+pub highest-within : (bits row k : ℕ) → bits < 2 ^ 64 → 64 ≤ row % 64 + k → has_bit (bits / 2 ^ 63) k ≡ false
+highest-within bits row k small l = highest-bit bits k small ∙ none (has_bit bits 63)
+  where
+    none : (t : Bool) → (nat_eq k 0 && t) ≡ false
+    none t = grind (arith, nat_tests)
 
 -- a word with one more codeword contains eight more bits
 pub codewords-more : (cw : List ℕ) (p n w b : ℕ) → b ≡ get_or cw (p + n) 0 → b < 256 → ((j : ℕ) → j < 8 * n → has_bit w (8 * n - 1 - j) ≡ codeword_bit cw (8 * p + j)) → (j : ℕ) → j < 8 * (n + 1) → has_bit (256 * w + b) (8 * (n + 1) - 1 - j) ≡ codeword_bit cw (8 * p + j)

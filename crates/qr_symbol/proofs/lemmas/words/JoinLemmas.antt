@@ -1,6 +1,6 @@
 -- Further bits after the bits of a number, and the codewords that they fill.
 use Rattle.std.proofs.Common.{◌≡◌, ℕ, zero, suc, ◌+◌, ◌-◌, ◌*◌, ◌/◌, ◌%◌, ◌^◌, ◌<◌, ◌≤◌, ◌==◌, Bool, true, false, cond, not, ◌||◌, None, Some, List, [], ◌∷◌, ◌++◌, take, refl, sym, ◌∙◌, ap, append_assoc, append-nil, arith}
-use Rattle.std.proofs.{lemmas.{Bool.Decides.nat_tests, List.Elements.{All-append, All-cons, All-take}, Nat.{pow-add, pow_pos, shr-shr, shr_split}}, Math.Nat.{div-div-eq-div-mul, mod-eq_of_lt, mod-lt, mul-div_cancel, pow-le-pow_right, pow-suc}}
+use Rattle.std.proofs.{lemmas.{Bool.Decides.nat_tests, List.Elements.{All-append, All-take}, Nat.{pow-add, pow_pos, shr-shr, shr_split}}, Math.Nat.{div-div-eq-div-mul, mod-eq_of_lt, mod-lt, mul-div_cancel, pow-le-pow_right, pow-suc}}
 use Rattle.std.specs.{Int.{byte_at, bytes_high_first, to_be_bytes, w64}, List.All}
 use Rattle.qr_bits.{proofs.Facts.field-more, specs.Bits.{bits_of, field}}
 use Rattle.qr_symbol.specs.Steps.Words.{Appends}
@@ -16,7 +16,7 @@ joined-below w (suc c) r b h l =
     let whole : r * 2 ^ suc c ≡ 2 * (r * 2 ^ c) = ap (λ (z : ℕ). r * z) two ∙ omega arith in
     let e : w + suc c ≡ suc (w + c) = omega arith in
     let more : 2 ^ suc (w + c) ≡ 2 * 2 ^ (w + c) = omega (arith, pow-suc 2 (w + c)) in
-    let half = joined-below w c r (b / 2) h (omega (arith, two, l)) in rw e (omega (arith, whole, more, half))
+    search (arith, joined-below w c r (b / 2) h (omega (arith, two, l)))
 
 -- the same, for at most k bits
 pub joined-small : (w c r b k : ℕ) → r < 2 ^ w → b < 2 ^ c → w + c ≤ k → r * 2 ^ c + b < 2 ^ k
@@ -61,7 +61,7 @@ field-low b n = let e : 0 + b ≡ b = omega arith in ap (λ z. field z n) (sym e
 bits-append : (xs ys : List ℕ) → bits_of (xs ++ ys) ≡ bits_of xs ++ bits_of ys
 unfolding bits_of
 bits-append [] ys = refl
-bits-append (x ∷ xs) ys = ap (λ z. field 8 x ++ z) (bits-append xs ys) ∙ sym (append_assoc (field 8 x) (bits_of xs) (bits_of ys))
+bits-append (x ∷ xs) ys = search (arith, append_assoc, bits-append xs ys)
 
 -- ---- the bytes of a word
 
@@ -79,7 +79,7 @@ byte-is (suc i) v = refl
 -- bytes are below 256
 bytes-small : (k v : ℕ) → All (λ x. x < 256) (bytes_high_first k v)
 bytes-small zero v = λ i d l. absurd (omega arith)
-bytes-small (suc k) v = All-cons (λ x. x < 256) _ _ (rw (byte-is k v) (omega arith)) (bytes-small k v)
+bytes-small (suc k) v = search (arith, byte-is, bytes-small k v)
 
 -- the bits of the first n bytes are those of the number before the k bytes after them
 first-bytes : (n k v : ℕ) → bits_of (take n (bytes_high_first (n + k) v)) ≡ field (8 * n) (v / 256 ^ k)
@@ -93,13 +93,7 @@ first-bytes (suc n) k v =
     let pow : 2 ^ (8 * n) ≡ 256 ^ n = sym (pow-mul n) in
     let high : y / 2 ^ (8 * n) ≡ v / 256 ^ (n + k) =
     ap (λ z. y / z) pow ∙ (div-div-eq-div-mul v (256 ^ k) (256 ^ n) ∙ (ap (λ z. v / z) (sym (pow-add 256 k n)) ∙ ap (λ z. v / 256 ^ z) g)) in
-    let byte : field 8 (byte_at (n + k) v) ≡ field 8 (y / 2 ^ (8 * n)) =
-    ap (field 8) (byte-is (n + k) v) ∙ (sym (field-low 8 (v / 256 ^ (n + k))) ∙ ap (field 8) (sym high)) in
-    let rest = first-bytes n k v ∙ field-low (8 * n) y in
-    ap (λ z. bits_of (take (suc n) (bytes_high_first z v))) e
-    ∙ (ap (λ z. z ++ bits_of (take n (bytes_high_first (n + k) v))) byte
-    ∙ (ap (λ z. field 8 (y / 2 ^ (8 * n)) ++ z) rest
-    ∙ (sym (field-cut 8 (8 * n) y) ∙ ap (λ z. field z y) (sym f))))
+    cc (byte-is (n + k) v, field-low 8 (v / 256 ^ (n + k)), first-bytes n k v, field-low (8 * n) y, field-cut 8 (8 * n) y)
 
 -- a number of w bits that is shifted to the upper end of a word
 shifted-whole : (w x : ℕ) → x < 2 ^ w → w ≤ 64 → x * 2 ^ (64 - w) % 18446744073709551616 ≡ x * 2 ^ (64 - w)
@@ -115,10 +109,7 @@ first-codewords w x h l =
     let v = x * 2 ^ (64 - w) in
     let cut : v / 256 ^ k ≡ x / 2 ^ left =
     ap (λ z. v / z) (pow-mul k) ∙ (ap (λ z. v / 2 ^ z) f ∙ (sym (shr-shr v (64 - w) left) ∙ ap (λ z. z / 2 ^ left) (mul-div_cancel x (pow_pos (64 - w))))) in
-    ap (λ z. bits_of (take n (bytes_high_first 8 z)) ++ field left (x % 2 ^ left)) (shifted-whole w x h l)
-    ∙ (ap (λ z. bits_of (take n (bytes_high_first z v)) ++ field left (x % 2 ^ left)) e
-    ∙ (ap (λ z. z ++ field left (x % 2 ^ left)) (first-bytes n k v ∙ ap (field (8 * n)) cut)
-    ∙ (sym (field-cut (8 * n) left x) ∙ ap (λ z. field z x) g)))
+    cc (shifted-whole w x h l, first-bytes n k v, field-cut (8 * n) left x)
 
 -- the codewords that further bits fill, and the bits after them, are the bits before and the further ones
 pub codewords-joined : (xs : List ℕ) (w c r b : ℕ) → r < 2 ^ w → w < 8 → c ≤ 56 → let x = r * 2 ^ c + b % 2 ^ c in

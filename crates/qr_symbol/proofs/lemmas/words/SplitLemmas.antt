@@ -21,9 +21,7 @@ pairs-at s m i e l = is-false _ (below-at 64 (λ i. not (has_bit m i && has_bit 
 
 -- a bit at one of three places
 at-place : (n p q r : ℕ) (t u : Bool) → has_bit n (cond t p (cond u q r)) ≡ cond t (has_bit n p) (cond u (has_bit n q) (has_bit n r))
-at-place n p q r true u = refl
-at-place n p q r false true = refl
-at-place n p q r false false = refl
+at-place n p q r t u = search (arith, nat_tests)
 
 -- a bit that is inverted where it differs from the one above or below
 swapped : (a up down t u : Bool) → (t && u) ≡ false
@@ -68,38 +66,39 @@ is-number a b e = grind (arith, nat_tests)
 abbrev pub AreMoved : (ℕ → ℕ) → ℕ → ℕ → Type 0
 AreMoved from a b = (i : ℕ) → i < 64 → has_bit b i ≡ has_bit a (from i)
 
--- the test that a bit, back through five exchanges, comes from places in the word, and in the end from the place `from i`
-is-moved : (p q r s t from : ℕ → ℕ) → ℕ → Bool
-is-moved p q r s t from i = (ltb (t i) 64 && ltb (s (t i)) 64) && ((ltb (r (s (t i))) 64 && ltb (q (r (s (t i)))) 64) && eqb (p (q (r (s (t i))))) (from i))
+-- the test that a bit, back through six exchanges, comes from places in the word, and in the end from the place `from i`
+is-moved : (p q r s t u from : ℕ → ℕ) → ℕ → Bool
+is-moved p q r s t u from i =
+    (ltb (u i) 64 && (ltb (t (u i)) 64 && ltb (s (t (u i))) 64)) && ((ltb (r (s (t (u i)))) 64 && ltb (q (r (s (t (u i))))) 64) && eqb (p (q (r (s (t (u i)))))) (from i))
 
--- five exchanges bring each bit from this place, if all bits pass the test
-moved-bit : (p q r s t from : ℕ → ℕ) (a b c d e f : ℕ) → all_below 64 (is-moved p q r s t from) ≡ true
-    → AreMoved p a b → AreMoved q b c → AreMoved r c d → AreMoved s d e → AreMoved t e f → AreMoved from a f
+-- six exchanges bring each bit from this place, if all bits pass the test
+moved-bit : (p q r s t u from : ℕ → ℕ) (a b c d e f g : ℕ) → all_below 64 (is-moved p q r s t u from) ≡ true
+    → AreMoved p a b → AreMoved q b c → AreMoved r c d → AreMoved s d e → AreMoved t e f → AreMoved u f g → AreMoved from a g
 unfolding is-moved
-moved-bit p q r s t from a b c d e f all k l m n o i small =
-    let test = below-at 64 (is-moved p q r s t from) all i small in
+moved-bit p q r s t u from a b c d e f g all k l m n o v i small =
+    let test = below-at 64 (is-moved p q r s t u from) all i small in
     let first = &&-left _ _ test in let later = &&-right _ _ test in
-    let second = &&-left _ _ later in
-    o i small ∙ (n (t i) (is-below _ _ (&&-left _ _ first)) ∙ (m (s (t i)) (is-below _ _ (&&-right _ _ first)) ∙ (l (r (s (t i))) (is-below _ _ (&&-left _ _ second)) ∙ (k (q (r (s (t i)))) (is-below _ _ (&&-right _ _ second)) ∙ ap (has_bit a) (is-number _ _ (&&-right _ _ later))))))
+    let second = &&-right _ _ first in let third = &&-left _ _ later in
+    v i small ∙ (o (u i) (is-below _ _ (&&-left _ _ first)) ∙ (n (t (u i)) (is-below _ _ (&&-left _ _ second)) ∙ (m (s (t (u i))) (is-below _ _ (&&-right _ _ second)) ∙ (l (r (s (t (u i)))) (is-below _ _ (&&-left _ _ third)) ∙ (k (q (r (s (t (u i))))) (is-below _ _ (&&-right _ _ third)) ∙ ap (has_bit a) (is-number _ _ (&&-right _ _ later)))))))
 
 -- each bit passes the test, computed
-all-unshuffled : all_below 64 (is-moved (partner 1 0x2222222222222222) (partner 2 0xC0C0C0C0C0C0C0C) (partner 4 0xF000F000F000F0) (partner 8 0xFF000000FF00) (partner 16 0xFFFF0000) (λ i. 2 * (i % 32) + i / 32)) ≡ true
+all-unshuffled : all_below 64 (is-moved (partner 1 0x2222222222222222) (partner 2 0xC0C0C0C0C0C0C0C) (partner 4 0xF000F000F000F0) (partner 8 0xFF000000FF00) (partner 16 0xFFFF0000) (λ i. i) (λ i. 2 * (i % 32) + i / 32)) ≡ true
 unfolding is-moved has_bit
 all-unshuffled = refl
 
-all-shuffled : all_below 64 (is-moved (partner 16 0xFFFF0000) (partner 8 0xFF000000FF00) (partner 4 0xF000F000F000F0) (partner 2 0xC0C0C0C0C0C0C0C) (partner 1 0x2222222222222222) (λ i. 32 * (i % 2) + i / 2)) ≡ true
+all-shuffled : all_below 64 (is-moved (partner 16 0xFFFF0000) (partner 8 0xFF000000FF00) (partner 4 0xF000F000F000F0) (partner 2 0xC0C0C0C0C0C0C0C) (partner 1 0x2222222222222222) (λ i. i) (λ i. 32 * (i % 2) + i / 2)) ≡ true
 unfolding is-moved has_bit
 all-shuffled = refl
 
--- five exchanges divide the bits between the two halves
+-- five exchanges divide the bits between the two halves; a sixth one leaves them where they are
 pub unshuffled-bit : (a b c d e f : ℕ)
     → AreMoved (partner 1 0x2222222222222222) a b → AreMoved (partner 2 0xC0C0C0C0C0C0C0C) b c → AreMoved (partner 4 0xF000F000F000F0) c d → AreMoved (partner 8 0xFF000000FF00) d e → AreMoved (partner 16 0xFFFF0000) e f → AreMoved (λ i. 2 * (i % 32) + i / 32) a f
-unshuffled-bit a b c d e f p q r s t = moved-bit (partner 1 0x2222222222222222) (partner 2 0xC0C0C0C0C0C0C0C) (partner 4 0xF000F000F000F0) (partner 8 0xFF000000FF00) (partner 16 0xFFFF0000) (λ i. 2 * (i % 32) + i / 32) a b c d e f all-unshuffled p q r s t
+unshuffled-bit a b c d e f p q r s t = moved-bit _ _ _ _ _ (λ i. i) _ a b c d e f f all-unshuffled p q r s t (λ i l. refl)
 
 -- the same exchanges in the opposite order bring them back
 pub shuffled-bit : (a b c d e f : ℕ)
     → AreMoved (partner 16 0xFFFF0000) a b → AreMoved (partner 8 0xFF000000FF00) b c → AreMoved (partner 4 0xF000F000F000F0) c d → AreMoved (partner 2 0xC0C0C0C0C0C0C0C) d e → AreMoved (partner 1 0x2222222222222222) e f → AreMoved (λ i. 32 * (i % 2) + i / 2) a f
-shuffled-bit a b c d e f p q r s t = moved-bit (partner 16 0xFFFF0000) (partner 8 0xFF000000FF00) (partner 4 0xF000F000F000F0) (partner 2 0xC0C0C0C0C0C0C0C) (partner 1 0x2222222222222222) (λ i. 32 * (i % 2) + i / 2) a b c d e f all-shuffled p q r s t
+shuffled-bit a b c d e f p q r s t = moved-bit _ _ _ _ _ (λ i. i) _ a b c d e f f all-shuffled p q r s t (λ i l. refl)
 
 -- ---- bits in the other order
 
@@ -109,58 +108,33 @@ halves-at s m i e l = below-at 64 (λ i. not (is_same (has_bit m i) (leb s i && 
 
 -- of two bits that are exchanged, the one from above or the one from below
 either : (a up down t u l : Bool) → not (is_same t (l && u)) ≡ true → (up && t || l && (down && u)) ≡ cond t up (cond (l && u) down a)
-either a up down true true true e = grind (arith, nat_tests)
 either a up down t u l e = grind (arith, nat_tests)
 
 -- after all bits were exchanged in pairs, a bit is the one that was at its partner's place
 pub all-exchanged-bit : (n s m i : ℕ) → are_halves s m ≡ true → i < 64
     → has_bit (bit_or (bit_and (n / 2 ^ s) m) (bit_and n m * 2 ^ s % 2 ^ 64)) i ≡ has_bit n (partner s m i)
 all-exchanged-bit n s m i e l =
-    let u = leb s i && has_bit m (i - s) in
-    let up : has_bit (bit_and (n / 2 ^ s) m) i ≡ (has_bit n (i + s) && has_bit m i) = has_bit-and (n / 2 ^ s) m i ∙ ap (λ z. z && has_bit m i) (has_bit-shr n s i) in
-    let down : has_bit (bit_and n m * 2 ^ s % 2 ^ 64) i ≡ (leb s i && (has_bit n (i - s) && has_bit m (i - s))) =
-    low-bits 64 (bit_and n m * 2 ^ s) i l ∙ (shl-bit (bit_and n m) s i ∙ ap (λ z. leb s i && z) (has_bit-and n m (i - s))) in
-    has_bit-or (bit_and (n / 2 ^ s) m) (bit_and n m * 2 ^ s % 2 ^ 64) i
-    ∙ (ap (λ z. z || has_bit (bit_and n m * 2 ^ s % 2 ^ 64) i) up ∙ (ap (λ z. has_bit n (i + s) && has_bit m i || z) down
-    ∙ (either (has_bit n i) (has_bit n (i + s)) (has_bit n (i - s)) (has_bit m i) (has_bit m (i - s)) (leb s i) (halves-at s m i e l) ∙ sym (at-place n (i + s) (i - s) i (has_bit m i) u))))
+    let other = halves-at s m i e l in
+    let chosen = either (has_bit n i) (has_bit n (i + s)) (has_bit n (i - s)) (has_bit m i) (has_bit m (i - s)) (leb s i) other in
+    cc (
+      has_bit-and (n / 2 ^ s) m i,
+      has_bit-shr n s i,
+      low-bits 64 (bit_and n m * 2 ^ s) i l,
+      shl-bit (bit_and n m) s i,
+      has_bit-and n m (i - s),
+      has_bit-or (bit_and (n / 2 ^ s) m) (bit_and n m * 2 ^ s % 2 ^ 64) i,
+      at-place n (i + s) (i - s) i (has_bit m i) (leb s i && has_bit m (i - s)),
+    )
 
--- the places from which bit i comes, back through the six exchanges
-abbrev back5 : ℕ → ℕ
-back5 i = partner 32 0xFFFFFFFF i
-
-abbrev back4 : ℕ → ℕ
-back4 i = partner 16 0xFFFF0000FFFF (back5 i)
-
-abbrev back3 : ℕ → ℕ
-back3 i = partner 8 0xFF00FF00FF00FF (back4 i)
-
-abbrev back2 : ℕ → ℕ
-back2 i = partner 4 0xF0F0F0F0F0F0F0F (back3 i)
-
-abbrev back1 : ℕ → ℕ
-back1 i = partner 2 0x3333333333333333 (back2 i)
-
-abbrev opposite : ℕ → ℕ
-opposite i = partner 1 0x5555555555555555 (back1 i)
-
--- the test that these are places in the word, and that the bit comes from the place opposite to its own
-is-reversed : ℕ → Bool
-is-reversed i = (ltb (back5 i) 64 && (ltb (back4 i) 64 && ltb (back3 i) 64)) && ((ltb (back2 i) 64 && ltb (back1 i) 64) && eqb (opposite i) (63 - i))
-
--- each place passes the test, computed
-all-reversed : all_below 64 is-reversed ≡ true
-unfolding is-reversed has_bit
+-- each bit passes the test, computed
+all-reversed : all_below 64 (is-moved (partner 1 0x5555555555555555) (partner 2 0x3333333333333333) (partner 4 0xF0F0F0F0F0F0F0F) (partner 8 0xFF00FF00FF00FF) (partner 16 0xFFFF0000FFFF) (partner 32 0xFFFFFFFF) (λ i. 63 - i)) ≡ true
+unfolding is-moved has_bit
 all-reversed = refl
 
 -- six exchanges reverse the order of the bits
 pub reversed-bit : (a b c d e f g : ℕ)
     → AreMoved (partner 1 0x5555555555555555) a b → AreMoved (partner 2 0x3333333333333333) b c → AreMoved (partner 4 0xF0F0F0F0F0F0F0F) c d → AreMoved (partner 8 0xFF00FF00FF00FF) d e → AreMoved (partner 16 0xFFFF0000FFFF) e f → AreMoved (partner 32 0xFFFFFFFF) f g → AreMoved (λ i. 63 - i) a g
-unfolding is-reversed
-reversed-bit a b c d e f g p q r s t u i l =
-    let test = below-at 64 is-reversed all-reversed i l in
-    let first = &&-left _ _ test in let later = &&-right _ _ test in
-    let second = &&-right _ _ first in let third = &&-left _ _ later in
-    u i l ∙ (t (back5 i) (is-below _ _ (&&-left _ _ first)) ∙ (s (back4 i) (is-below _ _ (&&-left _ _ second)) ∙ (r (back3 i) (is-below _ _ (&&-right _ _ second)) ∙ (q (back2 i) (is-below _ _ (&&-left _ _ third)) ∙ (p (back1 i) (is-below _ _ (&&-right _ _ third)) ∙ ap (has_bit a) (is-number _ _ (&&-right _ _ later)))))))
+reversed-bit a b c d e f g = moved-bit _ _ _ _ _ _ _ a b c d e f g all-reversed
 
 -- ---- the bits of some rows
 
@@ -190,18 +164,9 @@ half-bit : (n p c j k : ℕ) (up : Bool) (h b : ℕ) → c ≤ 32 → j < 32 →
     → 2 * j ≤ p → p ≤ 2 * j + 1 → has_bit h k ≡ (ltb j c && has_bit n (cond up (64 - 2 * c + p) (63 - p)))
 half-bit n p c j k up h b few l e f least most = e ∙ (f ∙ ap (λ z. z && has_bit n (cond up (64 - 2 * c + p) (63 - p))) (grind (arith, nat_tests)))
 
--- the rank of a row, and the place of its bit
-right-place : (c j : ℕ) → j < c → c ≤ 32 → 64 - 2 * c + (2 * j + 1) ≡ 63 - 2 * (c - 1 - j)
-right-place c j l m = omega arith
-
-left-place : (c j : ℕ) → j < c → c ≤ 32 → 64 - 2 * c + 2 * j ≡ 62 - 2 * (c - 1 - j)
-left-place c j l m = omega arith
-
+-- only the bits of these rows count
 same-where : (j c p q n : ℕ) → (j < c → p ≡ q) → (ltb j c && has_bit n p) ≡ (ltb j c && has_bit n q)
-same-where j c p q n e = elim (cases_lt j c) [
-  | inl l ↦ ap (λ z. ltb j c && has_bit n z) (e l)
-  | inr l ↦ (let f : ltb j c ≡ false = grind (arith, nat_tests) in rw f refl)
-]
+same-where j c p q n e = search (arith, nat_tests)
 
 -- the upper half has the bits that come second, from the topmost row down, and the lower half those that come first
 pub halves : (n h b c : ℕ) (up : Bool) → c ≤ 32 → h < 2 ^ 64
@@ -237,8 +202,8 @@ pub columns-bits : (n c j : ℕ) (up : Bool) (upper lower : Bool) → c ≤ 32
     → lower ≡ (ltb j c && has_bit n (cond up (64 - 2 * c + 2 * j) (63 - 2 * j)))
     → (cond up upper lower ≡ (ltb j c && has_bit n (63 - 2 * rank_in c up j))) × (cond up lower upper ≡ (ltb j c && has_bit n (62 - 2 * rank_in c up j)))
 columns-bits n c j true upper lower few e f = (
-  e ∙ same-where j c _ _ n (λ l. right-place c j l few),
-  f ∙ same-where j c _ _ n (λ l. left-place c j l few),
+  e ∙ same-where j c _ _ n (λ l. omega arith),
+  f ∙ same-where j c _ _ n (λ l. omega arith),
 )
 columns-bits n c j false upper lower few e f = (f, e ∙ same-where j c _ _ n (λ l. omega arith))
 
@@ -250,19 +215,10 @@ word-of a b = bit_or (a * 2 ^ 32 % 2 ^ 64) (bit_and b 4294967295)
 
 -- one of its bits
 word-bit : (a b j : ℕ) → j < 64 → has_bit (word-of a b) j ≡ (leb 32 j && has_bit a (j - 32) || has_bit b j && ltb j 32)
-word-bit a b j l =
-    has_bit-or (a * 2 ^ 32 % 2 ^ 64) (bit_and b (2 ^ 32 - 1)) j
-    ∙ (ap (λ z. z || has_bit (bit_and b (2 ^ 32 - 1)) j) (low-bits 64 (a * 2 ^ 32) j l ∙ shl-bit a 32 j)
-    ∙ ap (λ z. leb 32 j && has_bit a (j - 32) || z) (has_bit-and b (2 ^ 32 - 1) j ∙ ap (λ z. has_bit b j && z) (has_bit-ones 32 j)))
+word-bit a b j l = cc (has_bit-or (a * 2 ^ 32 % 2 ^ 64) (bit_and b (2 ^ 32 - 1)) j, low-bits 64 (a * 2 ^ 32) j l, shl-bit a 32 j, has_bit-and b (2 ^ 32 - 1) j, has_bit-ones 32 j)
 
 pub upper-bit : (a b j k : ℕ) → j ≡ 32 + k → k < 32 → has_bit (word-of a b) j ≡ has_bit a k
-upper-bit a b j k e l = let d : j - 32 ≡ k = omega arith in word-bit a b j (omega arith) ∙ (ap (λ z. leb 32 j && has_bit a z || has_bit b j && ltb j 32) d ∙ high (has_bit a k) (has_bit b j))
-  where
-    high : (t u : Bool) → (leb 32 j && t || u && ltb j 32) ≡ t
-    high t u = grind (arith, nat_tests)
+upper-bit a b j k e l = search (arith, nat_tests, word-bit)
 
 pub lower-bit : (a b j : ℕ) → j < 32 → has_bit (word-of a b) j ≡ has_bit b j
-lower-bit a b j l = word-bit a b j (omega arith) ∙ low (has_bit a (j - 32)) (has_bit b j)
-  where
-    low : (t u : Bool) → (leb 32 j && t || u && ltb j 32) ≡ u
-    low t u = grind (arith, nat_tests)
+lower-bit a b j l = search (arith, nat_tests, word-bit)

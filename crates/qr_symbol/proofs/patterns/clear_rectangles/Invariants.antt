@@ -4,6 +4,6 @@ use Rattle.qr_symbol.proofs.patterns.clear_rectangles.Given as goal
 
 abbrev pub invariant-loop-rectangle : goal.invariant-loop-rectangle
 invariant-loop-rectangle l = record {
-  so_far : IsOver (side_of l.fn.v) (λ r c. list_any (is_in_rectangle r c) (take l.rectangle-index l.rectangles)) (λ _ _.
+  so_far : IsOver (side_of l.fn.version) (λ r c. list_any (is_in_rectangle r c) (take l.rectangle-index l.rectangles)) (λ _ _.
       false) (colour l.fn.matrix) l.matrix;
 }

@@ -4,6 +4,6 @@ use Rattle.qr_symbol.proofs.patterns.clear_rings.Given as goal
 
 abbrev pub invariant-loop-centre : goal.invariant-loop-centre
 invariant-loop-centre l = record {
-  so_far : IsOver (side_of l.fn.v) (λ r c. list_any (λ m. eqb (ring_of m.row m.col r c) 1) (take l.centre-index
+  so_far : IsOver (side_of l.fn.version) (λ r c. list_any (λ m. eqb (ring_of m.row m.col r c) 1) (take l.centre-index
       l.centres)) (λ _ _. false) (colour l.fn.matrix) l.matrix;
 }

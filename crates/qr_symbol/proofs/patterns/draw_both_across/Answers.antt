@@ -31,7 +31,7 @@ returns c = λ s.
     let a = c.reversed_format-first in let b = c.reversed_format-second in
     let f = cond s c.args.formats.1 c.args.formats.0 in
     let bits : (k : ℕ) → k < 15 → has_bit (cond s b.result a.result) k ≡ has_bit f (14 - k) = λ k l. either s _ _ _ _ k (a.ensures k l) (b.ensures k l) in
-    across-end c.args.v f (c.side.result - 8) _ _ _ (one_of c.args.pair.now s) (one_of c.set_columns.new.self s) (one_of c.set_columns-2.new.self s) (one_of c.set_columns-3.new.self s) (omega arith) (omega arith) (ap (λ (h : Grid). h.side) (c.requires s)) (omega arith)
+    across-end c.args.version f (c.side.result - 8) _ _ _ (one_of c.args.pair.now s) (one_of c.set_columns.new.self s) (one_of c.set_columns-2.new.self s) (one_of c.set_columns-3.new.self s) (omega arith) (omega arith) (ap (λ (h : Grid). h.side) (c.requires s)) (omega arith)
     (record {
       first = λ k l. bits k (omega arith);
       second = λ k l. shifted s b.result a.result 6 f (8 - k) k (bits (k + 6) (omega arith) ∙ ap (has_bit f) (eight k));

@@ -13,14 +13,14 @@ fixed-cond format word e q t = rw t refl
 
 pub fill_alignment-requires : goal.fill_alignment-requires
 fill_alignment-requires c = let e = c.as_slice.ensures.value ∙ c.alignment_centres-centres.ensures in
-    record { square = c.requires; centres = e; inside = All-same (IsCentreInside (side_of c.args.v)) _ _ e (centres-inside c.args.v (omega arith) (omega arith)) }
+    record { square = c.requires; centres = e; inside = All-same (IsCentreInside (side_of c.args.version)) _ _ e (centres-inside c.args.version (omega arith) (omega arith)) }
 
 pub clear_rings-requires : goal.clear_rings-requires
 clear_rings-requires c =
     let e = c.as_slice-2.ensures.value ∙ c.alignment_centres-centres.ensures in record {
       square = c.fill_alignment.ensures.square;
       centres = e;
-      inside = All-same (IsCentreInside (side_of c.args.v)) _ _ e (centres-inside c.args.v (omega arith) (omega arith));
+      inside = All-same (IsCentreInside (side_of c.args.version)) _ _ e (centres-inside c.args.version (omega arith) (omega arith));
     }
 
 pub paint_version-requires : goal.paint_version-requires
@@ -28,7 +28,7 @@ paint_version-requires c = (c.paint_timing.ensures c.args.format).square
 
 pub returns : goal.returns
 returns c =
-    let v = c.args.v in let w = version_word_of v in
+    let v = c.args.version in let w = version_word_of v in
     let last = c.paint_version.ensures c.args.format in
     last.square ∙ square-same (side_of v) (colour c.paint_version.new.matrix) (λ r k. cond (is_in_region v r k) (colour c.args.matrix.now r k) ((paint_of v _) r k)) (λ r k l m.
     rw (last.colours r k l m, (c.paint_timing.ensures c.args.format).colours r k l m, c.paint_corners.ensures.colours r k l m, c.clear_rings.ensures.colours r k l m, c.fill_alignment.ensures.colours r k l m)

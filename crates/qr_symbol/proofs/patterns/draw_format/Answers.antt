@@ -6,15 +6,15 @@ use Rattle.qr_symbol.proofs.patterns.draw_format.Goals as goal
 
 pub draw_format_bits-requires-2-clause-square : goal.draw_format_bits-requires-2-clause-square
 draw_format_bits-requires-2-clause-square c =
-    square-is (side_of c.args.v) (λ r k. format_bits_or 0 6 c.args.format (role_of c.args.v r k) (colour c.args.matrix.now r k)) c.draw_format_bits.new.matrix c.draw_format_bits.ensures
+    square-is (side_of c.args.version) (λ r k. format_bits_or 0 6 c.args.format (role_of c.args.version r k) (colour c.args.matrix.now r k)) c.draw_format_bits.new.matrix c.draw_format_bits.ensures
 
 pub draw_format_bits-requires-3-clause-square : goal.draw_format_bits-requires-3-clause-square
 draw_format_bits-requires-3-clause-square c =
-    square-is (side_of c.args.v) (λ r k. format_bits_or 6 9 c.args.format (role_of c.args.v r k) (colour c.draw_format_bits.new.matrix r k)) c.draw_format_bits-2.new.matrix c.draw_format_bits-2.ensures
+    square-is (side_of c.args.version) (λ r k. format_bits_or 6 9 c.args.format (role_of c.args.version r k) (colour c.draw_format_bits.new.matrix r k)) c.draw_format_bits-2.new.matrix c.draw_format_bits-2.ensures
 
 pub returns : goal.returns
 returns c =
-    let v = c.args.v in let s = side_of v in
+    let v = c.args.version in let s = side_of v in
     let g0 = c.args.matrix.now in let g1 = c.draw_format_bits.new.matrix in
     let g2 = c.draw_format_bits-2.new.matrix in
     let part = λ (first end : ℕ) (g : Grid) (r k : ℕ). format_bits_or first end c.args.format (role_of v r k) (colour g r k) in

@@ -11,7 +11,7 @@ pub loop-bit-preserved : goal.loop-bit-preserved
 loop-bit-preserved c =
     let i = c.loop-bit.invariant in let g = c.loop-bit.matrix in
     let a = c.format_place-one in let b = c.second_format_place-other in
-    let d = c.is_bit_set-dark.result in let s : g.side ≡ side_of c.args.v = ap (λ (h : Grid). h.side) i.square in
+    let d = c.is_bit_set-dark.result in let s : g.side ≡ side_of c.args.version = ap (λ (h : Grid). h.side) i.square in
     let e = c.set-in-loop-bit.ensures ∙ ap (λ (h : Grid). painted h b.result.row b.result.col d) c.set.ensures in
     record {
       square = rw e (painted-square _ _ _ _ d s);
@@ -20,4 +20,4 @@ loop-bit-preserved c =
 
 pub returns : goal.returns
 returns c = let i = c.loop-bit.invariant in
-    format-end _ _ _ _ _ _ i.square (subst (λ (z : ℕ). FormatDone c.args.v c.args.format c.args.first z c.args.matrix.now c.loop-bit.matrix) (omega arith) i.done)
+    format-end _ _ _ _ _ _ i.square (subst (λ (z : ℕ). FormatDone c.args.version c.args.format c.args.first z c.args.matrix.now c.loop-bit.matrix) (omega arith) i.done)

@@ -4,6 +4,6 @@ use Rattle.qr_symbol.proofs.patterns.draw_format_bits.Given as goal
 
 abbrev pub invariant-loop-bit : goal.invariant-loop-bit
 invariant-loop-bit l = record {
-  square : IsSquare (side_of l.v) l.matrix;
-  done : FormatDone l.v l.format l.first l.bit l.fn.matrix l.matrix;
+  square : IsSquare (side_of l.version) l.matrix;
+  done : FormatDone l.version l.format l.first l.bit l.fn.matrix l.matrix;
 }

@@ -4,6 +4,6 @@ use Rattle.qr_symbol.proofs.patterns.fill_alignment.Given as goal
 
 abbrev pub invariant-loop-centre : goal.invariant-loop-centre
 invariant-loop-centre l = record {
-  so_far : IsOver (side_of l.fn.v) (λ r c. list_any (λ m. leb (ring_of m.row m.col r c) 2) (take l.centre-index
+  so_far : IsOver (side_of l.fn.version) (λ r c. list_any (λ m. leb (ring_of m.row m.col r c) 2) (take l.centre-index
       l.centres)) (λ _ _. l.dark) (colour l.fn.matrix) l.matrix;
 }

@@ -9,7 +9,7 @@ use Rattle.qr_symbol.proofs.patterns.paint_corners.Goals.{After-paint_finder-3, 
 use Rattle.qr_symbol.proofs.patterns.paint_corners.Goals as goal
 
 -- the square after the three finder patterns has the side of the symbol
-three-side : (c : After-paint_finder-3) → c.paint_finder-3.new.matrix.side ≡ side_of c.args.v
+three-side : (c : After-paint_finder-3) → c.paint_finder-3.new.matrix.side ≡ side_of c.args.version
 three-side c = over-side (c.paint_finder-3.ensures c.args.format)
 
 abbrev side : Grid → ℕ
@@ -44,10 +44,10 @@ set-requires-3 c =
     record { row_in = omega arith; col_in = omega arith }
 
 -- the finder patterns and the modules beside them
-all-begun : (c : After-set-3) → IsOver (side_of c.args.v) (begun c.side-side.result) (paint_of c.args.v c.args.format)
+all-begun : (c : After-set-3) → IsOver (side_of c.args.version) (begun c.side-side.result) (paint_of c.args.version c.args.format)
     (colour c.args.matrix.now) c.set-3.new.self
 all-begun c =
-    let v = c.args.v in let f = c.args.format in
+    let v = c.args.version in let f = c.args.format in
     let p = paint_of v f in
     let p3 = over-twice _ (over-twice _ (c.paint_finder.ensures f) (c.paint_finder-2.ensures f) (λ _ _ _ _. refl)) (c.paint_finder-3.ensures f) (λ _ _ _ _. refl) in
     let p4 = over-twice _ p3 (over-place p _ _ 8 6 _ (over-side p3) (timing-left v f (omega arith)) c.set.ensures) (λ _ _ _ _. refl) in
@@ -59,7 +59,7 @@ draw_format-requires c = (all-begun (goal.at.draw_format-requires c).After-set-3
 
 pub returns : goal.returns
 returns c =
-    let v = c.args.v in let z = c.side-side.ensures.value in
+    let v = c.args.version in let z = c.side-side.ensures.value in
     let all = all-begun (goal.at.returns c).After-set-3 in
     over-is (is_corner (side_of v)) (paint_of v c.args.format) (colour c.args.matrix.now) (
     c.draw_format.ensures ∙ square-same (side_of v) (λ r k. format_or c.args.format (role_of v r k) (colour c.set-3.new.self r k)) (λ r k. cond (is_corner (side_of v) r k) (paint_of v c.args.format r k) (colour c.args.matrix.now r k)) (λ r k l m.

@@ -1,4 +1,4 @@
-use Rattle.qr_symbol.proofs.lemmas.patterns.FinderLemmas.{block-paint, three-squares}
+use Rattle.qr_symbol.proofs.lemmas.patterns.FinderLemmas.{area-paint, three-squares}
 use Rattle.qr_symbol.proofs.lemmas.patterns.PaintLemmas.{over-rectangle, over-side, over-sized}
 use Rattle.{qr_matrix.specs.Grid.Grid, std.proofs.Common.ap}
 use Rattle.qr_symbol.proofs.patterns.paint_finder.Goals as goal
@@ -11,6 +11,6 @@ returns c = λ format.
     let d2 = over-sized (over-side d3) c.fill_around-2.ensures in
     let d1 = over-sized (over-side d2) c.fill_around-3.ensures in record {
       square = d1.square;
-      colours = λ r k l m. block-paint c.args.v r k at.row at.col c.args.block.row c.args.block.col format _ _ _ q.row_least q.row_most q.col_least q.col_most (q.nearest r k) (e.colours r k l m)
+      colours = λ r k l m. area-paint c.args.version r k at.row at.col c.args.area.row c.args.area.col format _ _ _ q.row_least q.row_most q.col_least q.col_most (q.nearest r k) (e.colours r k l m)
           (three-squares _ _ _ _ _ (d3.colours r k l m) (d2.colours r k l m) (d1.colours r k l m));
     }

@@ -7,12 +7,12 @@ use Rattle.qr_symbol.proofs.patterns.paint_version.Goals as goal
 pub loop-bit-init : goal.loop-bit-init
 loop-bit-init c = record {
   side = ap (λ (g : Grid). g.side) c.requires;
-  painted = λ f. over-none c.requires (λ r k _ _. version-none (side_of c.args.v) r k);
+  painted = λ f. over-none c.requires (λ r k _ _. version-none (side_of c.args.version) r k);
 }
 
 pub loop-bit-preserved : goal.loop-bit-preserved
 loop-bit-preserved c =
-    let v = c.args.v in let s = side_of v in
+    let v = c.args.version in let s = side_of v in
     let n = c.loop-bit.bit in let i = c.loop-bit.invariant in
     let g = c.loop-bit.matrix in let d = c.is_bit_set-dark.result in
     let bit : d ≡ has_bit (version_word_of v) n = c.is_bit_set-dark.ensures ∙ ap (λ (z : ℕ). has_bit z n) c.in-Some.ensures.1 in
@@ -30,4 +30,4 @@ loop-bit-preserved c =
 pub returns-after-loop-bit : goal.returns-after-loop-bit
 returns-after-loop-bit c = λ f.
     let e : c.loop-bit.bit ≡ 18 = omega arith in
-    over-same (c.loop-bit.invariant.painted f) (λ r k _ _. rw e (version-all c.args.v r k (omega arith)))
+    over-same (c.loop-bit.invariant.painted f) (λ r k _ _. rw e (version-all c.args.version r k (omega arith)))

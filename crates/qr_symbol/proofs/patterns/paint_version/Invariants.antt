@@ -4,7 +4,7 @@ use Rattle.qr_symbol.proofs.patterns.paint_version.Given as goal
 
 abbrev pub invariant-loop-bit : goal.invariant-loop-bit
 invariant-loop-bit l = record {
-  side : l.matrix.side ≡ side_of l.fn.v;
-  painted : (format : ℕ) → IsOver (side_of l.fn.v) (version_drawn (side_of l.fn.v) l.bit) (paint_of l.fn.v format)
+  side : l.matrix.side ≡ side_of l.fn.version;
+  painted : (format : ℕ) → IsOver (side_of l.fn.version) (version_drawn (side_of l.fn.version) l.bit) (paint_of l.fn.version format)
       (colour l.fn.matrix) l.matrix;
 }

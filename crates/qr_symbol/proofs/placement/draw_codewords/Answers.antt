@@ -7,7 +7,7 @@ use Rattle.qr_symbol.proofs.placement.draw_codewords.Goals as goal
 
 pub loop-strip-init : goal.loop-strip-init
 loop-strip-init c =
-    let v = c.args.v in
+    let v = c.args.version in
     let e = sym c.into_iter-strip-iterator.ensures.into_iter_gives in record {
       can_next = tt;
       is_finite = tt;
@@ -19,7 +19,7 @@ loop-strip-init c =
 pub draw_strip-number-requires : goal.draw_strip-number-requires
 draw_strip-number-requires c =
     let i = c.loop-strip.invariant in
-    let inside = All-head (Inside c.args.v) _ _ (rw c.in-Some.ensures.steps at i.inside) in record {
+    let inside = All-head (Inside c.args.version) _ _ (rw c.in-Some.ensures.steps at i.inside) in record {
       square = i.square;
       region = c.requires.region;
       left_in = inside.0;
@@ -29,7 +29,7 @@ draw_strip-number-requires c =
 
 pub loop-strip-preserved : goal.loop-strip-preserved
 loop-strip-preserved c =
-    let v = c.args.v in let s = side_of v in
+    let v = c.args.version in let s = side_of v in
     let i = c.loop-strip.invariant in let x = c.in-Some.strip in
     let xs = c.loop-strip.yielded in let cw = c.args.codewords.now in
     let g0 = transposed _ in let n = c.loop-strip.number in
@@ -43,6 +43,6 @@ loop-strip-preserved c =
 
 pub returns-clause-placed : goal.returns-clause-placed
 returns-clause-placed c =
-    let v = c.args.v in
+    let v = c.args.version in
     let s = side_of v in placed-end v _ _ _ _ _
     (subst (λ (xs : List Strip). IsPlaced v c.args.codewords.now (transposed c.args.across.now) (places_of s c.loop-strip.yielded) (places_of s xs) c.loop-strip.number (transposed c.loop-strip.across)) c.in-None.ensures.steps.0 c.loop-strip.invariant.placed)

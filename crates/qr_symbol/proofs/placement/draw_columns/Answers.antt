@@ -1,13 +1,20 @@
 use Rattle.{std.proofs.Common.{◌≡◌, ◌+◌, ◌≤◌, refl, arith}, qr_layout.specs.Version.side_of}
 use Rattle.qr_symbol.proofs.lemmas.placement.SpanDrawnLemmas.{both-drawn, left-drawn, light-later, outside-drawn, right-drawn, span-added}
+use Rattle.qr_symbol.proofs.lemmas.words.BitLemmas.{highest-within}
 use Rattle.qr_symbol.proofs.placement.draw_columns.Goals as goal
+
+pub set_bits-requires-clause-fits : goal.set_bits-requires-clause-fits
+set_bits-requires-clause-fits c = λ k l. highest-within c.bits_at-bit.result _ k (omega (arith, c.bits_at-bit.type_inv)) l
+
+pub set_bits-requires-in-Left-clause-fits : goal.set_bits-requires-in-Left-clause-fits
+set_bits-requires-in-Left-clause-fits c = λ k l. highest-within c.bits_at-bit-in-Left.result _ k (omega (arith, c.bits_at-bit-in-Left.type_inv)) l
 
 pub loop-span-preserved-in-Both : goal.loop-span-preserved-in-Both
 loop-span-preserved-in-Both c =
     let i = c.loop-span.invariant in let x = i.strip in let y = c.in-Some.ensures.steps in let next = c.in-Some.ensures.goes.keeps in
     let is = rw (x.side, x.strip, x.region, x.most, c.in-Both.is) at y.is in let same = rw (x.side, x.strip, x.region, x.most) at y.same in
     let end : c.next.new.self.passed ≡ c.loop-span.span-iterator.passed + c.in-Both.count = omega (arith, is.1, is.2.0) in
-    let room : c.next.new.self.passed ≤ side_of c.args.v = omega (arith, next.passed, same.side) in record {
+    let room : c.next.new.self.passed ≤ side_of c.args.version = omega (arith, next.passed, same.side) in record {
       can_next = next;
       is_finite = tt;
       strip = same;
@@ -19,11 +26,11 @@ loop-span-preserved-in-Right c =
     let i = c.loop-span.invariant in let x = i.strip in let y = c.in-Some.ensures.steps in let next = c.in-Some.ensures.goes.keeps in
     let is = rw (x.side, x.strip, x.region, x.most, c.in-Right.is) at y.is in let same = rw (x.side, x.strip, x.region, x.most) at y.same in
     let end : c.next.new.self.passed ≡ c.loop-span.span-iterator.passed + 1 = omega (arith, is.1, is.2.0) in
-    let room : c.next.new.self.passed ≤ side_of c.args.v = omega (arith, next.passed, same.side) in record {
+    let room : c.next.new.self.passed ≤ side_of c.args.version = omega (arith, next.passed, same.side) in record {
       can_next = next;
       is_finite = tt;
       strip = same;
-      drawn = span-added _ end room i.drawn (right-drawn c.args.region.now _ c.in-Right.row _ _ (omega (arith, end, room)) c.requires.region is.2.1 i.drawn.next c.bits_at.ensures is.2.2 is.2.3 c.draw_module.ensures (λ j. refl));
+      drawn = span-added _ end room i.drawn (right-drawn c.args.region.now _ c.in-Right.row _ _ (omega (arith, end, room)) c.requires.region (light-later c.args.region.now c.requires.light i.drawn.drawn) (omega (arith, c.bits_at-bit.type_inv)) is.2.1 i.drawn.next c.bits_at-bit.ensures is.2.2 is.2.3 c.set_bits.ensures (λ j. refl));
     }
 
 pub loop-span-preserved-in-Left : goal.loop-span-preserved-in-Left
@@ -31,18 +38,18 @@ loop-span-preserved-in-Left c =
     let i = c.loop-span.invariant in let x = i.strip in let y = c.in-Some.ensures.steps in let next = c.in-Some.ensures.goes.keeps in
     let is = rw (x.side, x.strip, x.region, x.most, c.in-Left.is) at y.is in let same = rw (x.side, x.strip, x.region, x.most) at y.same in
     let end : c.next.new.self.passed ≡ c.loop-span.span-iterator.passed + 1 = omega (arith, is.1, is.2.0) in
-    let room : c.next.new.self.passed ≤ side_of c.args.v = omega (arith, next.passed, same.side) in record {
+    let room : c.next.new.self.passed ≤ side_of c.args.version = omega (arith, next.passed, same.side) in record {
       can_next = next;
       is_finite = tt;
       strip = same;
-      drawn = span-added _ end room i.drawn (left-drawn c.args.region.now _ c.in-Left.row _ _ (omega (arith, end, room)) c.requires.region is.2.1 i.drawn.next c.bits_at-in-Left.ensures is.2.2 is.2.3 (λ j. refl) c.draw_module-in-Left.ensures);
+      drawn = span-added _ end room i.drawn (left-drawn c.args.region.now _ c.in-Left.row _ _ (omega (arith, end, room)) c.requires.region (light-later c.args.region.now c.requires.light i.drawn.drawn) (omega (arith, c.bits_at-bit-in-Left.type_inv)) is.2.1 i.drawn.next c.bits_at-bit-in-Left.ensures is.2.2 is.2.3 (λ j. refl) c.set_bits-in-Left.ensures);
     }
 
 pub loop-span-preserved : goal.loop-span-preserved
 loop-span-preserved c =
     let i = c.loop-span.invariant in let x = i.strip in let y = c.in-Some.ensures.steps in let next = c.in-Some.ensures.goes.keeps in
     let is = rw (x.side, x.strip, x.region, x.most, c.in-Outside.is) at y.is in let same = rw (x.side, x.strip, x.region, x.most) at y.same in
-    let room : c.next.new.self.passed ≤ side_of c.args.v = omega (arith, next.passed, same.side) in record {
+    let room : c.next.new.self.passed ≤ side_of c.args.version = omega (arith, next.passed, same.side) in record {
       can_next = next;
       is_finite = tt;
       strip = same;

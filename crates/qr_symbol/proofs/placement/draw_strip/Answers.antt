@@ -7,7 +7,7 @@ use Rattle.std.proofs.Common.{ℕ, ◌≡◌, ◌-◌, Bool, ◌∙◌, ap, sym,
 use Rattle.qr_symbol.proofs.placement.draw_strip.Goals as goal
 
 -- exactly the bits of the region are set in the columns of its square
-is-region : (c : After-with_light_region-columns) → IsRegion c.args.v c.args.strip.right c.columns_of-within.result
+is-region : (c : After-with_light_region-columns) → IsRegion c.args.version c.args.strip.right c.columns_of-within.result
 is-region c row l = (
   c.columns_of-within.ensures.right row ∙ region-across _ _ row _ c.requires.region l c.requires.right_in,
   c.columns_of-within.ensures.left row ∙ region-across _ _ row _ c.requires.region l (omega (arith, c.requires.right_in)),
@@ -29,7 +29,7 @@ draw_columns-next-requires-else-upward-clause-light c = λ rank k l.
 
 pub returns : goal.returns
 returns c =
-    let v = c.args.v in let s = side_of v in
+    let v = c.args.version in let s = side_of v in
     let cw = c.args.codewords.now in let x = c.args.strip in
     let g = c.args.across.now in let old = c.with_light_region-columns.result in
     let is-drawn = λ (next : ℕ) (new : Columns) (up : Bool). (next ≡ number_at v (record { right = x.right; upward = up }) c.args.first s) × AreDrawn v cw (record { right = x.right; upward = up }) c.args.first 0 s old new in

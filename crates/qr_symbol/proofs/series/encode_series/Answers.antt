@@ -1,10 +1,45 @@
-use Rattle.std.proofs.Common.{◌≡◌, ◌≤◌, inl, inr, length, Err, refl, sym, ap, ◌∙◌, arith}
-use Rattle.std.proofs.{Math.Nat.pos_of_ne-zero, lemmas.{Bool.{eqb-false, eqb-true}, List.nil_from_length}}
-use Rattle.std.proofs.lemmas.Result.{IfOk-weaker, MatchResult-at_err, MatchResult-weaker}
+use Rattle.std.proofs.Common.{◌≡◌, ◌≢◌, ◌≤◌, ◌↔◌, ◌⊎◌, ◌∷◌, ◌++◌, [], inl, inr, false, ℕ, List, length, Result, Err, Vec, Global, refl, sym, ap, ◌∙◌, arith, rules}
+use Rattle.std.proofs.{Math.Nat.pos_of_ne-zero, lemmas.{Bool.{eqb-false, eqb-true}, List.nil_from_length, Option.{MatchOption-at_none, MatchOption-at_some}}}
+use Rattle.std.proofs.lemmas.Result.{err_from_is_err_and, IfOk-weaker, MatchResult-at_err, MatchResult-weaker}
+use Rattle.std.specs.Prelude.{IfOk, IfErr, MatchResult}
+use Rattle.qr_bits.specs.{Interpretation.MayWrite, Modes.may_use, declared.interpretation.Interpretation.Interpretation, declared.modes.{Mode.TheVariants.Kanji, Rule.Rule}}
+use Rattle.qr_layout.specs.declared.level.Level.{Level}
 use Rattle.qr_symbol.proofs.lemmas.fault.ExactLemmas.{empty-has-series, empty-many, not-empty, too-many-exactly}
-use Rattle.qr_symbol.proofs.lemmas.series.{LongLemmas.none-shorter, SeriesLemmas.{series-interpreted, series-joined}, SizeLemmas.series-shortest}
+use Rattle.qr_symbol.proofs.lemmas.series.{LongLemmas.none-shorter, PartLemmas.lengths-some, SeriesLemmas.{lone-series, series-interpreted, series-joined, split-series}, SizeLemmas.series-shortest}
+use Rattle.qr_symbol.specs.{Joining.{AreInterpreted, IsJoined}, Series.{squares_of, HasNoSeries, IsSeries, NeedsParts}}
+use Rattle.qr_symbol.specs.declared.{fault.EncodeFault.EncodeFault, symbol.Symbol.Symbol}
 use Rattle.qr_symbol.specs.declared.fault.EncodeFault.TheVariants as fault
 use Rattle.qr_symbol.proofs.series.encode_series.Goals as goal
+
+-- what the clauses say of the result
+abbrev Told : ℕ → Level → Rule → Interpretation → List ℕ → Result (Vec Symbol Global) EncodeFault → Type 0
+Told v l b how x r = record {
+  series : IfOk r (λ ss. IsSeries v l b how x ss.items);
+  joined : IfOk r (λ ss. IsJoined (squares_of ss.items) x);
+  interpreted : IfOk r (λ ss. AreInterpreted how (squares_of ss.items));
+  shortest : IfOk r (λ ss. may_use b Kanji ≡ false → NeedsParts v l b how x (length ss.items));
+  empty : (r ≡ Err fault.Empty) ↔ (x ≡ []);
+  too_many : (r ≡ Err fault.TooMany) ↔ ((r ≢ Err fault.Memory) × HasNoSeries v l b how x);
+  no_shorter : r ≡ Err fault.TooMany → may_use b Kanji ≡ false → NeedsParts v l b how x 17;
+  fault : IfErr r (λ e. (e ≡ fault.Empty) ⊎ (e ≡ fault.TooMany) ⊎ (e ≡ fault.Memory));
+}
+
+-- they hold if the result is the series of bytes that are not empty, or says that there is none
+told : (v : ℕ) (l : Level) (b : Rule) (how : Interpretation) (x : List ℕ) (r : Result (Vec Symbol Global) EncodeFault) → 1 ≤ v → v ≤ 40 → MayWrite how x → length x ≢ 0
+    → MatchResult r (λ ss. IsSeries v l b how x ss.items) (λ e. (e ≡ fault.Memory) ⊎ ((e ≡ fault.TooMany) × HasNoSeries v l b how x)) → Told v l b how x r
+told v l b how x r least most written long is =
+    let empty : r ≡ Err fault.Empty → ⊥ = λ e. not-empty (λ h. cc) (MatchResult-at_err _ _ _ e is) in
+    let series = MatchResult-weaker r is (λ ss h. h) (λ e _. tt) in
+    let many = too-many-exactly _ _ _ _ _ r is in record {
+      series = series;
+      joined = IfOk-weaker r _ _ (λ ss h. series-joined _ _ _ _ _ ss.items least most written h) series;
+      interpreted = IfOk-weaker r _ _ (λ ss h. series-interpreted _ _ _ _ _ ss.items least most written h) series;
+      shortest = IfOk-weaker r _ _ (λ ss h plain. series-shortest _ _ _ _ _ ss.items written plain (pos_of_ne-zero long) h) series;
+      empty = (λ e. absurd (empty e), λ e. absurd (long (ap length e)));
+      too_many = many;
+      no_shorter = λ e plain. none-shorter _ _ _ _ _ least most written plain (many.0 e).1;
+      fault = MatchResult-weaker r is (λ ss _. tt) (λ e w. elim w [ inl m ↦ inr (inr m) | inr h ↦ inr (inl h.0) ]);
+    }
 
 pub returns-then-is_empty : goal.returns-then-is_empty
 returns-then-is_empty c =
@@ -19,20 +54,36 @@ returns-then-is_empty c =
       fault = inl refl;
     }
 
+pub returns-in_err-symbol : goal.returns-in_err-symbol
+returns-in_err-symbol c = told _ _ _ _ _ c.from_residual.result (omega arith) (omega arith) c.requires.written (eqb-false _ 0 (sym c.is_empty.ensures ∙ c.if-is_empty.false)) (search rules)
+
+pub returns-in_err-push : goal.returns-in_err-push
+returns-in_err-push c = told _ _ _ _ _ c.from_residual-in_err-push.result (omega arith) (omega arith) c.requires.written (eqb-false _ 0 (sym c.is_empty.ensures ∙ c.if-is_empty.false)) (search rules)
+
+pub returns-in-Some : goal.returns-in-Some
+returns-in-Some c = told _ _ _ _ _ _ (omega arith) (omega arith) c.requires.written (eqb-false _ 0 (sym c.is_empty.ensures ∙ c.if-is_empty.false)) (lone-series _ _ _ _ _ _ _ (omega arith) (omega arith)
+    (MatchOption-at_some _ _ c.in-Some.symbol c.in-Some.is c.in_ok-symbol.ensures)
+    (c.in_ok-push.ensures.items ∙ ap (λ (ss : List Symbol). ss ++ c.in-Some.symbol ∷ []) c.new-symbols.ensures.items))
+
+pub symbols_on-requires-clause-some : goal.symbols_on-requires-clause-some
+symbols_on-requires-clause-some c =
+    rw c.as_slice.ensures.value (lengths-some _ _ _ _ _ _ c.in_ok-lengths.ensures (pos_of_ne-zero (eqb-false _ 0 (sym c.is_empty.ensures ∙ c.if-is_empty.false))))
+
+pub symbols_on-requires-clause-parts : goal.symbols_on-requires-clause-parts
+symbols_on-requires-clause-parts c = rw (c.in_ok-canvas.ensures.version, c.in_ok-canvas.ensures.level, c.as_slice.ensures.value) c.in_ok-lengths.ensures
+
+pub returns-in_err-lengths : goal.returns-in_err-lengths
+returns-in_err-lengths c =
+    let p = err_from_is_err_and c.from_residual-in_err-lengths.result c.from_residual-in_err-lengths.ensures.1 in
+    let long = MatchOption-at_none _ _ c.in_default.is c.in_ok-symbol.ensures in
+    told _ _ _ _ _ _ (omega arith) (omega arith) c.requires.written (eqb-false _ 0 (sym c.is_empty.ensures ∙ c.if-is_empty.false))
+    (rw (p.1, p.2) (elim c.in_err-lengths.ensures [ inl e ↦ inl e | inr w ↦ inr (w.0, record { too_long = long; too_many = w.1 }) ]))
+
+pub returns-in_err-canvas : goal.returns-in_err-canvas
+returns-in_err-canvas c = told _ _ _ _ _ c.from_residual-in_err-canvas.result (omega arith) (omega arith) c.requires.written (eqb-false _ 0 (sym c.is_empty.ensures ∙ c.if-is_empty.false)) (search rules)
+
 pub returns : goal.returns
-returns c =
-    let least : 1 ≤ c.args.version = omega arith in let most : c.args.version ≤ 40 = omega arith in
-    let long = eqb-false (length c.args.input.now) 0 (sym c.is_empty.ensures ∙ c.if-is_empty.false) in
-    let r = c.series_of.result in
-    let empty : r ≡ Err fault.Empty → ⊥ = λ e. not-empty (λ h. cc) (MatchResult-at_err _ _ _ e c.series_of.ensures) in
-    let series = MatchResult-weaker r c.series_of.ensures (λ ss h. h) (λ e _. tt) in
-    let many = too-many-exactly _ _ _ _ _ r c.series_of.ensures in record {
-      series = series;
-      joined = IfOk-weaker r _ _ (λ ss h. series-joined _ _ _ _ _ ss.items least most c.requires.written h) series;
-      interpreted = IfOk-weaker r _ _ (λ ss h. series-interpreted _ _ _ _ _ ss.items least most c.requires.written h) series;
-      shortest = IfOk-weaker r _ _ (λ ss h plain. series-shortest _ _ _ _ _ ss.items c.requires.written plain (pos_of_ne-zero long) h) series;
-      empty = (λ e. absurd (empty e), λ e. absurd (long (ap length e)));
-      too_many = many;
-      no_shorter = λ e plain. none-shorter _ _ _ _ _ least most c.requires.written plain (many.0 e).1;
-      fault = MatchResult-weaker r c.series_of.ensures (λ ss _. tt) (λ e w. elim w [ inl m ↦ inr (inr m) | inr h ↦ inr (inl h.0) ]);
-    }
+returns c = told _ _ _ _ _ c.symbols_on.result (omega arith) (omega arith) c.requires.written (eqb-false _ 0 (sym c.is_empty.ensures ∙ c.if-is_empty.false))
+    (MatchResult-weaker c.symbols_on.result (rw (c.in_ok-canvas.ensures.version, c.in_ok-canvas.ensures.level) at c.symbols_on.ensures)
+    (λ ss made. split-series _ _ _ _ _ c.as_slice.result.now ss.items (MatchOption-at_none _ _ c.in_default.is c.in_ok-symbol.ensures)
+    (rw c.as_slice.ensures.value c.in_ok-lengths.ensures) (omega arith) made) (λ e m. inl m))

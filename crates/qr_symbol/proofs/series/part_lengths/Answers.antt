@@ -1,8 +1,19 @@
-use Rattle.qr_bits.proofs.Facts.{may_write-drop}
-use Rattle.qr_symbol.proofs.lemmas.series.PartLemmas.{lengths-none, lengths-more, parts-some, prefixes-more}
-use Rattle.std.proofs.Common.{◌+◌, [], ◌∷◌, inr, refl, sym, ◌∙◌, length-append, arith}
+use Rattle.qr_bits.{proofs.Facts.{may_write-drop, may_write-take}, specs.{Padding.room_of, Segmentation.IsLongestFit}}
+use Rattle.qr_symbol.proofs.lemmas.series.PartLemmas.{lengths-none, lengths-more, longest-cut, longest-some, parts-some, prefixes-more}
+use Rattle.std.proofs.Common.{◌+◌, ◌<◌, [], ◌∷◌, inr, length, refl, sym, ◌∙◌, length-append, arith}
 use Rattle.std.proofs.lemmas.{Bool.{eqb-true, Decides.nat_tests}, List.{append-nil, nil_from_length, length-drop}}
+use Rattle.qr_symbol.proofs.series.part_lengths.Goals.{In_ok-len}
 use Rattle.qr_symbol.proofs.series.part_lengths.Goals as goal
+
+-- the length that was found is that of the longest part of the whole rest, and the part is not empty
+next : (c : In_ok-len) → (0 < c.in_ok-len.len) × IsLongestFit c.args.interpretation c.args.version c.args.rule c.loop-rest.rest.now (room_of c.args.version c.args.level c.args.interpretation) c.in_ok-len.len
+next c =
+    let some : 0 < length c.loop-rest.rest.now = grind (arith, nat_tests) in
+    let short = c.loop-rest.invariant.short in
+    let cut = longest-cut _ _ _ _ _ _ _ (omega arith) (omega arith) (omega arith) c.in_ok-len.ensures in (longest-some _ _ _ _ _ _ (omega arith) (omega arith) some cut, cut)
+
+pub longest_fit-requires-clause-written : goal.longest_fit-requires-clause-written
+longest_fit-requires-clause-written c = may_write-take c.args.interpretation c.min.result c.loop-rest.rest.now c.loop-rest.invariant.may
 
 pub returns-then-is_full : goal.returns-then-is_full
 returns-then-is_full c = inr (
@@ -13,16 +24,25 @@ returns-then-is_full c = inr (
       omega arith,
 )
 
+pub split_at-requires : goal.split_at-requires
+split_at-requires c = (next (goal.at.split_at-requires c).In_ok-len).1.inside
+
+pub loop-rest-smaller : goal.loop-rest-smaller
+loop-rest-smaller c =
+    let longest = next (goal.at.loop-rest-smaller c).In_ok-len in
+    rw c.split_at.ensures.back (omega (arith, longest.0, longest.1.inside, length-drop c.in_ok-len.len c.loop-rest.rest.now))
+
 pub loop-rest-preserved : goal.loop-rest-preserved
 loop-rest-preserved c =
     let v = c.args.version in let b = c.args.rule in let how = c.args.interpretation in
     let n = c.in_ok-len.len in let inv = c.loop-rest.invariant in
+    let longest = next (goal.at.loop-rest-preserved c).In_ok-len in let more = longest.0 in
     let less = length-drop n c.loop-rest.rest.now in rw (c.push.ensures.items, c.split_at.ensures.back) (record {
       short = omega (arith, inv.short);
       may = may_write-drop how n _ inv.may;
-      lengths = lengths-more v c.args.level b how _ _ _ n c.in_ok-len.ensures.0 c.in_ok-len.ensures.1 inv.lengths;
+      lengths = lengths-more v c.args.level b how _ _ _ n longest.0 longest.1 inv.lengths;
       parts = λ k many ps is.
-          let more = inv.parts (k + 1) (prefixes-more v c.args.level b how _ n k (grind (arith, nat_tests)) c.in_ok-len.ensures.1 many) ps is in
+          let more = inv.parts (k + 1) (prefixes-more v c.args.level b how _ n k (grind (arith, nat_tests)) longest.1 many) ps is in
           omega (arith, length-append c.loop-rest.lengths.items (n ∷ []));
     })
 

@@ -1,18 +1,21 @@
 use Rattle.std.proofs.Common.{◌≡◌, get_or, [], ◌∷◌, drop, length, ◌∙◌, ap, length-append, arith}
 use Rattle.std.proofs.lemmas.{List.{append-nil, drop_all, length-drop}, Result.err_from_is_err_and}
 use Rattle.qr_bits.proofs.Facts.{may_write-drop, may_write-take}
+use Rattle.qr_symbol.proofs.lemmas.encoding.SymbolMakingLemmas.{behind-header}
 use Rattle.qr_symbol.proofs.lemmas.series.PartLemmas.{lengths-at, symbols-more, symbols-none}
 use Rattle.qr_symbol.proofs.series.symbols_on.Goals as goal
 
 pub split_at-requires : goal.split_at-requires
 split_at-requires c = let next = lengths-at _ _ _ _ _ _ _ c.loop-len-test.true c.loop-len.invariant.rest in next.0.inside
 
-pub part_symbol-requires-clause-written : goal.part_symbol-requires-clause-written
-part_symbol-requires-clause-written c = rw c.split_at.ensures.front (may_write-take c.args.interpretation _ _ c.loop-len.invariant.may)
+pub segments-requires-clause-written : goal.segments-requires-clause-written
+segments-requires-clause-written c = rw c.split_at.ensures.front (may_write-take c.args.interpretation _ _ c.loop-len.invariant.may)
 
-pub part_symbol-requires-clause-fits : goal.part_symbol-requires-clause-fits
-part_symbol-requires-clause-fits c = let next = lengths-at _ _ _ _ _ _ _ c.loop-len-test.true c.loop-len.invariant.rest in
-    rw (c.loop-len.invariant.version, c.loop-len.invariant.level, c.split_at.ensures.front) next.0.fits
+pub symbol_on-requires-clause-room : goal.symbol_on-requires-clause-room
+symbol_on-requires-clause-room c =
+    let inv = c.loop-len.invariant in
+    let next = lengths-at _ _ _ _ _ _ _ c.loop-len-test.true inv.rest in
+    rw (inv.version, inv.level) (behind-header _ _ _ _ _ _ _ (record { position = 0; last = 0; parity = 0 }) (omega arith) (omega arith) c.in_ok-segmented.ensures.ok (rw c.split_at.ensures.front next.0.fits))
 
 pub loop-len-preserved : goal.loop-len-preserved
 loop-len-preserved c =
@@ -21,10 +24,11 @@ loop-len-preserved c =
     let inv = c.loop-len.invariant in
     let next = lengths-at c.args.canvas.now.version l c.args.rule c.args.interpretation _ ns i c.loop-len-test.true inv.rest in
     let s = c.in_ok-symbol.symbol in
-    let made = rw (inv.version, inv.level, c.split_at.ensures.front, c.len.ensures, inv.count, c.parity-parity.ensures) at c.in_ok-symbol.ensures.made in
+    let of-segments = rw (inv.version, inv.level, c.len.ensures, inv.count, c.parity-parity.ensures) at c.in_ok-symbol.ensures.made in
+    let made = rw c.split_at.ensures.front at (of-segments c.args.rule c.split_at.result.0.now c.in_ok-segmented.ensures.ok) in
     let less = length-drop (get_or ns i 0) rest in rw (c.in_ok-push.ensures.items, c.split_at.ensures.back) (record {
-      version = c.part_symbol.ensures.version ∙ inv.version;
-      level = c.part_symbol.ensures.level ∙ inv.level;
+      version = c.symbol_on.ensures.kept_version ∙ inv.version;
+      level = c.symbol_on.ensures.kept_level ∙ inv.level;
       short = omega (arith, inv.short);
       may = may_write-drop c.args.interpretation (get_or ns i 0) rest inv.may;
       count = omega (arith, ap length c.in_ok-push.ensures.items, length-append c.loop-len.symbols.items (s ∷ []));

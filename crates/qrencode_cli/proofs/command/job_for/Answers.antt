@@ -9,8 +9,8 @@ returns-in_err-settings g c =
     rw (p.1, p.2) (prepares-usage _ _ _ c.in_err-settings.ensures.settings)
 
 pub returns-in-Some : goal.returns-in-Some
-returns-in-Some g c = prepares-string _ c.in_ok-settings.settings c.in_ok-settings.ensures.settings _ _ _ _ c.make_job.result
-    (sym (ap (λ (s : SettingsView). s.string) c.settings.view_is) ∙ ap (option_map string_bytes) c.in-Some.is) c.as_bytes-bytes.ensures.value c.min.ensures c.make_job.ensures
+returns-in-Some g c = prepares-string _ c.in_ok-settings.settings c.in_ok-settings.ensures.settings _ _ _ _ c.job_of.result
+    (sym (ap (λ (s : SettingsView). s.string) c.settings.view_is) ∙ ap (option_map string_bytes) c.in-Some.is) c.as_bytes-bytes.ensures.value c.min.ensures c.job_of.ensures
 
 pub returns-in_err-bytes-in-None : goal.returns-in_err-bytes-in-None
 returns-in_err-bytes-in-None g c =
@@ -19,5 +19,5 @@ returns-in_err-bytes-in-None g c =
     (sym (ap (λ (s : SettingsView). s.string) c.settings.view_is) ∙ ap (option_map string_bytes) c.in-None.is) c.in_err-bytes-in-None.ensures)
 
 pub returns : goal.returns
-returns g c = prepares-reader _ c.in_ok-settings.settings c.in_ok-settings.ensures.settings _ _ _ _ c.make_job-in-None.result
-    (sym (ap (λ (s : SettingsView). s.string) c.settings.view_is) ∙ ap (option_map string_bytes) c.in-None.is) c.as_slice.ensures.value c.in_ok-bytes-in-None.ensures c.make_job-in-None.ensures
+returns g c = prepares-reader _ c.in_ok-settings.settings c.in_ok-settings.ensures.settings _ _ _ _ c.job_of-in-None.result
+    (sym (ap (λ (s : SettingsView). s.string) c.settings.view_is) ∙ ap (option_map string_bytes) c.in-None.is) c.as_slice.ensures.value c.in_ok-bytes-in-None.ensures c.job_of-in-None.ensures

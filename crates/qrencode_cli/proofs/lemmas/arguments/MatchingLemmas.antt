@@ -16,20 +16,20 @@ pub is_free-command : is_simple_and_free command ≡ true
 unfolding command
 is_free-command = refl
 
-pub faults_are : (a : App) (words : List Text) → a ≡ command → fault_of a words ≡ faults_for words
+pub faults-are : (a : App) (words : List Text) → a ≡ command → fault_of a words ≡ faults_for words
 unfolding faults_for
-faults_are a words e = ap (λ x. fault_of x words) e
+faults-are a words e = ap (λ x. fault_of x words) e
 
-pub rows_are : (a : App) (words : List Text) (m : ArgMatches) → a ≡ command → HasMatchesOf a words m → rows_of (found_of m) ≡ rows_for words
+pub rows-are : (a : App) (words : List Text) (m : ArgMatches) → a ≡ command → HasMatchesOf a words m → rows_of (found_of m) ≡ rows_for words
 unfolding rows_for
-rows_are a words m e h = search (arith, is_simple-command)
+rows-are a words m e h = search (arith, is_simple-command)
 
-pub kinds_not_empty : (kinds : Kinds) (e : Error) → (kind_of e ≡ kind.OutOfMemory → ⊥) → HasKind kinds e → kinds ≡ [] → ⊥
-kinds_not_empty kinds e other h none = search arith
+pub kinds-not-empty : (kinds : Kinds) (e : Error) → (kind_of e ≡ kind.OutOfMemory → ⊥) → HasKind kinds e → kinds ≡ [] → ⊥
+kinds-not-empty kinds e other h none = search arith
 
 -- a command line for which `clap` states a fault has no settings
-pub refused_words : (words : List Text) → (faults_for words ≡ [] → ⊥) → settings_for words ≡ Err refused_by_clap
-refused_words words some = go (length (faults_for words) == 0) refl
+pub refused-words : (words : List Text) → (faults_for words ≡ [] → ⊥) → settings_for words ≡ Err refused_by_clap
+refused-words words some = go (length (faults_for words) == 0) refl
   where
     go : (b : Bool) → (length (faults_for words) == 0) ≡ b → cond b (settings_of (rows_for words)) (Err refused_by_clap) ≡ Err refused_by_clap
     go true e = absurd (some (nil_from_length (faults_for words) (eqb-true (length (faults_for words)) 0 e)))

@@ -21,9 +21,9 @@ use Rattle.qrencode_cli.specs.declared.{drawing_job.DrawingJob.DrawingJob, setti
 use Rattle.qrencode_cli.specs.declared.settings.UsageFault.TheVariants as usage
 
 -- there is always an input that the reader may return
-any_input : (remaining : Option (List ℕ)) → (given : List ℕ) × IsInputOf remaining given
-any_input None = ([], tt)
-any_input (Some xs) = (take INPUT_MAX xs, refl)
+any-input : (remaining : Option (List ℕ)) → (given : List ℕ) × IsInputOf remaining given
+any-input None = ([], tt)
+any-input (Some xs) = (take INPUT_MAX xs, refl)
 
 -- if the command line contains a string, the input is this string, cut after `INPUT_MAX` bytes
 input_for-string : (s : SettingsView) (text given buf : List ℕ) (n : ℕ) → s.string ≡ Some text → buf ≡ text
@@ -100,7 +100,7 @@ drawn-for-series s rule input version symbols many least most e same some series
 -- if the reader need not be read, or lack of memory ended the run before, it is correct that the reader is unchanged
 unread : (words : List Text) (in0 : Reader) (r : Result DrawingJob Fault) → (ReadsInput words → r ≡ Err fault.Memory)
     → ((given : List ℕ) → IsJobGiven words given r) → Prepares words in0 in0 r
-unread words in0 r memory answer = let i = any_input in0.remaining in record {
+unread words in0 r memory answer = let i = any-input in0.remaining in record {
   given = i.0;
   is_input = i.1;
   reads = record { unread = λ _. refl; read = λ asked. inr (inr (memory asked)) };
@@ -164,7 +164,7 @@ module _ (words : List Text) (s : SettingsView) (taken : settings_for words ≡ 
 
   -- if the reader failed, or memory for the input was refused, this fault is correct for the command line
   pub prepares-unread : (in0 in1 : Reader) (f : Fault) → s.string ≡ None → StopsReading in0 in1 f → Prepares words in0 in1 (Err f)
-  prepares-unread in0 in1 f string stops = let i = any_input in0.remaining in record {
+  prepares-unread in0 in1 f string stops = let i = any-input in0.remaining in record {
     given = i.0;
     is_input = i.1;
     reads = record {

@@ -9,19 +9,19 @@ module _ {E : Type 0} (gives : Text → Result ℕ E → Type 0)
     (otherwise : ℕ)
   where
     -- if a number is returned, it is the number of the definition
-    pub number_some : (o : Option Text) (r : Result (Option ℕ) E) → (o ≡ None → r ≡ Ok None) → ((t : Text) → o ≡ Some t → TriesOne gives t r)
+    pub number-some : (o : Option Text) (r : Result (Option ℕ) E) → (o ≡ None → r ≡ Ok None) → ((t : Text) → o ≡ Some t → TriesOne gives t r)
         → (n : ℕ) → r ≡ Ok (Some n) → n ≡ number_or otherwise o
-    number_some None r none some n e = let bad : r ≡ Ok None = none refl in cc
-    number_some (Some t) r none some n e = byte_read {E = E} t (Ok n) (reads t (Ok n) (rw e at (some t refl)))
+    number-some None r none some n e = let bad : r ≡ Ok None = none refl in cc
+    number-some (Some t) r none some n e = byte_read {E = E} t (Ok n) (reads t (Ok n) (rw e at (some t refl)))
 
     -- if the option is not given, `otherwise` is the number of the definition
-    pub number_none : (o : Option Text) (r : Result (Option ℕ) E) → (o ≡ None → r ≡ Ok None) →
+    pub number-none : (o : Option Text) (r : Result (Option ℕ) E) → (o ≡ None → r ≡ Ok None) →
         ((t : Text) → o ≡ Some t → TriesOne gives t r) → r ≡ Ok None → otherwise ≡ number_or otherwise o
-    number_none None r none some e = refl
-    number_none (Some t) r none some e = absurd (rw e at (some t refl))
+    number-none None r none some e = refl
+    number-none (Some t) r none some e = absurd (rw e at (some t refl))
 
     -- if the option's text is no number of one byte, 0 is the number of the definition
-    pub number_err : (o : Option Text) (r : Result (Option ℕ) E) → (o ≡ None → r ≡ Ok None) →
+    pub number-err : (o : Option Text) (r : Result (Option ℕ) E) → (o ≡ None → r ≡ Ok None) →
         ((t : Text) → o ≡ Some t → TriesOne gives t r) → (x : E) → r ≡ Err x → 0 ≡ number_or otherwise o
-    number_err None r none some x e = let bad : r ≡ Ok None = none refl in cc
-    number_err (Some t) r none some x e = byte_read {E = E} t (Err x) (reads t (Err x) (rw e at (some t refl)))
+    number-err None r none some x e = let bad : r ≡ Ok None = none refl in cc
+    number-err (Some t) r none some x e = byte_read {E = E} t (Err x) (reads t (Err x) (rw e at (some t refl)))

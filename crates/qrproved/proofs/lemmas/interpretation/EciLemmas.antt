@@ -7,9 +7,9 @@ use Rattle.qr_bits.specs.declared.interpretation.EciChange.{EciChange}
 use Rattle.qrproved.specs.{declared.interpretation.QrprovedEci.QrprovedEci, Interpretation.told_eci}
 
 -- after the header with the index i is written, the buffer begins with the first i + 1 headers
-pub write_next : (changes : List EciChange) (out : List QrprovedEci) (i : ℕ) (d : EciChange) → i < length changes → i < length out
+pub write-next : (changes : List EciChange) (out : List QrprovedEci) (i : ℕ) (d : EciChange) → i < length changes → i < length out
     → set (take i (map told_eci changes) ++ drop i out) i (told_eci (get_or changes i d)) ≡ take (i + 1) (map told_eci changes) ++ drop (i + 1) out
-write_next changes out i d h k =
+write-next changes out i d h k =
     let told = map told_eci changes in
     let front = take i told in
     let x = told_eci (get_or changes i d) in

@@ -1,20 +1,18 @@
-use Rattle.std.proofs.Common.{◌≡◌, ◌+◌, ◌-◌, ◌*◌, ◌%◌, ◌≤◌, length, take, sym, ap, ◌∙◌, arith}
+use Rattle.std.proofs.Common.{◌≡◌, ◌+◌, ◌-◌, ◌*◌, ◌%◌, ◌≤◌, length, take, sym, ap, ◌∙◌, arith, rules}
 use Rattle.std.proofs.lemmas.Nat.{one_shl}
 use Rattle.qr_bits.specs.Bits.{value}
 use Rattle.qr_bits.proofs.lemmas.bits.{BitLemmas.left_at, WindowLemmas.value-window}
 use Rattle.qr_bits.proofs.bits.BitReader.take.Goals as goal
 
 pub invariant_of-self : goal.invariant_of-self
-invariant_of-self c =
-    let old = c.self.inside in
-    (omega (arith, c.self.invariant.0, c.requires.0, ap length c.self.view_is, left_at old.bytes.now old.at), c.self.invariant.1)
+invariant_of-self c = search (arith, left_at)
 
 pub returns-clause-value : goal.returns-clause-value
 returns-clause-value c =
     let old = c.self.inside in
     let w = c.args.width in
     let i = old.at in
-    let inside : i + w ≤ 8 * length old.bytes.now = omega (arith, c.self.invariant.0, c.requires.0, ap length c.self.view_is, left_at old.bytes.now i) in
+    let inside : i + w ≤ 8 * length old.bytes.now = search (rules, left_at) in
     let whole : i % 8 + w + (24 - i % 8 - w) ≡ 24 = omega (arith, c.requires.1) in
     rw (one_shl w 32 (omega (arith, c.requires.1)))
     (sym (value-window old.bytes.now i w (24 - i % 8 - w) c.three_bytes.result inside whole c.three_bytes.ensures.second c.three_bytes.ensures.third c.three_bytes.ensures.value) ∙ ap (λ bs. value (take w bs)) c.self.view_is)

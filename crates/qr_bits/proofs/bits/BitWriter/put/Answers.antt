@@ -10,5 +10,5 @@ returns c =
     let size = (1 * 2 ^ c.args.width) % 2 ^ 32 in
     let bits = size * c.from.result + c.from-2.result % size in
     number-after old.whole.items c.push_whole.new.whole.items old.width c.args.width c.in_ok-left.left old.rest c.args.number size bits _ (one_shl c.args.width 32 (omega arith))
-    (λ i. size * c.from.ensures i + c.from-2.ensures i % size) (ap (λ z. bits % z) (one_shl c.in_ok-left.left 32 (omega (arith, read.0)))) read.1
+    (λ i. size * c.from.ensures i + c.from-2.ensures i % size) (ap (λ z. bits % z) (one_shl c.in_ok-left.left 32 (omega arith))) read.1
     ∙ ap (λ bs. bs ++ field c.args.width c.args.number) c.self.view_is

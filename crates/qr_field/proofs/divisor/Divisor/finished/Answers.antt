@@ -1,4 +1,4 @@
-use Rattle.std.proofs.Common.{◌≡◌, ℕ, List, ap, ◌∙◌, subst, arith}
+use Rattle.std.proofs.Common.{ℕ, List, ap, ◌∙◌, subst, arith}
 use Rattle.std.proofs.lemmas.List.{take_all}
 use Rattle.qr_field.specs.Steps.Register.{IsHeld, unpacked, value_of}
 use Rattle.qr_field.proofs.lemmas.divisor.DivisorLemmas.{held-all}

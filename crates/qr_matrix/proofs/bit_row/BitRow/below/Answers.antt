@@ -1,28 +1,11 @@
-use Rattle.std.proofs.Common.{◌≡◌, ◌-◌, ◌^◌, ap, ◌∙◌, arith}
-use Rattle.qr_matrix.specs.BitRow.{has, has_bit, bit_row_number}
-use Rattle.qr_matrix.proofs.lemmas.bit_row.{WordLemmas.{three-low, three-middle, three-high}, PlaceLemmas.has_bit-ones}
+use Rattle.std.proofs.Common.{false}
 use Rattle.qr_matrix.proofs.bit_row.BitRow.below.Goals as goal
 
 pub returns-then-n-lt64 : goal.returns-then-n-lt64
-unfolding has bit_row_number
-returns-then-n-lt64 c =
-    let n = c.args.n in
-    let x = c.low_bits.result in
-    let e : x ≡ 2 ^ n - 1 = c.low_bits.ensures ∙ ap (λ z. 2 ^ z - 1) (omega arith) in
-    λ k. ap (λ z. has_bit z k) (three-low n x e) ∙ has_bit-ones n k
+returns-then-n-lt64 c = c.below_in.ensures false
 
 pub returns-then-n-lt128 : goal.returns-then-n-lt128
-unfolding has bit_row_number
-returns-then-n-lt128 c =
-    let n = c.args.n in
-    let x = c.low_bits-then-n-lt128.result in
-    let e : x ≡ 2 ^ (n - 64) - 1 = c.low_bits-then-n-lt128.ensures ∙ ap (λ z. 2 ^ z - 1) (omega arith) in
-    λ k. ap (λ z. has_bit z k) (three-middle n (n - 64) x (omega arith) e) ∙ has_bit-ones n k
+returns-then-n-lt128 c = c.below_in-then-n-lt128.ensures false
 
 pub returns : goal.returns
-unfolding has bit_row_number
-returns c =
-    let n = c.args.n in
-    let x = c.low_bits-2.result in
-    let e : x ≡ 2 ^ (n - 128) - 1 = c.low_bits-2.ensures ∙ ap (λ z. 2 ^ z - 1) (omega arith) in
-    λ k. ap (λ z. has_bit z k) (three-high n (n - 128) x (omega arith) e) ∙ has_bit-ones n k
+returns c = c.below_in-2.ensures false

@@ -1,12 +1,33 @@
-use Rattle.std.proofs.Common.{Bool, ◌&&◌, cond, leb, ltb, ap, ◌∙◌, arith}
-use Rattle.qr_matrix.specs.{Grid.colour, BitRow.has}
-use Rattle.qr_matrix.proofs.lemmas.matrix.MatrixLemmas.{columns-are, rectangle-none, rectangle-row, view-square, with_row-same}
+use Rattle.std.proofs.{Common.{◌≡◌, ◌≤◌, ℕ, Bool, false, ◌&&◌, cond, leb, ltb, ap, ◌∙◌, arith}, lemmas.Bool.Decides.nat_tests}
+use Rattle.qr_matrix.specs.{Grid.{Grid, colour}, BitRow.has}
+use Rattle.qr_matrix.proofs.lemmas.matrix.MatrixLemmas.{columns-are, filled-dark, filled-light, rectangle-none, rectangle-row, view-square, with_row-same}
 use Rattle.qr_matrix.proofs.matrix.Matrix.fill.Goals as goal
+use Rattle.qr_matrix.proofs.matrix.Matrix.fill.Goals.{then-dark, else-dark}
 
 pub loop-row-init : goal.loop-row-init
 loop-row-init c = record {
   so_far = rectangle-none c.args.self.now c.args.top c.args.left c.args.right c.args.dark (view-square c.self.inside.side c.self.inside.rows.items c.args.self.now c.self.view_is);
 }
+
+-- bit k of the row that is written
+row-filled : (c : goal.After-set_bit_row-arg-1) (k : ℕ) → has c.if-dark.filled k ≡ cond (leb c.args.left k && ltb k c.args.right) c.args.dark (has c.bit_row-bits.result k)
+row-filled c k =
+    let bit = has c.bit_row-bits.result k in
+    let columns = has c.and_not-columns.result k in
+    let e = columns-are c.args.left c.args.right k columns (has c.below.result k) (has c.below-2.result k) (c.and_not-columns.ensures false k) (c.below.ensures k) (c.below-2.ensures k) in
+    elim c.if-dark.branch [
+      | then-dark w ↦ cc (filled-dark bit columns, w.bitor-filled.ensures k, w.filled-is, w.if-dark.true, e)
+      | else-dark w ↦ cc (filled-light bit columns, w.and_not-filled.ensures false k, w.filled-is, w.if-dark.false, e)
+    ]
+
+-- a bit that is outside the square before and after
+outside : (n l r k : ℕ) (d x : Bool) → r ≤ n → n ≤ k → x ≡ false → cond (leb l k && ltb k r) d x ≡ false
+outside n l r k d x h i e = grind (arith, nat_tests)
+
+pub set_bit_row-requires-clause-past : goal.set_bit_row-requires-clause-past
+set_bit_row-requires-clause-past c = λ k l.
+    let e = ap (λ (g : Grid). g.side) c.loop-row.invariant.so_far in
+    row-filled c k ∙ outside c.loop-row.self.side c.args.left c.args.right k c.args.dark _ (omega arith) l (c.bit_row-bits.ensures.past k l)
 
 pub loop-row-preserved : goal.loop-row-preserved
 loop-row-preserved c =
@@ -14,7 +35,7 @@ loop-row-preserved c =
     let row = c.loop-row.row in
     record {
       so_far =
-          c.fill_row.ensures ∙ (with_row-same g row (λ k. cond (has c.and_not-columns.result k) c.args.dark (colour g row k)) (λ k. cond (leb c.args.left k && ltb k c.args.right) c.args.dark (colour g row k)) (λ k l.
-          ap (λ (z : Bool). cond z c.args.dark (colour g row k)) (columns-are c.args.left c.args.right k (has c.and_not-columns.result k) (has c.below.result k) (has c.below-2.result k) (c.and_not-columns.ensures k) (c.below.ensures k) (c.below-2.ensures k)))
+          c.set_bit_row.ensures ∙ (with_row-same g row (has c.if-dark.filled) (λ k. cond (leb c.args.left k && ltb k c.args.right) c.args.dark (colour g row k))
+          (λ k l. row-filled (c.before) k ∙ ap (cond (leb c.args.left k && ltb k c.args.right) c.args.dark) (c.bit_row-bits.ensures.colours k ∙ ap (λ r. colour g r k) c.from.ensures))
           ∙ rectangle-row c.args.self.now g c.args.top row c.args.left c.args.right c.args.dark (omega arith) c.loop-row.invariant.so_far);
     }

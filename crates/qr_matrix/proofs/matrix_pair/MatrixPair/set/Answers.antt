@@ -1,34 +1,44 @@
-use Rattle.std.proofs.{Common.{ℕ, Bool, ◌≡◌, ◌∙◌, ◌&&◌, ap, set, cond, eqb, false, arith}, Math.ListN.length-set}
-use Rattle.qr_matrix.specs.{Grid.one_of, BitRow.dark_in, Steps.{lane, lanes}}
-use Rattle.qr_matrix.proofs.lemmas.{matrix.MatrixLemmas.{rows-set, inside-set, write-step}, row_pair.PairLemmas.{lane-read, lanes-long, lanes-set, one-view, side-of, square-of}}
+use Rattle.std.proofs.{Common.{sym, ℕ, Bool, ◌≡◌, ◌+◌, ◌-◌, ◌&&◌, ◌∙◌, inl, inr, ap, cond, leb, ltb, eqb, true, false, refl, arith}, lemmas.Bool.{cases_eq, Decides.nat_tests}}
+use mir.Val.{bool_byte}
+use Rattle.qr_matrix.{specs.{Grid.{colour, one_of}, BitRow.has_bit}, proofs.lemmas.matrix.GridLemmas.square-same}
 use Rattle.qr_matrix.proofs.matrix_pair.MatrixPair.set.Goals as goal
 
-pub put-requires : goal.put-requires
-put-requires c =
-    let m = c.self.inside in
-    let e = side-of m.side m.rows.items c.args.self.now c.self.view_is false in
-    omega (arith, c.self.invariant.1)
+-- the lowest bit of a truth value
+lowest : (d : Bool) → has_bit (bool_byte d) 0 ≡ d
+unfolding has_bit
+lowest true = refl
+lowest false = refl
 
-pub invariant_of-self : goal.invariant_of-self
-invariant_of-self c =
-    let m = c.self.inside in
-    let e = side-of m.side m.rows.items c.args.self.now c.self.view_is false in
-    let n = lanes m.rows.items in
-    let h : (s : Bool) (r k : ℕ) → dark_in (lanes (set m.rows.items c.from.result c.put.new.self) s) r k ≡ cond (eqb r c.args.row && eqb k c.args.col) (cond s c.args.dark.1 c.args.dark.0) (dark_in (n s) r k) = λ s r k.
-    ap (λ z. dark_in z r k) (lanes-set m.rows.items c.from.result c.put.new.self s)
-    ∙ rows-set m.side c.args.row c.args.col c.from.result (n s) (lane c.index_mut.result.now s) (lane c.put.new.self s) (cond s c.args.dark.1 c.args.dark.0) c.from.ensures (omega (arith, lanes-long m.rows.items s, c.self.invariant.2)) (lane-read m.rows.items c.from.result c.index_mut.result.now s (omega (arith, c.from.ensures, c.self.invariant.2)) c.index_mut.ensures.value) (c.put.ensures s) r k in (
-      c.self.invariant.0,
-      c.self.invariant.1,
-      omega (arith, length-set m.rows.items c.from.result c.put.new.self, c.self.invariant.2),
-      λ s. inside-set m.side c.args.row c.args.col (n s) (lanes (set m.rows.items c.from.result c.put.new.self) s) (cond s c.args.dark.1 c.args.dark.0) (omega arith) (h s) (c.self.invariant.3 s),
-    )
+-- a module of a row in which one column is set
+in-row : (col k n : ℕ) (d x y : Bool) → n ≡ bool_byte d → x ≡ y → cond (leb col k && ltb k (col + 1)) (has_bit n (k - col)) x ≡ cond (eqb k col) d y
+in-row col k n d x y e f = elim (cases_eq k col) [
+  | inl q ↦
+      let t : (leb col k && ltb k (col + 1)) ≡ true = grind (arith, nat_tests) in
+      let u : eqb k col ≡ true = grind (arith, nat_tests) in
+      let z : k - col ≡ 0 = omega arith in
+      rw (t, u, z, e) (lowest d)
+  | inr o ↦
+      let t : (leb col k && ltb k (col + 1)) ≡ false = grind (arith, nat_tests) in
+      let u : eqb k col ≡ false = grind (arith, nat_tests) in
+      rw (t, u) f
+]
+
+-- a module of the square after this
+one-column : (row r col k n : ℕ) (d : Bool) (f : ℕ → ℕ → Bool) → n ≡ bool_byte d
+    → cond (eqb r row) (cond (leb col k && ltb k (col + 1)) (has_bit n (k - col)) (f row k)) (f r k) ≡ cond (eqb r row && eqb k col) d (f r k)
+one-column row r col k n d f e = elim (cases_eq r row) [
+  | inl p ↦ (let v : eqb r row ≡ true = grind (arith, nat_tests) in rw v (in-row col k n d (f row k) (f r k) e (ap (λ z. f z k) (sym p))))
+  | inr o ↦ (let v : eqb r row ≡ false = grind (arith, nat_tests) in rw v refl)
+]
+
+-- the number that stands for the colour of a module
+either : (s d e : Bool) (m n : ℕ) → m ≡ bool_byte d → n ≡ bool_byte e → cond s n m ≡ bool_byte (cond s e d)
+either true d e m n p q = q
+either false d e m n p q = p
 
 pub returns : goal.returns
 returns c = λ s.
-    let m = c.self.inside in
-    let e = side-of m.side m.rows.items c.args.self.now c.self.view_is false in
-    let dark = cond s c.args.dark.1 c.args.dark.0 in
-    one-view m.side (set m.rows.items c.from.result c.put.new.self) s
-    ∙ write-step m.side c.args.row c.args.col (lanes m.rows.items s) (lanes (set m.rows.items c.from.result c.put.new.self) s) (one_of c.args.self.now s) dark (square-of m.side m.rows.items c.args.self.now c.self.view_is s)
-    (λ r k. ap (λ z. dark_in z r k) (lanes-set m.rows.items c.from.result c.put.new.self s)
-    ∙ rows-set m.side c.args.row c.args.col c.from.result (lanes m.rows.items s) (lane c.index_mut.result.now s) (lane c.put.new.self s) dark c.from.ensures (omega (arith, lanes-long m.rows.items s, c.self.invariant.1, c.self.invariant.2)) (lane-read m.rows.items c.from.result c.index_mut.result.now s (omega (arith, c.from.ensures, c.self.invariant.1, c.self.invariant.2)) c.index_mut.ensures.value) (c.put.ensures s) r k)
+    let a = c.args in
+    let g = one_of a.self.now s in
+    let bits = either s a.dark.0 a.dark.1 c.from.result c.from-2.result c.from.ensures c.from-2.ensures in
+    c.set_columns.ensures s ∙ square-same g.side _ _ (λ r k l m. one-column a.row r a.col k (cond s c.from-2.result c.from.result) (cond s a.dark.1 a.dark.0) (colour g) bits)

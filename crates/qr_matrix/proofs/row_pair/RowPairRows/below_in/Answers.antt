@@ -3,6 +3,6 @@ use Rattle.qr_matrix.proofs.row_pair.RowPairRows.below_in.Goals as goal
 
 pub returns : goal.returns
 returns c = elim [
-  | false ↦ λ k. c.of.ensures.first k ∙ c.below_in-row.ensures k
-  | true ↦ λ k. c.of.ensures.second k ∙ c.below_in-row.ensures k
+  | false ↦ λ k. c.of.ensures.first k ∙ c.below_in-row.ensures false k
+  | true ↦ λ k. c.of.ensures.second k ∙ c.below_in-row.ensures false k
 ]

@@ -1,4 +1,4 @@
-use Rattle.std.proofs.Common.{◌≡◌, ◌-◌, ap, length, arith}
+use Rattle.std.proofs.Common.{rules, ◌≡◌, ◌-◌, ap, length, arith}
 use Rattle.std.proofs.lemmas.List.{get_or-take, Elements.All-head}
 use Rattle.arrayvec.specs.ArrayVec.{array_vec_len}
 use Rattle.qr_field.specs.Polynomial.{IsByte}
@@ -12,8 +12,8 @@ returns-clause-removal c =
     let count : length rest ≡ length cut = omega (arith, ap length c.as_mut_slice.ensures.value) in
     let same = refill-same cut rest (array_vec_len c.truncate.new.self) (omega arith) count in record {
       leading = c.divide_out-rest.ensures.leading;
-      enough = omega (arith, ap length same, count, c.requires.removal.enough);
-      near = omega (arith, c.requires.removal.near);
+      enough = omega (arith, ap length same);
+      sixteen = omega arith;
       roots = roots-left c.args.location c.args.self.now c.divide_out-rest.new.locator.items c.requires.small c.requires.removal
           (rw c.power_of-root.ensures at c.divide_out-rest.ensures.others);
     }
@@ -23,20 +23,20 @@ returns-clause-error c = λ first errors left.
     let old = c.args.self.now.locator.items in
     let new = c.divide_out-rest.new.locator.items in
     let all = left.errors in
-    let long : length errors ≡ c.args.location = omega (arith, all.count) in
-    let rest = located-divided old new errors (omega (arith, long)) (located-rest old errors first all.located)
+    let long : length errors ≡ c.args.location = omega arith in
+    let rest = located-divided old new errors (omega arith) (located-rest old errors first all.located)
     (rw (c.power_of-root.ensures, ← long) at c.divide_out-rest.ensures.others) in
     let sum = error-sum new c.args.self.now.syndromes.items errors first (rw c.as_slice.ensures.value at c.dot.ensures.bytes)
     all.located.bytes rest all.values (omega arith) in
     factor-one c.div-error.result first c.divide_out-rest.result (omega arith) (All-head IsByte first errors all.located.bytes)
-    (omega arith) (λ z. omega (arith, z)) (cc)
+    (omega arith) (λ z. omega arith) (cc)
 
 pub returns-clause-left : goal.returns-clause-left
 returns-clause-left c = λ first errors left.
     let old = c.args.self.now.locator.items in
     let new = c.divide_out-rest.new.locator.items in
     let all = left.errors in
-    let long : length errors ≡ c.args.location = omega (arith, all.count) in
+    let long : length errors ≡ c.args.location = omega arith in
     let cut = c.truncate.new.self.items in
     let rest = c.remove.new.syndromes in
     let same = c.as_mut_slice.ensures.value in
@@ -44,18 +44,14 @@ returns-clause-left c = λ first errors left.
     let found = returns-clause-error c first errors left in record {
       errors = record {
         count = long;
-        located = located-divided old new errors (omega (arith, long)) (located-rest old errors first all.located)
+        located = located-divided old new errors (omega arith) (located-rest old errors first all.located)
             (rw (c.power_of-root.ensures, ← long) at c.divide_out-rest.ensures.others);
         values = rw (refill-same cut rest (array_vec_len c.truncate.new.self) (omega arith) count)
-            (values-rest c.args.self.now.syndromes.items rest errors first all.values (omega (arith, count))
+            (values-rest c.args.self.now.syndromes.items rest errors first all.values (omega arith)
             (λ k l. cc (
-              c.remove.ensures.each k (omega (arith, l, count, ap length same)),
-              same,
-              c.truncate.ensures.items,
-              get_or-take (c.len.result - 1) c.args.self.now.syndromes.items k 0 (omega (arith, l, count, c.truncate.ensures.len)),
-              found,
-              long,
+              c.remove.ensures.each k (omega (arith, ap length same)),
+              get_or-take (c.len.result - 1) c.args.self.now.syndromes.items k 0 (omega arith),
             )));
       };
-      none = none-later c.args.location first errors c.args.self.now left;
+      none = search (rules, none-later);
     }

@@ -1,5 +1,5 @@
-use Rattle.std.proofs.Common.{ℕ, List, get_or, sym, subst, arith}
-use Rattle.qr_field.proofs.lemmas.logarithm.PowerLemmas.{powers-apart}
+use Rattle.std.proofs.Common.{rules, ℕ, List, get_or, subst, arith}
+use Rattle.qr_field.proofs.lemmas.galois.PowerLemmas.{powers-apart}
 use Rattle.qr_mending.specs.Steps.Errors.{IsLocated}
 use Rattle.qr_mending.proofs.lemmas.errors.RemovalLemmas.{last-none, last-sum, leading-alone, leading-two, none-left, power-some}
 use Rattle.qr_mending.proofs.errors.Removal.finish.Goals as goal
@@ -12,23 +12,18 @@ returns-then-len-lt2-clause-sum c = λ errors left.
     elim c.then-len-lt2.branch [
       | then-len-lt2-via-then-len-lt2 w ↦
           let one = leading-alone c.args.self.now.locator.items leading (omega arith) in
-          sym (none-left c.args.codewords.now errors all.count (rw one at all.located))
+          search (rules, none-left)
       | then-len-lt2-via-else-len-lt2+then-deref-eq0 w ↦
           let two = leading-two c.args.self.now.locator.items leading (omega arith) in
           last-none c.args.codewords.now errors (get_or c.args.self.now.locator.items 0 0) all.count
           (subst (λ (t : List ℕ). IsLocated t errors) two all.located)
-          (λ m l e. power-some m (omega (arith, l, all.located.most)) (cc (e, w.deref.ensures.0, w.if-deref-eq0.true)))
+          (λ m l e. power-some m (omega arith) (cc))
     ]
 
 pub returns-then-location-codewords-clause-sum : goal.returns-then-location-codewords-clause-sum
 returns-then-location-codewords-clause-sum c = λ errors left.
     let all = left.errors in
-    let two = leading-two c.args.self.now.locator.items c.requires.removal.leading (omega arith) in
-    rw c.deref-then-location-codewords.ensures.0
-    (last-sum c.args.codewords.now errors _ c.from-location.result _ all.count
-    (subst (λ (t : List ℕ). IsLocated t errors) two all.located)
-    (cc (c.from-location.ensures, c.exponent_of.ensures.element, c.deref-2.ensures.0)) (omega arith) (omega (arith, all.count))
-    (all.values.each 0 (omega arith)))
+    search (rules, leading-two, last-sum)
 
 pub returns-else-location-codewords-clause-sum : goal.returns-else-location-codewords-clause-sum
 returns-else-location-codewords-clause-sum c = λ errors left.
@@ -37,8 +32,5 @@ returns-else-location-codewords-clause-sum c = λ errors left.
     last-none c.args.codewords.now errors _ all.count (subst (λ (t : List ℕ). IsLocated t errors) two all.located)
     (λ m l e. omega (
       arith,
-      l,
-      all.count,
-      powers-apart m c.exponent_of.result (omega (arith, l, all.located.most)) c.exponent_of.ensures.exponent
-          (cc (e, c.exponent_of.ensures.element, c.deref-2.ensures.0)),
+      powers-apart m c.exponent_of.result (omega arith) c.exponent_of.ensures.exponent (cc),
     ))

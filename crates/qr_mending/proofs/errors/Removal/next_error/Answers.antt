@@ -7,4 +7,4 @@ returns-then-self-from-ne0-clause-left c = λ first errors left.
     let now = c.prepare.ensures.left (first ∷ errors) left in
     left-next c.args.location first errors c.prepare.new.self now
     (next-none c.args.location first errors c.prepare.new.self now c.prepare.ensures.first
-    (λ z. c.if-self-from-ne0.true (cc (c.from.ensures, z))))
+    (λ z. c.if-self-from-ne0.true (cc)))

@@ -1,10 +1,10 @@
+use Rattle.std.proofs.Common.{rules}
 use Rattle.qr_mending.specs.Format.{copy_bit}
 use Rattle.qr_mending.proofs.lemmas.format.FormatLemmas.{bits-counted, misread-counted}
 use Rattle.qr_mending.proofs.format.CopyBits.damage.Goals as goal
 
 pub returns-clause-unread : goal.returns-clause-unread
-returns-clause-unread c = λ u g copy h.
-    bits-counted c.args.self.unread c.count_bits.result (copy_bit copy u) c.count_bits.ensures.value h.unread
+returns-clause-unread c = search (rules, bits-counted)
 
 pub returns-clause-misread : goal.returns-clause-misread
 returns-clause-misread c = λ u g copy h.

@@ -14,12 +14,12 @@ loop-i-preserved c =
     let one = bool_byte-bit c.dark.result in
     let other = bool_byte-bit c.dark-in-loop-i.result in
     let dark : (c.from.result == 1) ≡ copy_bit copy g (i - 1) =
-    ap (λ t. t == 1) c.from.ensures ∙ (one.1 ∙ cc (c.dark.ensures, place, c.args.scan.now.side)) in
+    ap (λ t. t == 1) c.from.ensures ∙ (one.1 ∙ cc) in
     let unread : (c.from-in-loop-i.result == 1) ≡ copy_bit copy u (i - 1) =
-    ap (λ t. t == 1) c.from-in-loop-i.ensures ∙ (other.1 ∙ cc (c.dark-in-loop-i.ensures, place, c.args.scan.now.unknown_side)) in
+    ap (λ t. t == 1) c.from-in-loop-i.ensures ∙ (other.1 ∙ cc) in
     record {
-      few = bits-few c.loop-i.dark c.from.result i (omega (arith, c.from.ensures, one.0)) (omega arith) (omega arith) h.few;
-      few_unread = bits-few c.loop-i.unread c.from-in-loop-i.result i (omega (arith, c.from-in-loop-i.ensures, other.0)) (omega arith) (omega arith) h.few_unread;
-      dark = λ k l. bits-more (copy_bit copy g) c.loop-i.dark c.from.result i k (omega (arith, c.from.ensures, one.0)) (omega arith) dark h.dark l;
-      unread = λ k l. bits-more (copy_bit copy u) c.loop-i.unread c.from-in-loop-i.result i k (omega (arith, c.from-in-loop-i.ensures, other.0)) (omega arith) unread h.unread l;
+      few = bits-few c.loop-i.dark c.from.result i (omega arith) (omega arith) (omega arith) h.few;
+      few_unread = bits-few c.loop-i.unread c.from-in-loop-i.result i (omega arith) (omega arith) (omega arith) h.few_unread;
+      dark = λ k l. bits-more (copy_bit copy g) c.loop-i.dark c.from.result i k (omega arith) (omega arith) dark h.dark l;
+      unread = λ k l. bits-more (copy_bit copy u) c.loop-i.unread c.from-in-loop-i.result i k (omega arith) (omega arith) unread h.unread l;
     }

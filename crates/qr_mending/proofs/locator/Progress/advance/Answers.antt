@@ -1,4 +1,4 @@
-use Rattle.std.proofs.Common.{refl, ◌∙◌, arith}
+use Rattle.std.proofs.Common.{rules, refl, ◌∙◌, arith}
 use Rattle.qr_mending.proofs.lemmas.locator.SearchLemmas.{few-values, progress-next}
 use Rattle.qr_mending.proofs.locator.Progress.advance.Goals as goal
 
@@ -14,15 +14,13 @@ take_in-requires-clause-degree c =
 pub returns-then-not-take_in-clause-beyond : goal.returns-then-not-take_in-clause-beyond
 returns-then-not-take_in-clause-beyond c = λ errors few.
     let progress = c.prepare.ensures.progress c.args.t c.loop-i.invariant.progress in
-    c.if-not-take_in.ensures.beyond errors
-    (rw c.as_slice.ensures.value
-    (few-values c.args.t c.args.remainder.now c.prepare.new.self.syndromes.items errors progress.values progress.count few))
+    search (rules, few-values)
 
 pub returns-then-i-self-clause-progress : goal.returns-then-i-self-clause-progress
 returns-then-i-self-clause-progress c =
     let now = c.prepare.ensures.taken ∙ c.loop-i.invariant.taken in
     progress-next c.args.t c.args.remainder.now c.prepare.new.self _ (c.prepare.ensures.progress c.args.t c.loop-i.invariant.progress)
-    refl (omega (arith, now)) c.prepare.ensures.next (omega (arith, now))
+    refl (omega arith) c.prepare.ensures.next (omega arith)
     (rw (c.as_slice.ensures.value, ← now) at c.if-not-take_in.ensures.search) c.if-not-take_in.ensures.degree
 
 pub loop-i-preserved : goal.loop-i-preserved
@@ -30,6 +28,6 @@ loop-i-preserved c =
     let now = c.prepare.ensures.taken ∙ c.loop-i.invariant.taken in record {
       taken = refl;
       progress = progress-next c.args.t c.args.remainder.now c.prepare.new.self _ (c.prepare.ensures.progress c.args.t c.loop-i.invariant.progress)
-          refl (omega (arith, now)) c.prepare.ensures.next (omega (arith, now))
+          refl (omega arith) c.prepare.ensures.next (omega arith)
           (rw (c.as_slice.ensures.value, ← now) at c.if-not-take_in.ensures.search) c.if-not-take_in.ensures.degree;
     }

@@ -1,4 +1,4 @@
-use Rattle.std.proofs.Common.{◌≡◌, ◌+◌, ◌*◌, ◌-◌, drop, ap, sym, refl, ◌∙◌, arith}
+use Rattle.std.proofs.Common.{rules, ◌≡◌, ◌+◌, ◌*◌, ◌-◌, drop, ap, sym, ◌∙◌, arith}
 use Rattle.std.proofs.lemmas.List.{take_rest, Elements.All-from_get_or}
 use Rattle.qr_field.specs.Polynomial.{IsByte}
 use Rattle.qr_mending.specs.Steps.Polynomial.{discrepancy_of}
@@ -6,38 +6,38 @@ use Rattle.qr_mending.proofs.lemmas.locator.SearchLemmas.{best-next, factor-some
 use Rattle.qr_mending.proofs.locator.Search.take_in.Goals as goal
 
 pub add-requires-clause-some : goal.add-requires-clause-some
-add-requires-clause-some c =
-    factor-some c.div-factor.result c.args.self.now.discrepancy c.discrepancy-discrepancy.result (omega arith) c.div-factor.ensures c.if-discrepancy-eq0.false
+add-requires-clause-some c = search (rules, factor-some)
 
 pub add-requires-2-clause-some : goal.add-requires-2-clause-some
 add-requires-2-clause-some c =
-    factor-some c.div-factor.result c.args.self.now.discrepancy c.discrepancy-discrepancy.result (omega arith) c.div-factor.ensures c.if-discrepancy-eq0.false
+    factor-some c.div-factor.result c.args.self.now.discrepancy c.dot-discrepancy.result (omega arith) c.div-factor.ensures c.if-discrepancy-eq0.false
 
 pub returns-then-degree-i-clause-search : goal.returns-then-degree-i-clause-search
 returns-then-degree-i-clause-search c =
     let s = c.args.syndromes.now in
-    let l = c.args.self.now.best.degree in
-    let i = c.args.i in
     let h = c.requires.search in
     record {
-      best = best-next i l l (2 * l - i - 1) 0 c.div-factor.result c.discrepancy-discrepancy.result c.args.self.now c.add.new.self s (omega arith)
-          (All-from_get_or IsByte s 0 (λ k l. omega (arith, c.type_inv.syndromes k))) h refl (omega arith) (omega arith)
-          (omega arith)
-          c.add.ensures.sum
-          (rw take_rest at c.discrepancy-discrepancy.ensures.value) c.div-factor.ensures c.add.ensures.degree
-          (c.add.ensures.monic h.best.monic);
+      best = best-next c.args.i (2 * c.args.self.now.best.degree - c.args.i - 1) 0 c.div-factor.result s c.args.self.now c.add.new.self
+          (All-from_get_or IsByte s 0 (λ k l. omega (arith, c.type_inv.syndromes k))) h (record {
+            byte = omega arith;
+            degree = omega arith;
+            shift = omega arith;
+            cancels = search (rules, take_rest);
+            sum = c.add.ensures.sum;
+            monic = c.add.ensures.monic h.best.monic;
+          });
       bytes = h.bytes;
       some = h.some;
-      room = omega (arith, h.room, c.add.ensures.degree);
-      before = λ j g. h.before j (omega (arith, g, c.add.ensures.degree));
-      last = λ j g. h.last j (omega (arith, g, c.add.ensures.degree));
+      degrees = omega arith;
+      before = λ j g. h.before j (omega arith);
+      last = λ j g. h.last j (omega arith);
     }
 
 pub returns-then-i-degree-clause-beyond : goal.returns-then-i-degree-clause-beyond
 returns-then-i-degree-clause-beyond c = λ errors few.
     let bound = few-bound c.args.t c.args.i c.args.self.now c.args.syndromes.now errors c.requires.search c.requires.within few
-    (λ e. c.if-discrepancy-eq0.false (rw take_rest at c.discrepancy-discrepancy.ensures.value ∙ e)) in
-    omega (arith, bound)
+    (λ e. c.if-discrepancy-eq0.false ((rw (c.coefficients.ensures.value, take_rest) at c.dot-discrepancy.ensures.value) ∙ e)) in
+    omega arith
 
 pub returns-clause-search : goal.returns-clause-search
 returns-clause-search c =
@@ -45,21 +45,23 @@ returns-clause-search c =
     let l = c.args.self.now.best.degree in
     let i = c.args.i in
     let h = c.requires.search in
-    let discrepancy = rw take_rest at c.discrepancy-discrepancy.ensures.value in
-    let degree : c.add-2.new.self.degree ≡ i + 1 - l = omega (arith, c.add-2.ensures.degree, c.shifted-raised.ensures.degree) in
+    let discrepancy = rw (c.coefficients.ensures.value, take_rest) at c.dot-discrepancy.ensures.value in
+    let degree : c.add-2.new.self.degree ≡ i + 1 - l = omega arith in
     record {
-      best = best-next i l (i + 1 - l) 0 (i + 1 - 2 * l) c.div-factor.result c.discrepancy-discrepancy.result c.args.self.now c.add-2.new.self s
-          (omega arith)
-          (All-from_get_or IsByte s 0 (λ k l. omega (arith, c.type_inv.syndromes k))) h refl (omega arith) (omega arith)
-          (omega arith)
-          (rw c.shifted-raised.ensures.terms at c.add-2.ensures.sum)
-          discrepancy c.div-factor.ensures degree
-          (c.add-2.ensures.monic (c.shifted-raised.ensures.monic h.best.monic));
-      bytes = c.discrepancy-discrepancy.ensures.bytes;
+      best = best-next i 0 (i + 1 - 2 * l) c.div-factor.result s c.args.self.now c.add-2.new.self
+          (All-from_get_or IsByte s 0 (λ k l. omega (arith, c.type_inv.syndromes k))) h (record {
+            byte = omega arith;
+            degree = omega arith;
+            shift = omega arith;
+            cancels = c.div-factor.ensures ∙ discrepancy;
+            sum = rw c.shifted-raised.ensures.terms at c.add-2.ensures.sum;
+            monic = search rules;
+          });
+      bytes = rw c.coefficients.ensures.value at c.dot-discrepancy.ensures.bytes;
       some = omega arith;
-      room = omega (arith, h.room, degree);
-      before = λ j g. h.best.solved j (omega (arith, g, degree));
+      degrees = omega arith;
+      before = λ j g. h.best.solved j (omega arith);
       last = λ j g.
-          let index : j ≡ i - l = omega (arith, g, degree) in
+          let index : j ≡ i - l = omega arith in
           ap (λ k. discrepancy_of c.args.self.now.best (drop k s)) index ∙ sym discrepancy;
     }

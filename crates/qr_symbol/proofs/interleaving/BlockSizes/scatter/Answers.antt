@@ -5,22 +5,22 @@ use Rattle.qr_symbol.proofs.lemmas.interleaving.{OrderLemmas.{IsPlaced, placed-b
 use Rattle.qr_symbol.proofs.interleaving.BlockSizes.scatter.Goals.{then-block-short, else-block-short}
 use Rattle.qr_symbol.proofs.interleaving.BlockSizes.scatter.Goals as goal
 
-pub loop-place-preserved : goal.loop-place-preserved
-loop-place-preserved c =
-    let sizes = c.args.self in let p = c.loop-place.place in
-    let b = c.loop-block.block in let h = c.loop-place.invariant in let w = in-row sizes p b (omega arith) (omega arith) in
+pub loop-index-preserved : goal.loop-index-preserved
+loop-index-preserved c =
+    let sizes = c.args.self in let p = c.loop-index.index in
+    let b = c.loop-block.block in let h = c.loop-index.invariant in let w = in-row sizes p b (omega arith) (omega arith) in
     let rank = ap (λ (n : ℕ). n * p + b) c.count-blocks.ensures ∙ w.1 in record {
-      long = length-set c.loop-place.interleaved _ _ ∙ h.long;
-      placed = placed-interleaved sizes b p c.loop-place.interleaved c.args.codewords.now _ _ (omega (arith, h.long)) w.0 rank (ap (λ (z : ℕ). get_or c.args.codewords.now (z + p) 0) c.start-start.ensures) h.placed;
+      long = length-set c.loop-index.interleaved _ _ ∙ h.long;
+      placed = placed-interleaved sizes b p c.loop-index.interleaved c.args.codewords.now _ _ (omega (arith, h.long)) w.0 rank (ap (λ (z : ℕ). get_or c.args.codewords.now (z + p) 0) c.start-start.ensures) h.placed;
     }
 
 pub loop-block-preserved : goal.loop-block-preserved
 loop-block-preserved c =
-    let sizes = c.args.self in let b = c.loop-block.block in let h = c.loop-place.invariant in
-    let e : c.loop-place.place ≡ sizes.short_len = omega arith in
-    let all = subst (λ (p : ℕ). IsPlaced sizes b p c.loop-place.interleaved c.args.codewords.now) e h.placed in record {
+    let sizes = c.args.self in let b = c.loop-block.block in let h = c.loop-index.invariant in
+    let e : c.loop-index.index ≡ sizes.short_len = omega arith in
+    let all = subst (λ (p : ℕ). IsPlaced sizes b p c.loop-index.interleaved c.args.codewords.now) e h.placed in record {
       long = elim c.if-block-short.branch [
-        | then-block-short w ↦ ap length w.interleaved-is ∙ (length-set c.loop-place.interleaved _ _ ∙ h.long)
+        | then-block-short w ↦ ap length w.interleaved-is ∙ (length-set c.loop-index.interleaved _ _ ∙ h.long)
         | else-block-short w ↦ ap length w.interleaved-is ∙ h.long
       ];
       placed = elim c.if-block-short.branch [

@@ -1,5 +1,0 @@
-use Rattle.{std.proofs.Common.{◌≡◌, ◌*◌, ◌++◌, false}, qr_drawing.specs.{Raster.texts_below, Steps.Text.cell_text}}
-use Rattle.qr_drawing.proofs.text.push_light_quads.Given as goal
-
-abbrev pub invariant-loop-done : goal.invariant-loop-done
-invariant-loop-done l = l.text ≡ l.fn.text ++ texts_below (l.done * 4) (λ _. cell_text l.style false false)

@@ -1,9 +1,0 @@
-use Rattle.std.proofs.Common.{◌-◌, arith}
-use Rattle.qr_field.proofs.lemmas.logarithm.PowerLemmas.{logarithms-lt, logarithms-at}
-use Rattle.qr_field.proofs.logarithm.exponent_of.Goals as goal
-
-pub returns-clause-exponent : goal.returns-clause-exponent
-returns-clause-exponent c = logarithms-lt (c.from.result - 1) (omega arith)
-
-pub returns-clause-element : goal.returns-clause-element
-returns-clause-element c = logarithms-at c.args.element (c.from.result - 1) (omega arith) (omega arith) (omega arith)

@@ -1,0 +1,16 @@
+use Rattle.std.proofs.Common.{◌*◌, ◌/◌, ◌%◌, ◌^◌, get_or, refl, ap, ◌∙◌, arith}
+use Rattle.{std.proofs.lemmas.Nat.or_lt, qr_matrix.specs.BitRow.{has, has_bit, bit_row_number}}
+use Rattle.qr_matrix.proofs.lemmas.bit_row.{WordLemmas.three-up, PlaceLemmas.has_bit-up}
+use Rattle.qr_matrix.proofs.bit_row.BitRowRows.shifted_right.Goals as goal
+
+pub returns : goal.returns
+unfolding has bit_row_number
+returns c =
+    let a = c.self.inside.0 in
+    let e = three-up (get_or a 0 0) (get_or a 1 0) (get_or a 2 0) (omega arith) (omega arith) (omega arith) in
+    rw (← c.self.view_is) (λ _ k h. ap (λ z. has_bit z k) e ∙ has_bit-up (bit_row_number a) k h)
+
+pub invariant_of-result : goal.invariant_of-result
+invariant_of-result c =
+    let a = c.self.inside.0 in
+    (refl, omega arith, or_lt 64 (get_or a 1 0 * 2 % 2 ^ 64) (get_or a 0 0 / 2 ^ 63) (omega arith) (omega arith), or_lt 64 (get_or a 2 0 * 2 % 2 ^ 64) (get_or a 1 0 / 2 ^ 63) (omega arith) (omega arith))

@@ -1,0 +1,5 @@
+use Rattle.std.proofs.Common.{false}
+use Rattle.qr_matrix.proofs.laws.squares_on_words.Goals as goal
+
+pub returns : goal.returns
+returns c = (c.count_all.ensures false).squares_are

@@ -1,2 +1,0 @@
--- Full adders on bit rows.
-pub mod AdderLemmas

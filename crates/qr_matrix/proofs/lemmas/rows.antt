@@ -1,0 +1,2 @@
+-- Rows that are added column by column.
+pub mod AdderLemmas

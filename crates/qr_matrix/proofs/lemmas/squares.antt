@@ -1,2 +1,0 @@
--- Bit operations on two rows compute the test of a square of two by two modules.
-pub mod SquareLemmas
