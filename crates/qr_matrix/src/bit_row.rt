@@ -2,7 +2,7 @@
 //! set.
 
 ghost use Rattle.std.proofs.Common.{rules};
-ghost use Rattle.std.specs.Prelude.{◌≡◌, ℕ, List, ◌+◌, ◌-◌, ◌*◌, ◌/◌, ◌%◌, ◌^◌, ◌<◌, ◌≤◌, ◌&&◌, ◌||◌, not, true, false, nat_le, nat_lt, ◌==◌, if◌then◌else◌};
+ghost use Rattle.std.specs.Prelude.{◌≡◌, ℕ, List, ◌+◌, ◌-◌, ◌/◌, ◌%◌, ◌^◌, ◌<◌, ◌≤◌, ◌&&◌, ◌||◌, not, true, false, nat_le, nat_lt, ◌==◌, if◌then◌else◌};
 ghost use Rattle.std.specs.Iterator.{YieldsFirst};
 ghost use Rattle.qr_matrix.specs.Grid.{is_same};
 ghost use Rattle.qr_matrix.specs.BitRow.{has, has_bit};
@@ -184,23 +184,6 @@ impl BitRow {
         ((self.0[usize::from(index / 64)] >> (index % 64)) % 16) as u8
     }
 
-    #[tactic(auto, using(crate::proofs::Named::bit_row_facts))]
-    pub(crate) fn eight(&self, index: u8) -> u8
-        requires index_in { index < 192 }
-        requires whole { index % 8 ≡ 0 }
-        ensures { (k : ℕ) → k < 8 → has_bit result k ≡ has self.now (index + k) }
-    {
-        ((self.0[usize::from(index / 64)] >> (index % 64)) % 256) as u8
-    }
-
-    #[tactic(auto, using(crate::proofs::Named::bit_row_facts))]
-    pub(crate) fn word(&self, number: usize) -> u64
-        requires { number < 3 }
-        ensures { (c : ℕ) → c < 64 → has_bit result c ≡ has self.now (64 * number + c) }
-    {
-        self.0[number]
-    }
-
     /// Sets bit `index` if `dark` is true, and clears it otherwise.
     pub fn put(&mut self, index: u8, dark: bool)
         requires { index < 192 }
@@ -321,11 +304,6 @@ impl Rows for BitRow {
     }
 
     #[inline(always)]
-    fn zeros() -> u32 {
-        0
-    }
-
-    #[inline(always)]
     fn plus(counts: u32, others: u32) -> u32 {
         counts + others
     }
@@ -334,6 +312,8 @@ impl Rows for BitRow {
     fn add_to(self, counts: u32) -> u32 {
         counts + self.count()
     }
+
+    ghost zero_law = { λ n h _. h };
 
     ghost can_bitand_law = { λ _ _. Prim.search rules };
 

@@ -13,7 +13,7 @@ ghost use Rattle.qr_matrix.specs.Bytes.{byte_of, square_of_bytes, square_of_unkn
 
 use crate::bit_row::BitRow;
 use crate::matrix::Matrix;
-use crate::rows::{Rows, words_for};
+use crate::rows::{Rows, and_not, words_for};
 use std::alloc::{AllocError, Global};
 
 const LIGHT: u8 = 0;
@@ -118,7 +118,7 @@ fn rows_of(bytes: &[u8], start: usize, end: usize, side: u8) -> (BitRow, BitRow)
         None => {
             let light = modules_of(bytes, start, side, LIGHT);
             let unknown = modules_of(bytes, start, side, NOT_KNOWN);
-            (BitRow::below(side).and_not(light), unknown)
+            (and_not(BitRow::below(side), light), unknown)
         }
     }
 }

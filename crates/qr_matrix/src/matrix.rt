@@ -1,14 +1,14 @@
 //! Stores the modules of a symbol as a square, without the quiet zone (ISO/IEC 18004:2015, 6.3.2).
 
-ghost use Rattle.std.specs.Prelude.{◌≡◌, ℕ, ◌+◌, ◌-◌, ◌*◌, ◌/◌, ◌%◌, ◌<◌, ◌≤◌, ◌&&◌, ◌==◌, not, if◌then◌else◌, false, length, IfOk};
+ghost use Rattle.std.specs.Prelude.{◌≡◌, ℕ, ◌+◌, ◌-◌, ◌*◌, ◌/◌, ◌%◌, ◌<◌, ◌≤◌, ◌&&◌, not, if◌then◌else◌, false, length, IfOk};
 ghost use Rattle.qr_matrix.specs.Grid.{square, colour, painted, with_row, with_rectangle, light, transposed};
 ghost use Rattle.qr_matrix.specs.BitRow.{dark_in, has, has_bit};
 ghost use Rattle.qr_matrix.specs.Runs.{IsRunEnd};
-ghost use Rattle.qr_matrix.specs.Steps.{NeedsWords, is_change};
+ghost use Rattle.qr_matrix.specs.Steps.{is_change};
 
 use crate::bit_row::BitRow;
-use crate::rows::{Rows, Squares, words_for};
-use crate::transposition::{set_tile, tile_of, transpose};
+use crate::rows::{Rows, Squares, and_not, words_for};
+use crate::transposition::exchange;
 use std::alloc::{AllocError, Global};
 use std::marker::Model;
 
@@ -83,14 +83,15 @@ impl Matrix {
 
     /// Returns the eight modules of row `row` from column `col` on as a number: the leftmost is the lowest bit, and a
     /// set bit is dark. Modules outside the square are light.
-    #[tactic(auto, using(crate::proofs::Named::row_facts))]
+    #[tactic(auto, using(crate::proofs::Named::bit_row_facts, crate::proofs::Named::row_facts))]
     pub fn eight(&self, row: u8, col: u8) -> u8
         requires row_in { row < self.now.side }
         requires col_in { col < self.now.side }
         requires whole { col % 8 ≡ 0 }
         ensures { (k : ℕ) → k < 8 → has_bit result k ≡ colour self.now row (col + k) }
     {
-        self.rows[usize::from(row)].eight(col)
+        let word = self.rows[usize::from(row)].0[usize::from(col / 64)];
+        ((word >> (col % 64)) % 256) as u8
     }
 
     /// Returns the end of the run in row `row` that contains column `col`: the first column after `col` whose module
@@ -101,7 +102,7 @@ impl Matrix {
         ensures { IsRunEnd self.now row col result }
     {
         let side = self.side();
-        let later = self.changes(row).and_not(BitRow::below(col + 1));
+        let later = and_not(self.changes(row), BitRow::below(col + 1));
         later.first().min(side)
     }
 
@@ -128,13 +129,13 @@ impl Matrix {
         self.rows[row]
     }
 
-    #[tactic(auto, using(crate::proofs::Named::row_facts))]
+    #[tactic(auto, using(crate::proofs::Named::bit_row_facts, crate::proofs::Named::row_facts))]
     pub(crate) fn word(&self, row: usize, number: usize) -> u64
         requires row_in { row < self.now.side }
         requires word_in { number < 3 }
         ensures { (c : ℕ) → c < 64 → has_bit result c ≡ colour self.now row (64 * number + c) }
     {
-        self.rows[row].word(number)
+        self.rows[row].0[number]
     }
 
     /// Makes the module in row `row` and column `col` dark if `dark` is true, and light otherwise.
@@ -153,16 +154,6 @@ impl Matrix {
         ensures { self.new ≡ with_row self.old row (has bits) }
     {
         self.rows[usize::from(row)] = bits;
-    }
-
-    pub(crate) fn set_word(&mut self, row: usize, number: usize, word: u64)
-        requires row_in { row < self.old.side }
-        requires word_in { number < 3 }
-        requires past { (c : ℕ) → c < 64 → self.old.side ≤ 64 * number + c → has_bit word c ≡ false }
-        ensures { self.new ≡ with_row self.old row
-            (λ c. if c / 64 == number then has_bit word (c % 64) else colour self.old row c) }
-    {
-        self.rows[row].put_word(number, word);
     }
 
     /// Copies row `row` of `plain` into this square. The module in column c is inverted if `within` is dark in this row
@@ -193,13 +184,13 @@ impl Matrix {
     {
         // Only for the prover, which needs this bound if the rectangle has no rows.
         prove!(self.side <= 177);
-        let columns = BitRow::below(right).and_not(BitRow::below(left));
+        let columns = and_not(BitRow::below(right), BitRow::below(left));
         for row in top..bottom {
             let bits = self.bit_row(usize::from(row));
             let filled = if dark {
                 bits | columns
             } else {
-                bits.and_not(columns)
+                and_not(bits, columns)
             };
             self.set_bit_row(row, filled);
         }
@@ -211,12 +202,24 @@ impl Matrix {
         ensures { self.new ≡ transposed other.now }
     {
         prove!(self.side <= 177);
+        let side = usize::from(self.side);
         let words = usize::from(words_for(self.side));
         for band in 0..words {
             for word in 0..words {
-                let mut tile = tile_of(other, word, band);
-                transpose(&mut tile);
-                set_tile(self, band, word, &tile);
+                // The tile may have rows below the last row of the square. Then these rows stay light.
+                let mut tile = [0; 64];
+                for line in 0..(side - 64 * word).min(64) {
+                    tile[line] = other.word(64 * word + line, band);
+                }
+                exchange(&mut tile, 32, 0x0000_0000_FFFF_FFFF);
+                exchange(&mut tile, 16, 0x0000_FFFF_0000_FFFF);
+                exchange(&mut tile, 8, 0x00FF_00FF_00FF_00FF);
+                exchange(&mut tile, 4, 0x0F0F_0F0F_0F0F_0F0F);
+                exchange(&mut tile, 2, 0x3333_3333_3333_3333);
+                exchange(&mut tile, 1, 0x5555_5555_5555_5555);
+                for row in 0..(side - 64 * band).min(64) {
+                    self.rows[64 * band + row].put_word(word, tile[row]);
+                }
             }
         }
     }

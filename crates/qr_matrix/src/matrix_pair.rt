@@ -2,8 +2,8 @@
 
 ghost use Rattle.std.specs.Prelude.{◌≡◌, ℕ, Bool, ◌+◌, ◌-◌, ◌%◌, ◌<◌, ◌≤◌, ◌&&◌, ◌==◌, nat_le, nat_lt, not, true, false, if◌then◌else◌, IfOk};
 ghost use Rattle.qr_matrix.specs.Grid.{colour, light, one_of, painted, square, with_row, IsSquare};
-ghost use Rattle.qr_matrix.specs.BitRow.{has, has_bit};
-ghost use Rattle.qr_matrix.specs.Steps.{lane, NeedsWords};
+ghost use Rattle.qr_matrix.specs.BitRow.{has_bit};
+ghost use Rattle.qr_matrix.specs.Steps.{NeedsWords};
 
 use crate::bit_row::BitRow;
 use crate::matrix::Matrix;
@@ -48,7 +48,7 @@ impl MatrixPair {
         requires most { side ≤ 177 }
         ensures { IfOk result (λ pair. (second : Bool) → one_of pair second ≡ light side) }
     {
-        let rows = vec![in alloc; <RowPair as Rows>::empty(); usize::from(side)]?;
+        let rows = vec![in alloc; <RowPair as Rows>::below_in(0, 1); usize::from(side)]?;
         Ok(MatrixPair { side, rows })
     }
 
@@ -89,29 +89,6 @@ impl MatrixPair {
     }
 
     #[inline(always)]
-    fn set_row_masked(
-        &mut self,
-        row: usize,
-        plain: &Matrix,
-        within: &Matrix,
-        pattern: RowPair,
-        words: u8,
-    )
-        requires row_in { row < self.old.first.side }
-        requires plain_side { plain.now.side ≡ self.old.first.side }
-        requires within_side { within.now.side ≡ self.old.first.side }
-        requires width { NeedsWords self.old.first.side words }
-        ensures { (second : Bool) → one_of self.new second ≡ with_row (one_of self.old second) row
-            (λ c. if colour within.now row c && has (lane pattern second) c
-            then not (colour plain.now row c) else colour plain.now row c) }
-    {
-        let plain = plain.row_in(row, words);
-        let within = within.row_in(row, words);
-        let inverted = RowPair::of(within, within) & pattern;
-        self.rows[row].put_words(words, RowPair::of(plain, plain) ^ inverted);
-    }
-
-    #[inline(always)]
     fn set_rows_masked_in(
         &mut self,
         first: u8,
@@ -121,7 +98,6 @@ impl MatrixPair {
         words: u8,
     )
         requires first_in { first < 12 }
-        requires squares { (second : Bool) → IsSquare self.old.first.side (one_of self.old second) }
         requires plain_side { plain.now.side ≡ self.old.first.side }
         requires within_side { within.now.side ≡ self.old.first.side }
         requires patterns_in { (patterns.0 < 64) × (patterns.1 < 64) }
@@ -135,7 +111,9 @@ impl MatrixPair {
         let side = usize::from(self.side());
         let mut row = usize::from(first);
         while row < side {
-            self.set_row_masked(row, plain, within, pattern, words);
+            let (bits, region) = (plain.row_in(row, words), within.row_in(row, words));
+            let inverted = RowPair::of(region, region) & pattern;
+            self.rows[row].put_words(words, RowPair::of(bits, bits) ^ inverted);
             row += 12;
         }
     }

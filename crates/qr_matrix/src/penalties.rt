@@ -31,8 +31,9 @@ fn dark_count<S: Squares, const WORDS: u8>(squares: &S) -> <S::Row as Rows>::Cou
     ensures bound { (second : Bool) → S.Row.number result second ≤ 192 * 177 }
 {
     let side = usize::from(squares.side());
-    let (mut ones, mut twos) = (S::Row::empty(), S::Row::empty());
-    let mut fours = S::Row::zeros();
+    let none = S::Row::below_in(0, 1);
+    let (mut ones, mut twos) = (none, none);
+    let mut fours = <S::Row as Rows>::Counts::default();
     for quarter in 0..side / 4 {
         let row = 4 * quarter;
         let (a, b) = (squares.row_in(row, WORDS), squares.row_in(row + 1, WORDS));
@@ -47,8 +48,8 @@ fn dark_count<S: Squares, const WORDS: u8>(squares: &S) -> <S::Row as Rows>::Cou
         twos = sum;
         fours = carries.add_to(fours);
     }
-    let pairs = twos.add_to(S::Row::doubled(fours));
-    let mut total = ones.add_to(S::Row::doubled(pairs));
+    let pairs = twos.add_to(S::Row::plus(fours, fours));
+    let mut total = ones.add_to(S::Row::plus(pairs, pairs));
     for row in side / 4 * 4..side {
         total = squares.row_in(row, WORDS).add_to(total);
     }

@@ -4,7 +4,7 @@ ghost use Rattle.std.proofs.Common.{rules};
 ghost use Rattle.std.specs.Prelude.{◌≡◌, ℕ, Bool, List, ◌+◌, ◌-◌, ◌*◌, ◌/◌, ◌%◌, ◌<◌, ◌≤◌, ◌&&◌, ◌||◌, ◌==◌, not, true, false, nat_le, nat_lt, if◌then◌else◌};
 ghost use Rattle.qr_matrix.specs.Grid.{is_same};
 ghost use Rattle.qr_matrix.specs.BitRow.{has, has_bit};
-ghost use Rattle.qr_matrix.specs.Steps.{lane, word_of, IsPair};
+ghost use Rattle.qr_matrix.specs.Steps.{lane, IsPair};
 
 use crate::bit_row::{BitRow, low_bits};
 use crate::rows::Rows;
@@ -118,17 +118,6 @@ impl RowPair {
         }
     }
 
-    #[inline(always)]
-    fn parts(self) -> (BitRow, BitRow)
-        ensures first { (c : ℕ) → has result.0 c ≡ has (lane self false) c }
-        ensures second { (c : ℕ) → has result.1 c ≡ has (lane self true) c }
-    {
-        let a = self.low.to_array();
-        let b = self.middle.to_array();
-        let c = self.high.to_array();
-        (BitRow([a[0], b[0], c[0]]), BitRow([a[1], b[1], c[1]]))
-    }
-
     // Replaces the bits of word `number` at which `mask` has a 1: in the first row by the bits of `bits.0`, and in the
     // second row by those of `bits.1`.
     #[inline(always)]
@@ -138,10 +127,12 @@ impl RowPair {
             ≡ (if i / 64 == number && has_bit mask (i % 64) then has_bit (if second then bits.1 else bits.0) (i % 64)
             else has (lane self.old second) i) }
     {
+        let bits = u64x2::from_array([bits.0, bits.1]);
+        let mask = u64x2::splat(mask);
         match number {
-            0 => self.low = with_bits(self.low, mask, bits),
-            1 => self.middle = with_bits(self.middle, mask, bits),
-            _ => self.high = with_bits(self.high, mask, bits),
+            0 => self.low = self.low ^ (self.low ^ bits) & mask,
+            1 => self.middle = self.middle ^ (self.middle ^ bits) & mask,
+            _ => self.high = self.high ^ (self.high ^ bits) & mask,
         }
     }
 
@@ -165,18 +156,6 @@ impl RowPair {
             self.put_in(number + 1, mask >> rest, (bits.0 >> rest, bits.1 >> rest));
         }
     }
-}
-
-// Where `mask` has a 1, replaces the bit of the first word by that of `bits.0`, and the bit of the second word by that
-// of `bits.1`.
-#[inline(always)]
-fn with_bits(words: u64x2, mask: u64, bits: (u64, u64)) -> u64x2
-    requires { IsPair words }
-    ensures pair { IsPair result }
-    ensures bits { (second : Bool) (i : ℕ) → has_bit (word_of result second) i
-        ≡ (if has_bit mask i then has_bit (if second then bits.1 else bits.0) i else has_bit (word_of words second) i) }
-{
-    words ^ (words ^ u64x2::from_array([bits.0, bits.1])) & u64x2::splat(mask)
 }
 
 impl Rows for RowPair {
@@ -219,20 +198,21 @@ impl Rows for RowPair {
     }
 
     #[inline(always)]
-    fn zeros() -> (u32, u32) {
-        (0, 0)
-    }
-
-    #[inline(always)]
     fn plus(counts: (u32, u32), others: (u32, u32)) -> (u32, u32) {
         (counts.0 + others.0, counts.1 + others.1)
     }
 
     #[inline(always)]
     fn add_to(self, counts: (u32, u32)) -> (u32, u32) {
-        let (first, second) = self.parts();
+        let a = self.low.to_array();
+        let b = self.middle.to_array();
+        let c = self.high.to_array();
+        let first = BitRow([a[0], b[0], c[0]]);
+        let second = BitRow([a[1], b[1], c[1]]);
         (counts.0 + first.count(), counts.1 + second.count())
     }
+
+    ghost zero_law = { λ n h. elim [ false ↦ h.0 | true ↦ h.1 ] };
 
     ghost can_bitand_law = { λ _ _. Prim.search rules };
 

@@ -15,8 +15,9 @@ pub(crate) trait Rows: Copy
     + BitAnd<Self, Output = Self>
     + BitOr<Self, Output = Self>
     + BitXor<Self, Output = Self> {
-    // A number for each square. Numbers that are added are at most a million, so that their sum fits in a `u32`.
-    type Counts: Copy;
+    // A number for each square, 0 by default. Numbers that are added are at most a million, so that their sum fits in a
+    // `u32`.
+    type Counts: Copy + Default;
 
     // Whether the row of a square has a 1 in a column. `second` says which square is meant, and the number is that of
     // the column.
@@ -30,20 +31,6 @@ pub(crate) trait Rows: Copy
         requires some { 1 ≤ words }
         requires three { words ≤ 3 }
         ensures { (second : Bool) (c : ℕ) → bit result second c ≡ nat_lt c n };
-
-    #[inline(always)]
-    fn empty() -> Self
-        ensures { (second : Bool) (c : ℕ) → bit result second c ≡ false }
-    {
-        Self::below_in(0, 1)
-    }
-
-    #[inline(always)]
-    fn and_not(self, other: Self) -> Self
-        ensures { (second : Bool) (c : ℕ) → bit result second c ≡ (bit self second c && not (bit other second c)) }
-    {
-        self ^ (self & other)
-    }
 
     // Moves each bit `steps` columns to the left. Bit 0 is the leftmost, so the words themselves are shifted to the
     // right.
@@ -59,9 +46,6 @@ pub(crate) trait Rows: Copy
     fn is_empty(self) -> bool
         ensures { result ≡ true → (second : Bool) (c : ℕ) → bit self second c ≡ false };
 
-    fn zeros() -> Self::Counts
-        ensures { (second : Bool) → number result second ≡ 0 };
-
     fn plus(counts: Self::Counts, others: Self::Counts) -> Self::Counts
         requires first { (second : Bool) → number counts second ≤ 1000000 }
         requires others { (second : Bool) → number others second ≤ 1000000 }
@@ -75,25 +59,7 @@ pub(crate) trait Rows: Copy
             ≡ number counts second + set_count (bit self second) }
         ensures bound { (second : Bool) → number result second ≤ number counts second + 192 };
 
-    #[inline(always)]
-    fn doubled(counts: Self::Counts) -> Self::Counts
-        requires { (second : Bool) → number counts second ≤ 1000000 }
-        ensures { (second : Bool) → number result second ≡ 2 * number counts second }
-    {
-        Self::plus(counts, counts)
-    }
-
-    // As `add_to`, but faster if most of the rows that are counted have no set bit.
-    #[inline(always)]
-    fn add_rare_to(self, counts: Self::Counts) -> Self::Counts
-        requires { (second : Bool) → number counts second ≤ 1000000 }
-        ensures { (second : Bool) → number result second ≡ number counts second + set_count (bit self second) }
-    {
-        if self.is_empty() {
-            return counts;
-        }
-        self.add_to(counts)
-    }
+    ghost zero_law: { (n : Self.Counts) → Self.Counts.is_default n → (second : Bool) → number n second ≡ 0 };
 
     // These laws say that the operators `&`, `|` and `^` may always be used, and that they work on each column by
     // itself.
@@ -141,6 +107,13 @@ pub(crate) fn words_for(side: u8) -> u8
     ensures { NeedsWords side result }
 {
     (side - 1) / 64 + 1
+}
+
+#[inline(always)]
+pub(crate) fn and_not<R: Rows>(row: R, other: R) -> R
+    ensures { (second : Bool) (c : ℕ) → R.bit result second c ≡ (R.bit row second c && not (R.bit other second c)) }
+{
+    row ^ (row & other)
 }
 
 // A full adder for each column: returns a row of sums and a row of carries. A carry stands for two set bits of the

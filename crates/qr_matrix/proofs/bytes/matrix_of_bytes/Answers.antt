@@ -3,20 +3,7 @@ use Rattle.qr_matrix.{specs.BitRow.has, proofs.lemmas.{bytes.ReadLemmas.read-the
 use Rattle.qr_matrix.proofs.bytes.matrix_of_bytes.Goals as goal
 
 pub loop-row-preserved : goal.loop-row-preserved
-loop-row-preserved c =
-    let i = c.loop-row.invariant in
-    let xs = c.args.bytes.now in
-    let s = c.args.side in
-    let f = λ (row col : ℕ). not (slice_index_or xs (row * s + col) 0 == 0) in
-    record {
-      end = i.end;
-      start = omega (arith, i.start);
-      matrix =
-          c.set_bit_row.ensures
-          ∙ fill-line s f (λ _ _. false) c.loop-row.row (has c.rows_of-dark.result.0) c.loop-row.matrix i.matrix (λ n l.
-          read-there n s _ (not (slice_index_or xs (c.loop-row.start + n) 0 == 0)) l (c.rows_of-dark.ensures.dark n)
-          ∙ ap (λ (z : ℕ). not (slice_index_or xs (z + n) 0 == 0)) i.start);
-    }
+loop-row-preserved c = search (arith, slice_index_or, fill-line, has, read-there)
 
 pub returns : goal.returns
 returns c =

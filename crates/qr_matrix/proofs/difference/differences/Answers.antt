@@ -1,5 +1,6 @@
-use Rattle.std.proofs.Common.{arith, ap, ◌∙◌, refl}
-use Rattle.qr_matrix.specs.{Difference.{differs, difference_count}, Sums.{count_below, places_passing, sum_below}}
+use Rattle.std.proofs.Common.{rules}
+use Rattle.std.proofs.Common.{arith, ◌∙◌, refl}
+use Rattle.qr_matrix.specs.{Difference.{differs, difference_count}, Sums.{count_below, places_passing}}
 use Rattle.qr_matrix.proofs.lemmas.{bit_row.SumLemmas.sum_below-more, difference.DifferenceLemmas.row-differs}
 use Rattle.qr_matrix.proofs.difference.differences.Goals as goal
 
@@ -22,7 +23,4 @@ loop-row-preserved c =
 
 pub returns : goal.returns
 unfolding difference_count places_passing
-returns c =
-    let g = c.args.a.now in
-    let h = c.args.b.now in
-    c.loop-row.invariant.counted ∙ ap (λ z. sum_below z (λ r. count_below g.side (differs g h r))) (omega arith)
+returns c = search rules

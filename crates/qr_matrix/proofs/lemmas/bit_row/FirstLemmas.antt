@@ -1,6 +1,6 @@
 -- The first bit of a bit row that is set.
-use Rattle.std.proofs.Common.{◌≡◌, ℕ, zero, suc, ◌+◌, ◌^◌, ◌<◌, ◌≤◌, Bool, true, false, eqb, cond, [], ◌∷◌, refl, ap, ◌∙◌, inl, inr, w64, arith}
-use Rattle.std.proofs.lemmas.{Bool.{cases_lt, Decides.nat_tests}, Nat.Bits.{bit_at-trailing_zeros, bit_at-zero}}
+use Rattle.std.proofs.Common.{◌≡◌, ℕ, zero, suc, ◌+◌, ◌^◌, ◌<◌, ◌≤◌, Bool, true, false, eqb, cond, [], ◌∷◌, refl, inl, inr, w64, arith}
+use Rattle.std.proofs.lemmas.{Bool.{cases_lt}, Nat.Bits.{bit_at-trailing_zeros, bit_at-zero}}
 use Rattle.{std.specs.Int.trailing_zeros, qr_matrix.specs.{BitRow.has_bit, Steps.columns_passing}}
 use Rattle.qr_matrix.proofs.lemmas.bit_row.{WordLemmas.three, PlaceLemmas.{has_bit-low, has_bit-middle, has_bit-high}}
 
@@ -59,13 +59,6 @@ pub passing-first : (p q : ℕ → Bool) (t k n : ℕ) → k ≤ t → t < k + n
 unfolding columns_passing
 passing-first p q t k zero l m before here is = absurd (omega arith)
 passing-first p q t k (suc n) l m before here is = elim (cases_lt k t) [
-  | inl s ↦
-      let o = before k s in
-      let f : q k ≡ false = grind (arith, nat_tests, is k) in
-      rw (o, f) (passing-first p q t (k + 1) n (omega arith) (omega arith) before here is)
-  | inr s ↦
-      let e : k ≡ t = omega arith in
-      let o : p k ≡ true = ap p e ∙ here in
-      let f : q k ≡ false = grind (arith, nat_tests, is k) in
-      rw (o, f) (λ i. e i ∷ passing-same p q (k + 1) n (λ c h. grind (arith, nat_tests, is c)) i)
+  | inl s ↦ search (arith, passing-first p q t (k + 1) n (omega arith) (omega arith) before here is)
+  | inr s ↦ search (arith, passing-same)
 ]

@@ -72,8 +72,7 @@ unfolding has_bit
 has_bit-up n zero h = search arith
 has_bit-up n (suc c) h =
     let f = bit_at_cat_low (n * 2 / 2 ^ 192) 192 (n * 2 % 2 ^ 192) (suc c) h in
-    let g = bit_at-suc (n * 2) c in
-    grind (arith, shr_split, nat_tests)
+    search (arith, bit_at-suc, shr_split)
 
 -- ---- one bit of three words
 

@@ -11,11 +11,10 @@ use Rattle.qr_matrix.proofs.lemmas.bit_row.PlaceLemmas.{has-place, has_bit-or, h
 -- bit j of a number b that is shifted up by s
 pub shl-bit : (b s j : ℕ) → has_bit (b * 2 ^ s) j ≡ (leb s j && has_bit b (j - s))
 shl-bit b s j = elim (cases_lt j s) [
-  | inl l ↦ (let t : leb s j ≡ false = grind (arith, nat_tests) in cc (has_bit-shl-low b s j l))
+  | inl l ↦ search (arith, has_bit-shl-low)
   | inr l ↦
       let e : s + (j - s) ≡ j = omega arith in
-      let t : leb s j ≡ true = grind (arith, nat_tests) in
-      cc (has_bit-shl-high b s (j - s))
+      search (arith, has_bit-shl-high)
 ]
 
 -- a word in which bits are set is a bit row with these bits set
@@ -58,8 +57,7 @@ trailing-ends a l m = elim (cases_lt (a + 1) (2 ^ 64)) [
   | inl h ↦ ap (λ z. eqb z 1) (bit_at-trailing_ones w64 a h).1
   | inr h ↦
       let e : a ≡ 2 ^ 64 - 1 = omega arith in
-      let all : trailing_ones w64 a ≡ 64 = ap (trailing_ones w64) e in
-      absurd (omega arith)
+      search arith
 ]
 
 -- no bit of a number below 2 ^ n is set from bit n on
@@ -85,7 +83,7 @@ leading-set a k l m = elim (cases_lt 0 (bit_not w64 a)) [
       ap (λ z. eqb z 1) one_bit
   | inr h ↦
       let e : a ≡ 2 ^ 64 - 1 = omega arith in
-      ap (λ z. eqb (bit_at z (63 - k)) 1) e ∙ ap (λ z. eqb z 1) (bit_at_ones 64 (63 - k) (omega arith))
+      cc (bit_at_ones 64 (63 - k) (omega arith))
 ]
 
 -- the bit below the leading ones of a word is not set
@@ -98,10 +96,7 @@ leading-ends a l m = elim (cases_lt 0 (bit_not w64 a)) [
       let one_bit : bit_at (bit_not w64 a) top.0 ≡ 1 = top-bit (bit_not w64 a) top.0 top.2 top.3 in
       let zero_bit : bit_at a top.0 ≡ 0 = omega (arith, one_bit, bit_at_not w64 a top.0 l (omega (arith, top.1)), bit_at-lt a top.0) in
       ap (λ z. eqb (bit_at a z) 1) k ∙ ap (λ z. eqb z 1) zero_bit
-  | inr h ↦
-      let e : a ≡ 2 ^ 64 - 1 = omega arith in
-      let all : leading_ones w64 a ≡ 64 = ap (leading_ones w64) e in
-      absurd (omega arith)
+  | inr h ↦ search arith
 ]
   where
     top-bit : (n j : ℕ) → 2 ^ j ≤ n → n < 2 ^ suc j → bit_at n j ≡ 1
@@ -176,9 +171,7 @@ inverted-bit a k l m = let e = bit_at_not w64 a k l m in let two = bit_at-lt a k
 -- a bit row with all bits inverted
 pub inverted-row : (ws : List ℕ) (i : ℕ) → ((j : ℕ) → get_or ws j 0 < 2 ^ 64) → i < 192
     → has ((2 ^ 64 - 1 - get_or ws 0 0) ∷ (2 ^ 64 - 1 - get_or ws 1 0) ∷ (2 ^ 64 - 1 - get_or ws 2 0) ∷ []) i ≡ not (has ws i)
-inverted-row ws i w l =
-    let is = (2 ^ 64 - 1 - get_or ws 0 0) ∷ (2 ^ 64 - 1 - get_or ws 1 0) ∷ (2 ^ 64 - 1 - get_or ws 2 0) ∷ [] in
-    has-place is i (words-small is (refl, omega arith, omega arith, omega arith)) l ∙ (ap (λ z. has_bit z (i % 64)) (word (i / 64) (omega arith)) ∙ (inverted-bit (get_or ws (i / 64) 0) (i % 64) (w (i / 64)) (omega arith) ∙ ap not (sym (has-place ws i w l))))
+inverted-row ws i w l = search (arith, has-place, words-small, inverted-bit)
   where
     word : (k : ℕ) → k < 3 → get_or ((2 ^ 64 - 1 - get_or ws 0 0) ∷ (2 ^ 64 - 1 - get_or ws 1 0) ∷ (2 ^ 64 - 1 - get_or ws 2 0) ∷ []) k 0 ≡ 2 ^ 64 - 1 - get_or ws k 0
     word zero l = refl

@@ -1,5 +1,5 @@
 -- Sums over the numbers below a bound.
-use Rattle.std.proofs.Common.{◌≡◌, ℕ, zero, suc, ◌+◌, ◌-◌, ◌*◌, ◌<◌, ◌≤◌, Bool, true, false, cond, eqb, inl, inr, refl, sym, ap, ◌∙◌, arith}
+use Rattle.std.proofs.Common.{◌≡◌, ℕ, zero, suc, ◌+◌, ◌-◌, ◌*◌, ◌<◌, ◌≤◌, Bool, false, cond, eqb, inl, inr, refl, sym, ap, ◌∙◌, arith}
 use Rattle.{std.proofs.lemmas.Bool.{cases_lt, Decides.nat_tests}, qr_matrix.specs.Sums.{sum_below, count_below}}
 
 -- if f k equals g k for each k below n, then f and g have the same sum below n
@@ -28,7 +28,6 @@ sum_below-one zero m f h = absurd (omega arith)
 sum_below-one (suc n) m f h = elim (cases_lt m n) [
   | inl l ↦ search (arith, nat_tests, sum_below-one n m f l)
   | inr l ↦
-      let e : eqb n m ≡ true = grind (arith, nat_tests) in
       let b = sum_below-same n (λ k. cond (eqb k m) (f k) 0) (λ k. 0) (λ k i. let e : eqb k m ≡ false = grind (arith, nat_tests) in ap (λ z. cond z (f k) 0) e) in
       search (arith, sum_below-zero)
 ]

@@ -1,6 +1,6 @@
 -- Bits that are gathered from bytes of 0 and 1, eight at a time.
-use Rattle.std.proofs.Common.{◌≡◌, ℕ, ◌+◌, ◌-◌, ◌*◌, ◌/◌, ◌%◌, ◌^◌, ◌<◌, ◌≤◌, [], ◌∷◌, List, get_or, Bool, true, false, not, ◌&&◌, ◌||◌, eqb, leb, ltb, bit_and, bit_or, refl, sym, ap, ◌∙◌, inl, inr, arith}
-use Rattle.std.proofs.lemmas.{Bool.{cases_lt, Decides.nat_tests}, Nat.and_block}
+use Rattle.std.proofs.Common.{◌≡◌, ℕ, ◌+◌, ◌-◌, ◌*◌, ◌/◌, ◌%◌, ◌^◌, ◌<◌, ◌≤◌, [], ◌∷◌, get_or, Bool, true, false, not, ◌&&◌, ◌||◌, eqb, leb, ltb, bit_and, bit_or, refl, arith}
+use Rattle.std.proofs.lemmas.{Bool.{Decides.nat_tests}, Nat.and_block}
 use Rattle.qr_matrix.specs.{BitRow.has_bit, Bytes.byte_of, Grid.is_same, Sums.all_below}
 use Rattle.qr_matrix.proofs.lemmas.bit_row.{PlaceLemmas.{has_bit-or, low-bits}, RepeatLemmas.{below-at, same-same}, SetLemmas.{shl-bit, unset-above}}
 
@@ -24,11 +24,8 @@ plain-byte a l e = let h = below-at 256 plain-at all-plain a l in grind (arith, 
 
 -- the lowest byte and the others
 peel : (a r b : ℕ) → r < 256 → bit_and (a * 2 ^ 8 + r) (b * 2 ^ 8 + 254) ≡ 0 → (bit_and a b ≡ 0) × (r < 2)
-peel a r b l e =
-    let both = and_block 8 a b r 254 l (omega arith) in
-    let low : bit_and r 254 ≡ 0 = omega (arith, both, e) in
-    let high : bit_and a b ≡ 0 = omega (arith, both, e) in
-    (high, plain-byte r l low)
+peel a r b l e = let both = and_block 8 a b r 254 l (omega arith) in
+    search (arith, plain-byte)
 
 -- eight bytes of which none has a bit of 254 are 0 or 1
 pub plain-bytes : (f : ℕ → ℕ) → ((k : ℕ) → f k < 256) → bit_and (joined f) 0xFEFEFEFEFEFEFEFE ≡ 0
@@ -41,7 +38,7 @@ plain-bytes f l e =
     let p4 = peel ((f 7 * 2 ^ 8 + f 6) * 2 ^ 8 + f 5) (f 4) 0xFEFEFE (l 4) p3.0 in
     let p5 = peel (f 7 * 2 ^ 8 + f 6) (f 5) 0xFEFE (l 5) p4.0 in
     let p6 = peel (f 7) (f 6) 254 (l 6) p5.0 in
-    (p0.1, p1.1, p2.1, p3.1, p4.1, p5.1, p6.1, plain-byte (f 7) (l 7) p6.0)
+    search (arith, plain-byte)
 
 -- ---- their bits
 
@@ -82,10 +79,9 @@ gathered-bits f s k l =
     let e6 : digit b 6 ≡ f 6 = omega (arith, s) in
     let e7 : digit b 7 ≡ f 7 = omega (arith, s) in
     let whole : joined (digit b) ≡ joined f = omega (arith, e0, e1, e2, e3, e4, e5, e6, e7) in
-    let one : digit b k ≡ f k =
-    sym (item (digit b) k l) ∙ (ap (λ (xs : List ℕ). get_or xs k 0) (λ i. e0 i ∷ e1 i ∷ e2 i ∷ e3 i ∷ e4 i ∷ e5 i ∷ e6 i ∷ e7 i ∷ []) ∙ item f k l) in
+    let one : digit b k ≡ f k = cc (item (digit b) k l, item f k l) in
     let bit = same-same (has_bit (gathered (joined (digit b))) k) (eqb (digit b k) 1) (below-at 8 (gather-at b) (below-at 256 (λ b. all_below 8 (gather-at b)) all-gather b small) k l) in
-    sym one ∙ (binary (digit b k) (omega arith) ∙ ap byte_of (sym bit ∙ ap (λ n. has_bit (gathered n) k) whole))
+    search arith
   where
     binary : (n : ℕ) → n < 2 → n ≡ byte_of (eqb n 1)
     binary n l = grind (arith, nat_tests)
@@ -94,8 +90,7 @@ gathered-bits f s k l =
 
 -- the bits of n that are put into a word from bit c on
 pub put-bits : (word n c k : ℕ) → k < 64 → has_bit (bit_or word (n * 2 ^ c % 2 ^ 64)) k ≡ (has_bit word k || leb c k && has_bit n (k - c))
-put-bits word n c k l =
-    has_bit-or word (n * 2 ^ c % 2 ^ 64) k ∙ ap (λ z. has_bit word k || z) (low-bits 64 (n * 2 ^ c) k l ∙ shl-bit n c k)
+put-bits word n c k l = search (arith, has_bit-or, low-bits, shl-bit)
 
 -- a bit before those that are put stays
 pub bit-before : (c k : ℕ) (old new put : Bool) → k < c → new ≡ (old || leb c k && put) → new ≡ old
@@ -121,10 +116,7 @@ read-there c side read test l e = grind (arith, nat_tests)
 
 -- a module whose byte is 0 or 1 is known
 pub known-module : (c side byte : ℕ) (bit : Bool) → (c < side → byte ≡ byte_of bit) → false ≡ (ltb c side && eqb byte 2)
-known-module c side byte bit e = elim (cases_lt c side) [
-  | inl l ↦ let g = e l in inside (ltb c side) byte bit g
-  | inr l ↦ let t : ltb c side ≡ false = grind (arith, nat_tests) in outside (ltb c side) (eqb byte 2) t
-]
+known-module c side byte bit e = search arith
   where
     inside : (t : Bool) (byte : ℕ) (bit : Bool) → byte ≡ byte_of bit → false ≡ (t && eqb byte 2)
     inside t byte bit e = grind (arith, nat_tests)

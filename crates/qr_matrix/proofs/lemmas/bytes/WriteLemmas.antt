@@ -1,5 +1,5 @@
 -- Bits that are spread over bytes, and some bytes of a buffer that are written at once.
-use Rattle.std.proofs.Common.{◌≡◌, ℕ, ◌+◌, ◌-◌, ◌*◌, ◌/◌, ◌%◌, ◌^◌, ◌<◌, ◌≤◌, ◌⊎◌, Bool, true, eqb, bit_and, List, ◌++◌, length, take, drop, length-append, length-drop, get_or, slice_index_or, refl, ap, ◌∙◌, inl, inr, arith}
+use Rattle.std.proofs.Common.{◌≡◌, ℕ, ◌+◌, ◌*◌, ◌/◌, ◌%◌, ◌^◌, ◌<◌, ◌≤◌, ◌⊎◌, Bool, true, eqb, bit_and, List, length, length-append, length-drop, get_or, slice_index_or, refl, inl, inr, arith}
 use Rattle.std.{specs.Int.{to_le_bytes, w64}, proofs.lemmas.Bool.eqb-true}
 use Rattle.qr_matrix.specs.{BitRow.has_bit, Bytes.byte_of, Sums.all_below}
 use Rattle.qr_matrix.proofs.lemmas.bit_row.RepeatLemmas.{below-at}
@@ -31,20 +31,13 @@ spread-bytes b k l m = eqb-true _ _ (below-at 8 (spread-at b) (below-at 256 (λ 
 module _ (a k : ℕ) (xs ys : List ℕ) (room : a + k ≤ length xs) (many : length ys ≡ k) where
   -- the number of bytes stays the same
   pub part-long : length (put_mid a k xs ys) ≡ length xs
-  part-long = omega (arith, length-append (take a xs) (ys ++ drop k (drop a xs)), length-append ys (drop k (drop a xs)), length-take-le a xs (omega arith), length-drop k (drop a xs), length-drop a xs)
+  part-long = search (arith, length-append, length-take-le, length-drop)
 
   -- the bytes of the part are those that were written
   pub part-here : (j : ℕ) → j < k → slice_index_or (put_mid a k xs ys) (a + j) 0 ≡ slice_index_or ys j 0
-  part-here j l =
-      let e : a + j - a ≡ j = omega arith in
-      get_or-append_right (take a xs) (ys ++ drop k (drop a xs)) a (a + j) 0 (length-take-le a xs (omega arith)) (omega arith)
-      ∙ (ap (λ n. get_or (ys ++ drop k (drop a xs)) n 0) e ∙ get_or_append_left ys (drop k (drop a xs)) 0 j (omega arith))
+  part-here j l = search (arith, get_or-append_right, length-take-le, get_or_append_left)
 
   -- the bytes outside the part stay the same
   pub part-others : (i : ℕ) → (i < a) ⊎ (a + k ≤ i) → slice_index_or (put_mid a k xs ys) i 0 ≡ slice_index_or xs i 0
-  part-others i (inl l) = get_or_append_left (take a xs) (ys ++ drop k (drop a xs)) 0 i (omega (arith, length-take-le a xs (omega arith))) ∙ get_or-take a xs i 0 l
-  part-others i (inr l) =
-      let e : a + (k + (i - a - k)) ≡ i = omega arith in
-      get_or-append_right (take a xs) (ys ++ drop k (drop a xs)) a i 0 (length-take-le a xs (omega arith)) (omega arith)
-      ∙ (get_or-append_right ys (drop k (drop a xs)) k (i - a) 0 many (omega arith)
-      ∙ (get_or-drop k (drop a xs) (i - a - k) 0 ∙ (get_or-drop a xs (k + (i - a - k)) 0 ∙ ap (λ n. get_or xs n 0) e)))
+  part-others i (inl l) = search (arith, get_or_append_left, length-take-le, get_or-take)
+  part-others i (inr l) = search (arith, get_or-append_right, length-take-le, get_or-drop)

@@ -1,5 +1,5 @@
 -- The runs of dark modules of a row, one after the other.
-use Rattle.std.proofs.Common.{◌≡◌, ℕ, zero, suc, ◌+◌, ◌-◌, ◌<◌, ◌≤◌, List, ◌∷◌, ltb, leb, ◌&&◌, ◌||◌, not, Bool, true, false, refl, sym, ap, ◌∙◌, ◌⊎◌, inl, inr, arith}
+use Rattle.std.proofs.Common.{◌≡◌, ℕ, zero, suc, ◌+◌, ◌-◌, ◌<◌, ◌≤◌, List, ◌∷◌, ltb, leb, ◌&&◌, not, Bool, true, false, refl, ap, ◌∙◌, ◌⊎◌, inl, inr, arith}
 use Rattle.std.{proofs.lemmas.Bool.{cases_lt, cases_Bool, Decides.nat_tests}, specs.List.{All, AllPairs, list_any}}
 use Rattle.std.proofs.lemmas.List.{Elements.{All-cons, All-head, All-tail, All-weaker}, Folds.list_any_none}
 use Rattle.qr_matrix.specs.{Grid.{Grid, colour, is_same}, DarkRuns.AreDarkRuns, declared.dark_runs.Run.Run}
@@ -14,9 +14,7 @@ pub record AreRunsFrom (g : Grid) (row col : ℕ) (runs : List Run) : Type 0 whe
 
 -- a column before all runs is in none
 before-runs : (c : ℕ) (runs : List Run) → All (λ run. c + 1 ≤ run.start) runs → list_any (λ run. leb run.start c && ltb c run.end) runs ≡ false
-before-runs c runs later =
-    list_any_none (λ (run : Run). leb run.start c && ltb c run.end) runs
-    (All-weaker (λ run. c + 1 ≤ run.start) (λ run. (leb run.start c && ltb c run.end) ≡ false) (λ run l. grind (arith, nat_tests)) runs later)
+before-runs c runs later = search (arith, list_any_none, All-weaker)
 
 -- a column before or after a run is not in it
 not-in : (start end c : ℕ) → (c < start) ⊎ (end ≤ c) → (leb start c && ltb c end) ≡ false
@@ -32,51 +30,38 @@ module _ (g : Grid) (row col : ℕ) (run : Run) (runs : List Run) (are : AreRuns
 
   -- `run` begins at column `col` or after it, and lies within the row
   pub run-in : (col ≤ run.start) × (run.start < run.end) × (run.end ≤ g.side)
-  run-in =
-      let w = All-head (λ other. (other.start < other.end) × (other.end ≤ g.side)) run runs are.within in
-      (All-head (λ other. col ≤ other.start) run runs are.after, w.0, w.1)
+  run-in = search (arith, All-head)
 
   -- up to the end of `run`, the modules of `run` alone are dark
   pub run-colours : (c : ℕ) → col ≤ c → c ≤ run.end → colour g row c ≡ (leb run.start c && ltb c run.end)
-  run-colours c l m =
-      let none = before-runs c runs (All-weaker (λ other. run.end + 1 ≤ other.start) (λ other. c + 1 ≤ other.start) (λ other n. omega arith) runs others-after) in
-      are.dark c l ∙ (ap (λ b. (leb run.start c && ltb c run.end) || b) none ∙ or-false (leb run.start c && ltb c run.end))
+  run-colours c l m = search (arith, before-runs, All-weaker, others-after, or-false)
 
   -- `runs` are the runs from the end of `run` on
   pub other-runs : AreRunsFrom g row run.end runs
   other-runs =
       let w = run-in in
       record {
-        after = All-weaker (λ other. run.end + 1 ≤ other.start) (λ other. run.end ≤ other.start) (λ other n. omega arith) runs others-after;
-        within = All-tail (λ other. (other.start < other.end) × (other.end ≤ g.side)) run runs are.within;
+        after = search (arith, All-weaker, others-after);
+        within = search (arith, All-tail);
         apart = λ i j d l m. are.apart (suc i) (suc j) d (omega arith) (omega arith);
-        dark = λ c l. are.dark c (omega arith) ∙ ap (λ b. b || list_any (λ other. leb other.start c && ltb c other.end) runs) (not-in run.start run.end c (inr l));
+        dark = search (arith, not-in);
       }
 
 -- ---- the runs between the changes of a row
 
 -- runs from the column after a light module on are the runs from this module on
 light-first : (g : Grid) (row k : ℕ) (runs : List Run) → colour g row k ≡ false → AreRunsFrom g row (k + 1) runs → AreRunsFrom g row k runs
-light-first g row k runs light are = record {
-  after = All-weaker (λ run. k + 1 ≤ run.start) (λ run. k ≤ run.start) (λ run l. omega arith) runs are.after;
-  within = are.within;
-  apart = are.apart;
-  dark = λ c l. elim (cases_lt k c) [
-    | inl m ↦ are.dark c (omega arith)
-    | inr m ↦ let e : c ≡ k = omega arith in rw e (light ∙ sym (before-runs k runs are.after))
-  ];
-}
+light-first g row k runs light are = search (arith, All-weaker, before-runs)
 
 -- dark modules from column a to before a light module at k are a run before the runs after k
 dark-first : (g : Grid) (row a k : ℕ) (runs : List Run) → a < k → k ≤ g.side → ((c : ℕ) → a ≤ c → c < k → colour g row c ≡ true)
     → colour g row k ≡ false → AreRunsFrom g row (k + 1) runs → AreRunsFrom g row a (record { start = a; end = k } ∷ runs)
 dark-first g row a k runs l m dark light are = record {
-  after = All-cons (λ run. a ≤ run.start) (record { start = a; end = k }) runs (omega arith)
-      (All-weaker (λ run. k + 1 ≤ run.start) (λ run. a ≤ run.start) (λ run n. omega arith) runs are.after);
-  within = All-cons (λ run. (run.start < run.end) × (run.end ≤ g.side)) (record { start = a; end = k }) runs (l, m) are.within;
+  after = search (arith, All-cons, All-weaker);
+  within = search (arith, All-cons);
   apart = apart;
   dark = λ c h. elim (cases_lt c k) [
-    | inl n ↦ let t : (leb a c && ltb c k) ≡ true = grind (arith, nat_tests) in rw t (dark c h n)
+    | inl n ↦ search arith
     | inr n ↦ rw (not-in a k c (inr n)) ((light-first g row k runs light are).dark c n)
   ];
 }
@@ -96,17 +81,11 @@ module _ (g : Grid) (row : ℕ) (few : g.side ≤ 177) (past : (c : ℕ) → g.s
 
   -- the module before column k + 1 is the one at k
   one-before : (k : ℕ) → (ltb 0 (k + 1) && colour g row (k + 1 - 1)) ≡ colour g row k
-  one-before k =
-      let t : ltb 0 (k + 1) ≡ true = grind (arith, nat_tests) in
-      let e : k + 1 - 1 ≡ k = omega arith in
-      rw (t, e) refl
+  one-before k = search arith
 
   -- a column after a dark module is at most the side
   within-side : (k : ℕ) → 0 < k → colour g row (k - 1) ≡ true → k ≤ g.side
-  within-side k l d = elim (cases_lt (k - 1) g.side) [
-    | inl m ↦ omega arith
-    | inr m ↦ let h : true ≡ false = sym d ∙ past (k - 1) m in absurd (cc)
-  ]
+  within-side k l d = search arith
 
   -- the runs between the changes from k on are the runs from k on; if a to k - 1 are dark, the first begins at a
   runs-from : (n k : ℕ) → k + n ≡ 192
@@ -130,12 +109,9 @@ module _ (g : Grid) (row : ℕ) (few : g.side ≤ 177) (past : (c : ℕ) → g.s
           | inr d ↦ rw (turns k false false (omega arith) d light) (light-first g row k _ d (next.0 (one-before k ∙ d)))
         ],
         λ a l dark.
-            let before : (ltb 0 k && colour g row (k - 1)) ≡ true = rw (dark (k - 1) (omega arith) (omega arith)) (grind (arith, nat_tests)) in
+            let before : (ltb 0 k && colour g row (k - 1)) ≡ true = search arith in
             elim (cases_Bool (colour g row k)) [
-              | inl d ↦ rw (turns k true true (omega arith) d before) (next.1 a (omega arith) (λ c h m. elim (cases_lt c k) [
-                | inl s ↦ dark c h s
-                | inr s ↦ let s : c ≡ k = omega arith in ap (colour g row) s ∙ d
-              ]))
+              | inl d ↦ rw (turns k true true (omega arith) d before) (next.1 a (omega arith) (search arith))
               | inr d ↦ rw (turns k false true (omega arith) d before)
                   (dark-first g row a k _ l (within-side k (omega arith) (dark (k - 1) (omega arith) (omega arith))) dark d (next.0 (one-before k ∙ d)))
             ],
@@ -145,8 +121,8 @@ module _ (g : Grid) (row : ℕ) (few : g.side ≤ 177) (past : (c : ℕ) → g.s
   pub runs-of-row : AreDarkRuns g row (runs_between (columns_passing old 0 192))
   runs-of-row =
       let all = (runs-from 192 0 (omega arith)).0 refl in
-      record { within = all.within; apart = all.apart; dark = λ c. all.dark c (omega arith) }
+      search arith
 
 -- the runs of the row are its runs from the first column on
 pub all-runs : (g : Grid) (row : ℕ) (runs : List Run) → AreDarkRuns g row runs → AreRunsFrom g row 0 runs
-all-runs g row runs are = record { after = λ k d l. omega arith; within = are.within; apart = are.apart; dark = λ c l. are.dark c }
+all-runs g row runs are = search arith

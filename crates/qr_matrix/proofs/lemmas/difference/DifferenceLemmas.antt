@@ -1,6 +1,6 @@
 -- Differences of squares.
 use Rattle.std.{proofs.lemmas.Bool.{Decides.nat_tests, cases_lt}, specs.Prelude.{List, ◌↔◌}}
-use Rattle.std.proofs.Common.{◌≡◌, ℕ, zero, suc, ◌<◌, ◌≤◌, Bool, true, false, not, cond, inl, inr, refl, sym, ap, ◌∙◌, arith}
+use Rattle.std.proofs.Common.{◌≡◌, ℕ, zero, suc, ◌<◌, ◌≤◌, Bool, true, false, not, cond, inl, inr, refl, arith}
 use Rattle.qr_matrix.specs.{Grid.{Grid, colour, is_same}, BitRow.has, Steps.size_of}
 use Rattle.qr_matrix.specs.{Sums.{places_passing, sum_below, count_below}, Difference.{differs, difference_count}}
 use Rattle.qr_matrix.proofs.lemmas.runs.RowLemmas.{size-is}
@@ -29,17 +29,14 @@ pub record HasRow (s : ℕ) (g : Grid) (r : ℕ) (a : List ℕ) : Type 0 where
 -- the bits that are set in exactly one of two rows are the places at which the rows differ
 pub row-differs : (g h : Grid) (r : ℕ) (d a b : List ℕ) → g.side ≤ 192 → ((c : ℕ) → has d c ≡ not (is_same (has a c) (has b c)))
     → HasRow g.side g r a → HasRow g.side h r b → size_of d ≡ count_below g.side (differs g h r)
-row-differs g h r d a b few x p q =
-    size-is g.side (has d) (differs g h r) few
-    (λ c _. x c ∙ (ap (λ z. not (is_same z (has b c))) (p.colours c) ∙ ap (λ z. not (is_same (colour g r c) z)) (q.colours c)))
-    (λ c k. differs-past (colour g r c) (colour h r c) (sym (p.colours c) ∙ p.past c k) (sym (q.colours c) ∙ q.past c k))
+row-differs g h r d a b few x p q = search (arith, size-is, differs-past)
 
 -- if a sum is 0, each term is 0
 term-zero : (n : ℕ) (f : ℕ → ℕ) → sum_below n f ≡ 0 → (k : ℕ) → k < n → f k ≡ 0
 term-zero zero f e k l = absurd (omega arith)
 term-zero (suc n) f e k l = elim (cases_lt k n) [
   | inl m ↦ term-zero n f (omega arith) k m
-  | inr m ↦ let same : k ≡ n = omega arith in let here = ap f same in omega arith
+  | inr m ↦ search arith
 ]
 
 -- if each term is 0, the sum is 0
@@ -55,7 +52,5 @@ no-difference g h = (
       same-is (colour g r c) (colour h r c)
       (term-zero g.side (λ k. cond (differs g h r k) 1 0)
       (term-zero g.side (λ k. count_below g.side (differs g h k)) e r l) c m)),
-  (λ e. sum-zero g.side (λ r. count_below g.side (differs g h r))
-      (λ r l. sum-zero g.side (λ c. cond (differs g h r c) 1 0)
-      (λ c m. ap (λ z. cond (not (is_same z (colour h r c))) 1 0) (e r c l m) ∙ ap (λ z. cond (not z) 1 0) (same-self (colour h r c))))),
+  (search (arith, sum-zero, same-self)),
 )

@@ -1,5 +1,5 @@
 -- Neighbouring bits of the rows of two squares that are written at once, by the words in which they are.
-use Rattle.std.proofs.Common.{◌≡◌, ◌≢◌, ◌⊎◌, inl, inr, ℕ, ◌+◌, ◌-◌, ◌*◌, ◌/◌, ◌%◌, ◌^◌, ◌<◌, ◌≤◌, List, [], ◌∷◌, length, get_or, set, Bool, true, false, not, ◌&&◌, cond, leb, ltb, eqb, bit_and, bit_xor, refl, sym, ap, ◌∙◌, arith}
+use Rattle.std.proofs.Common.{◌≡◌, ◌≢◌, ◌⊎◌, inl, inr, ℕ, ◌+◌, ◌-◌, ◌*◌, ◌/◌, ◌%◌, ◌^◌, ◌<◌, ◌≤◌, List, [], ◌∷◌, length, get_or, set, Bool, true, false, not, ◌&&◌, cond, leb, ltb, eqb, bit_and, bit_xor, refl, ap, ◌∙◌, arith}
 use Rattle.std.proofs.lemmas.{Bool.{cases_eq, cases_lt, Decides.nat_tests}, Simd.length-zip2}
 use lib.Lanes.{zip2}
 use Rattle.qr_matrix.specs.{Grid.is_same, Steps.{IsPair, lane, word_of}, BitRow.{has, has_bit}}
@@ -16,7 +16,7 @@ pub chosen-pair : (words : List ℕ) (m d e : ℕ) → IsPair words → d < 2 ^ 
 chosen-pair words m d e p k l =
     let x = zip2 bit_xor words (d ∷ e ∷ []) in
     let q : IsPair x = xor-pair words (d ∷ e ∷ []) p (refl, k, l) in
-    xor-pair words (zip2 bit_and x (m ∷ m ∷ [])) p (zip-pair bit_and x (m ∷ m ∷ []) q.0 refl (λ s. and-small (word_of x s) (word_of (m ∷ m ∷ []) s) (word-small x s q)))
+    search (arith, xor-pair, zip-pair, and-small, word-small)
 
 -- bit a, inverted where it differs from b and t holds
 chosen : (a b t : Bool) → not (is_same a (not (is_same a b) && t)) ≡ cond t b a
@@ -25,15 +25,7 @@ chosen a b t = grind (arith, nat_tests)
 -- bit i is that of d, or e in the second word, if bit i of the mask is set, and stays as it was otherwise
 pub chosen-bits : (words : List ℕ) (m d e : ℕ) → IsPair words → (s : Bool) (i : ℕ)
     → has_bit (word_of (both-chosen words m d e) s) i ≡ cond (has_bit m i) (has_bit (cond s e d) i) (has_bit (word_of words s) i)
-chosen-bits words m d e p s i =
-    let x = zip2 bit_xor words (d ∷ e ∷ []) in
-    let lx : length x ≡ 2 = length-zip2 bit_xor words (d ∷ e ∷ []) p.0 ∙ p.0 in
-    let y = zip2 bit_and x (m ∷ m ∷ []) in
-    let ly : length y ≡ 2 = length-zip2 bit_and x (m ∷ m ∷ []) lx ∙ lx in
-    let n = word_of words s in
-    let w : word_of (zip2 bit_xor words y) s ≡ bit_xor n (bit_and (bit_xor n (cond s e d)) m) =
-    zip-word bit_xor words y s p.0 ly ∙ ap (bit_xor n) (zip-word bit_and x (m ∷ m ∷ []) s lx refl ∙ (λ k. bit_and ((zip-word bit_xor words (d ∷ e ∷ []) s p.0 refl ∙ ap (bit_xor n) (either s d e)) k) (both s k))) in
-    ap (λ z. has_bit z i) w ∙ (has_bit-xor n (bit_and (bit_xor n (cond s e d)) m) i ∙ (ap (λ z. not (is_same (has_bit n i) z)) (has_bit-and (bit_xor n (cond s e d)) m i ∙ ap (λ z. z && has_bit m i) (has_bit-xor n (cond s e d) i)) ∙ chosen (has_bit n i) (has_bit (cond s e d) i) (has_bit m i)))
+chosen-bits words m d e p s i = search (arith, length-zip2, zip-word, has_bit-xor, has_bit-and, chosen)
   where
     either : (s : Bool) (d e : ℕ) → word_of (d ∷ e ∷ []) s ≡ cond s e d
     either false d e = refl
@@ -49,8 +41,7 @@ pub chosen-step : (ws : List ℕ) (k y : ℕ) (t x : ℕ → Bool) → length ws
     → (i : ℕ) → has (set ws k y) i ≡ cond (eqb (i / 64) k && t (i % 64)) (x (i % 64)) (has ws i)
 chosen-step ws k y t x l w m n h i = word-step ws k y (λ i. cond (eqb (i / 64) k && t (i % 64)) (x (i % 64)) (has ws i)) l w m n
     (λ j o.
-    let q : (64 * k + j) / 64 ≡ k = omega arith in let r : (64 * k + j) % 64 ≡ j = omega arith in
-    h j ∙ (ap (cond (t j) (x j)) (sym (has-place ws (64 * k + j) w (omega arith) ∙ (λ a. has_bit (get_or ws (q a) 0) (r a)))) ∙ here (64 * k + j) j q r))
+    let q : (64 * k + j) / 64 ≡ k = omega arith in search (arith, has-place))
     (λ i o. there i (t (i % 64)) (x (i % 64)) (has ws i) o) i
   where
     here : (i j : ℕ) → i / 64 ≡ k → i % 64 ≡ j → cond (t j) (x j) (has ws i) ≡ cond (eqb (i / 64) k && t (i % 64)) (x (i % 64)) (has ws i)
@@ -59,28 +50,28 @@ chosen-step ws k y t x l w m n h i = word-step ws k y (λ i. cond (eqb (i / 64) 
     there : (i : ℕ) (t x y : Bool) → (i / 64 ≡ k → ⊥) → y ≡ cond (eqb (i / 64) k && t) x y
     there i t x y o = let e : eqb (i / 64) k ≡ false = grind (arith, nat_tests) in rw e refl
 
--- if the bits t of one word of each row are chosen, no other bit of the rows changes
-module _ (a b d w : List ℕ) (s : Bool) (k : ℕ) (t x : ℕ → Bool) (pa : IsPair a) (pb : IsPair b) (pd : IsPair d) (pw : IsPair w) where
+-- if the bits of a mask m are chosen in one word of each row, no other bit of the rows changes
+module _ (a b d : List ℕ) (s : Bool) (k m x y : ℕ) (pa : IsPair a) (pb : IsPair b) (pd : IsPair d) (lx : x < 2 ^ 64) (ly : y < 2 ^ 64) where
   abbrev words : List ℕ
   words = word_of a s ∷ word_of b s ∷ word_of d s ∷ []
 
   in-words : (j : ℕ) → get_or words j 0 < 2 ^ 64
   in-words = words-small words (refl, word-small a s pa, word-small b s pb, word-small d s pd)
 
-  pub chosen-low : k ≡ 0 → ((j : ℕ) → has_bit (word_of w s) j ≡ cond (t j) (x j) (has_bit (word_of a s) j))
-      → (i : ℕ) → has (lane (w ∷ b ∷ d ∷ []) s) i ≡ cond (eqb (i / 64) k && t (i % 64)) (x (i % 64)) (has (lane (a ∷ b ∷ d ∷ []) s) i)
-  unfolding lane
-  chosen-low e h = rw e (chosen-step words 0 (word_of w s) t x refl in-words (word-small w s pw) (omega arith) h)
+  abbrev are-chosen : List (List ℕ) → Type 0
+  are-chosen rows = (i : ℕ) → has (lane rows s) i ≡ cond (eqb (i / 64) k && has_bit m (i % 64)) (has_bit (cond s y x) (i % 64)) (has (lane (a ∷ b ∷ d ∷ []) s) i)
 
-  pub chosen-middle : k ≡ 1 → ((j : ℕ) → has_bit (word_of w s) j ≡ cond (t j) (x j) (has_bit (word_of b s) j))
-      → (i : ℕ) → has (lane (a ∷ w ∷ d ∷ []) s) i ≡ cond (eqb (i / 64) k && t (i % 64)) (x (i % 64)) (has (lane (a ∷ b ∷ d ∷ []) s) i)
+  pub chosen-low : k ≡ 0 → are-chosen (both-chosen a m x y ∷ b ∷ d ∷ [])
   unfolding lane
-  chosen-middle e h = rw e (chosen-step words 1 (word_of w s) t x refl in-words (word-small w s pw) (omega arith) h)
+  chosen-low e = rw e (chosen-step words 0 (word_of (both-chosen a m x y) s) (has_bit m) (has_bit (cond s y x)) refl in-words (word-small (both-chosen a m x y) s (chosen-pair a m x y pa lx ly)) (omega arith) (chosen-bits a m x y pa s))
 
-  pub chosen-high : k ≡ 2 → ((j : ℕ) → has_bit (word_of w s) j ≡ cond (t j) (x j) (has_bit (word_of d s) j))
-      → (i : ℕ) → has (lane (a ∷ b ∷ w ∷ []) s) i ≡ cond (eqb (i / 64) k && t (i % 64)) (x (i % 64)) (has (lane (a ∷ b ∷ d ∷ []) s) i)
+  pub chosen-middle : k ≡ 1 → are-chosen (a ∷ both-chosen b m x y ∷ d ∷ [])
   unfolding lane
-  chosen-high e h = rw e (chosen-step words 2 (word_of w s) t x refl in-words (word-small w s pw) (omega arith) h)
+  chosen-middle e = rw e (chosen-step words 1 (word_of (both-chosen b m x y) s) (has_bit m) (has_bit (cond s y x)) refl in-words (word-small (both-chosen b m x y) s (chosen-pair b m x y pb lx ly)) (omega arith) (chosen-bits b m x y pb s))
+
+  pub chosen-high : k ≡ 2 → are-chosen (a ∷ b ∷ both-chosen d m x y ∷ [])
+  unfolding lane
+  chosen-high e = rw e (chosen-step words 2 (word_of (both-chosen d m x y) s) (has_bit m) (has_bit (cond s y x)) refl in-words (word-small (both-chosen d m x y) s (chosen-pair d m x y pd lx ly)) (omega arith) (chosen-bits d m x y pd s))
 
 -- ---- neighbouring bits of a row, in one word or in two
 
@@ -113,16 +104,12 @@ in-lower index count n i q at j m y ei ej l em = elim (cases_lt j at) [
 -- a bit of the next word
 in-upper : (index count n i q at j rest m : ℕ) (y : Bool) → index ≡ 64 * q + at → i ≡ 64 * (q + 1) + j → at + rest ≡ 64 → m ≡ 2 ^ count - 1
     → cond (has_bit (m / 2 ^ rest) j) (has_bit (n / 2 ^ rest) j) y ≡ among-bits index count n i y
-in-upper index count n i q at j rest m y ei ej er em =
-    let u : leb index i ≡ true = grind (arith, nat_tests) in
-    let v : ltb (j + rest) count ≡ ltb i (index + count) = grind (arith, nat_tests) in
-    let w : j + rest ≡ i - index = omega arith in
-    rw (has_bit-shr m rest j, has_bit-shr n rest j, em, has_bit-ones count (j + rest), u, v, w) refl
+in-upper index count n i q at j rest m y ei ej er em = search (arith, has_bit-shr, has_bit-ones)
 
 -- all other bits are kept
 not-among : (index count n i : ℕ) (y : Bool) → i < index ⊎ index + count ≤ i → among-bits index count n i y ≡ y
-not-among index count n i y (inl l) = let u : leb index i ≡ false = grind (arith, nat_tests) in rw u refl
-not-among index count n i y (inr l) = let u : (leb index i && ltb i (index + count)) ≡ false = grind (arith, nat_tests) in rw u refl
+not-among index count n i y (inl l) = search arith
+not-among index count n i y (inr l) = search arith
 
 -- a bit of one of two numbers that are shifted in the same way
 of-either : (f : ℕ → ℕ) (s : Bool) (x y j : ℕ) → has_bit (cond s (f x) (f y)) j ≡ has_bit (f (cond s x y)) j
@@ -143,7 +130,7 @@ module _ (index count m x y i : ℕ) (s old new : Bool) (em : m ≡ 2 ^ count - 
       → new ≡ among-bits index count (cond s x y) i old
   put-in-one l e = e ∙ (ap (λ z. cond (eqb (i / 64) (index / 64) && has_bit (up (index % 64) m) (i % 64)) z old) (of-either (up (index % 64)) s x y (i % 64)) ∙ elim (cases_eq (i / 64) (index / 64)) [
     | inl q ↦ (let t : eqb (i / 64) (index / 64) ≡ true = grind (arith, nat_tests) in rw t (in-lower index count (cond s x y) i (index / 64) (index % 64) (i % 64) m old (omega arith) (omega arith) (omega arith) em))
-    | inr o ↦ (let t : eqb (i / 64) (index / 64) ≡ false = grind (arith, nat_tests) in rw t (sym (not-among index count (cond s x y) i old (outside o))))
+    | inr o ↦ search (arith, not-among)
   ])
     where
       outside : i / 64 ≢ index / 64 → (i < index) ⊎ (index + count ≤ i)
@@ -165,7 +152,7 @@ module _ (index count m x y i : ℕ) (s old new : Bool) (em : m ≡ 2 ^ count - 
             let t : eqb (i / 64) (index / 64 + 1) ≡ false = grind (arith, nat_tests) in
             rw t (elim (cases_eq (i / 64) (index / 64)) [
               | inl q ↦ (let u : eqb (i / 64) (index / 64) ≡ true = grind (arith, nat_tests) in rw u (in-lower index count n i (index / 64) (index % 64) (i % 64) m old (omega arith) (omega arith) (omega arith) em))
-              | inr p ↦ (let u : eqb (i / 64) (index / 64) ≡ false = grind (arith, nat_tests) in rw u (sym (not-among index count n i old (outside o p))))
+              | inr p ↦ search (arith, not-among)
             ])
       ])
     where

@@ -10,8 +10,8 @@ use Rattle.std.proofs.lemmas.Bool.Decides.{nat_tests}
 use Rattle.std.proofs.lemmas.Simd.{length-zip2, get_or-zip2}
 use lib.Lanes.{zip2}
 use Rattle.qr_matrix.proofs.lemmas.runs.ColumnLemmas.{has-nothing}
-use Rattle.qr_matrix.specs.{Grid.{Grid, GridPair, is_same, one_of, square}, Steps.{IsPair, lane, lanes, set_count, size_of, word_of}, BitRow.{has, has_bit, bit_row_number, dark_in}}
-use Rattle.qr_matrix.proofs.lemmas.bit_row.{SumLemmas.count_below-same, WordLemmas.{three-and, three-or, three-xor, three-down, three-up}, PlaceLemmas.{has_bit-low, has_bit-middle, has_bit-high, and-small, has_bit-and, has_bit-or, has_bit-xor, has_bit-shr, has_bit-up}}
+use Rattle.qr_matrix.specs.{Grid.{Grid, GridPair, is_same, one_of, square}, Steps.{IsPair, lane, lanes, word_of}, BitRow.{has, has_bit, bit_row_number, dark_in}}
+use Rattle.qr_matrix.proofs.lemmas.bit_row.{WordLemmas.{three-and, three-or, three-xor, three-down, three-up}, PlaceLemmas.{has_bit-low, has_bit-middle, has_bit-high, and-small, has_bit-and, has_bit-or, has_bit-xor, has_bit-shr, has_bit-up}}
 
 -- ---- one operation on two words
 
@@ -30,18 +30,16 @@ pub zip-pair : (f : ℕ → ℕ → ℕ) (a b : List ℕ) → length a ≡ 2 →
 zip-pair f a b l m h =
     let first = zip-word f a b false l m in
     let second = zip-word f a b true l m in
-    let p = h false in
-    let q = h true in
-    (length-zip2 f a b (l ∙ sym m) ∙ l, omega arith, omega arith)
+    search (arith, length-zip2)
 
 pub and-pair : (a b : List ℕ) → IsPair a → IsPair b → IsPair (zip2 bit_and a b)
-and-pair a b p q = zip-pair bit_and a b p.0 q.0 (λ s. and-small (word_of a s) (word_of b s) (word-small a s p))
+and-pair a b p q = search (arith, zip-pair, and-small, word-small)
 
 pub or-pair : (a b : List ℕ) → IsPair a → IsPair b → IsPair (zip2 bit_or a b)
-or-pair a b p q = zip-pair bit_or a b p.0 q.0 (λ s. or_lt 64 _ _ (word-small a s p) (word-small b s q))
+or-pair a b p q = search (arith, zip-pair, or_lt, word-small)
 
 pub xor-pair : (a b : List ℕ) → IsPair a → IsPair b → IsPair (zip2 bit_xor a b)
-xor-pair a b p q = zip-pair bit_xor a b p.0 q.0 (λ s. xor_lt 64 _ _ (word-small a s p) (word-small b s q))
+xor-pair a b p q = search (arith, zip-pair, xor_lt, word-small)
 
 -- ---- operations on two rows
 
@@ -75,10 +73,7 @@ shifted-word f a k true p = zip-word f a (k ∷ k ∷ []) true p.0 refl
 
 -- two words that are shifted down stay words
 down-pair : (a : List ℕ) (k : ℕ) → IsPair a → IsPair (zip2 down a (k ∷ k ∷ []))
-down-pair a k p = zip-pair down a (k ∷ k ∷ []) p.0 refl (elim [
-  | false ↦ (let l = p.1 in small (get_or a 0 0) l)
-  | true ↦ (let l = p.2 in small (get_or a 1 0) l)
-])
+down-pair a k p = zip-pair down a (k ∷ k ∷ []) p.0 refl (search arith)
   where
     small : (x : ℕ) → x < 2 ^ 64 → x / 2 ^ k < 2 ^ 64
     small x l = omega (arith, div-le_self x (2 ^ k))
@@ -92,9 +87,7 @@ both-pair f g a b k j p q = or-pair (zip2 f a (k ∷ k ∷ [])) (zip2 g b (j ∷
 
 both-word : (f g : ℕ → ℕ → ℕ) (a b : List ℕ) (k j : ℕ) (s : Bool) → IsPair a → IsPair b → IsPair (zip2 f a (k ∷ k ∷ [])) → IsPair (zip2 g b (j ∷ j ∷ []))
     → word_of (zip2 bit_or (zip2 f a (k ∷ k ∷ [])) (zip2 g b (j ∷ j ∷ []))) s ≡ bit_or (f (word_of a s) k) (g (word_of b s) j)
-both-word f g a b k j s pa pb p q =
-    zip-word bit_or (zip2 f a (k ∷ k ∷ [])) (zip2 g b (j ∷ j ∷ [])) s p.0 q.0
-    ∙ (λ i. bit_or (shifted-word f a k s pa i) (shifted-word g b j s pb i))
+both-word f g a b k j s pa pb p q = search (arith, zip-word, shifted-word)
 
 pub into-down : (a b : List ℕ) (k j : ℕ) → IsPair a → IsPair b → IsPair (zip2 bit_or (zip2 down a (k ∷ k ∷ [])) (zip2 up b (j ∷ j ∷ [])))
 into-down a b k j p q = both-pair down up a b k j (down-pair a k p) (up-pair b j q)
@@ -119,14 +112,9 @@ module _ (a b d : List ℕ) (s : Bool) (pa : IsPair a) (pb : IsPair b) (pd : IsP
       → has (lane (zip2 up a (1 ∷ 1 ∷ []) ∷ zip2 bit_or (zip2 up b (1 ∷ 1 ∷ [])) (zip2 down a (63 ∷ 63 ∷ [])) ∷ zip2 bit_or (zip2 up d (1 ∷ 1 ∷ [])) (zip2 down b (63 ∷ 63 ∷ [])) ∷ []) s) c
       ≡ (ltb 0 c && has (lane (a ∷ b ∷ d ∷ []) s) (c - 1))
   unfolding has bit_row_number lane
-  lane-up c l = cc (shifted-word up a 1 s pa, both-word up down b a 1 63 s pb pa (up-pair b 1 pb) (down-pair a 63 pa), both-word up down d b 1 63 s pd pb (up-pair d 1 pd) (down-pair b 63 pb), three-up (word_of a s) (word_of b s) (word_of d s) (word-small a s pa) (word-small b s pb) (word-small d s pd), has_bit-up (bit_row_number (lane (a ∷ b ∷ d ∷ []) s)) c l)
+  lane-up c l = search (arith, shifted-word, both-word, up-pair, down-pair, three-up, word-small, has_bit-up)
 
 -- ---- counts
-
--- a bit row has as many bits as a test that its bits are passes
-pub count-same : (words : List ℕ) (bit : ℕ → Bool) → ((c : ℕ) → has words c ≡ bit c) → size_of words ≡ set_count bit
-unfolding set_count
-count-same words bit h = count_below-same 192 (has words) bit (λ c _. h c)
 
 -- ---- one bit of each word
 
@@ -144,11 +132,11 @@ module _ (a b d : List ℕ) (s : Bool) (pa : IsPair a) (pb : IsPair b) where
 
   middle-bit : (i : ℕ) → 64 ≤ i → i < 128 → has (lane (a ∷ b ∷ d ∷ []) s) i ≡ has_bit (word_of b s) (i - 64)
   unfolding has bit_row_number lane
-  middle-bit i k l = has_bit-middle (word_of a s) (word_of b s) (word_of d s) i (word-small a s pa) k l
+  middle-bit i k l = search (arith, has_bit-middle, word-small)
 
   high-bit : (i : ℕ) → 128 ≤ i → has (lane (a ∷ b ∷ d ∷ []) s) i ≡ has_bit (word_of d s) (i - 128)
   unfolding has bit_row_number lane
-  high-bit i k = has_bit-high (word_of a s) (word_of b s) (word_of d s) i (word-small a s pa) (word-small b s pb) k
+  high-bit i k = search (arith, has_bit-high, word-small)
 
 -- a word has no bit from 64 on
 beyond : (y : ℕ) → y < 2 ^ 64 → (j : ℕ) → 64 ≤ j → has_bit y j ≡ false
@@ -159,7 +147,7 @@ beyond y k j n = ap (λ z. eqb z 1) (bit_at_above y 64 j k n)
 
 -- a number is 0 if a bitwise disjunction with it is
 pub or-zero : (x y : ℕ) → bit_or x y ≡ 0 → (x ≡ 0) × (y ≡ 0)
-or-zero x y e = let l = le_or_l x y in let m = le_or_r x y in (omega arith, omega arith)
+or-zero x y e = search (arith, le_or_l, le_or_r)
 
 -- if the disjunction of all words of both rows is 0, no bit is set in either row
 pub no-bits : (a b d : List ℕ) → IsPair a → IsPair b → IsPair d → eqb (bit_or (get_or (zip2 bit_or (zip2 bit_or a b) d) 0 0) (get_or (zip2 bit_or (zip2 bit_or a b) d) 1 0)) 0 ≡ true
@@ -172,7 +160,7 @@ no-bits a b d pa pb pd e s c =
     let ab = or-pair a b pa pb in
     let q = or-zero (word_of (zip2 bit_or a b) s) (word_of d s) (sym (zip-word bit_or (zip2 bit_or a b) d s ab.0 pd.0) ∙ w) in
     let r = or-zero (word_of a s) (word_of b s) (sym (zip-word bit_or a b s pa.0 pb.0) ∙ q.0) in
-    (λ i. has_bit ((q.1 i * 2 ^ 64 + r.1 i) * 2 ^ 64 + r.0 i) c) ∙ has-nothing c
+    cc (has-nothing c)
   where
     each : (s : Bool) → (get_or (zip2 bit_or (zip2 bit_or a b) d) 0 0 ≡ 0) × (get_or (zip2 bit_or (zip2 bit_or a b) d) 1 0 ≡ 0) → word_of (zip2 bit_or (zip2 bit_or a b) d) s ≡ 0
     each false p = p.0
@@ -185,7 +173,7 @@ lanes-long rows s = length-map rows (λ pairs. lane pairs s)
 
 -- the row of a square is read from the rows of both
 pub lane-read : (rows : List (List (List ℕ))) (i : ℕ) (pairs : List (List ℕ)) (s : Bool) → i < length rows → pairs ≡ get_or rows i pairs → lane pairs s ≡ get_or (lanes rows s) i (lane pairs s)
-lane-read rows i pairs s l e = ap (λ z. lane z s) e ∙ sym (get_or-map (λ z. lane z s) rows i pairs (lane pairs s) l)
+lane-read rows i pairs s l e = search (arith, get_or-map)
 
 pub lanes-set : (rows : List (List (List ℕ))) (i : ℕ) (pairs : List (List ℕ)) (s : Bool) → lanes (set rows i pairs) s ≡ set (lanes rows s) i (lane pairs s)
 lanes-set rows i pairs s = map-set (λ z. lane z s) rows i pairs
@@ -208,7 +196,7 @@ dark-lanes n rows pairs s e h r c = elim (cases_lt r n) [
       let k : r < length rows = omega (arith, ap length e, length-replicate n pairs) in
       ap (λ z. has z c) (get_or-map (λ z. lane z s) rows r pairs [] k ∙ ap (λ z. lane z s) (ap (λ z. get_or z r pairs) e ∙ get_or-replicate n r pairs pairs l)) ∙ h c
       )
-  | inr l ↦ dark-under (lanes rows s) r c (omega (arith, ap length e, length-replicate n pairs, lanes-long rows s))
+  | inr l ↦ search (arith, dark-under, length-replicate, lanes-long)
 ]
 
 -- what two squares are seen as
@@ -221,10 +209,10 @@ one-view side rows true = refl
 -- the words a, b and d of a row, and what is put over the first one, two or three
 module _ (a b d x y z : List ℕ) (s : Bool) (pa : IsPair a) (pb : IsPair b) (px : IsPair x) (py : IsPair y) (c : ℕ) where
   first-of : (p q : Bool) (n : ℕ) → c < n → p ≡ cond (ltb c n) p q
-  first-of p q n l = let t : ltb c n ≡ true = grind (arith, nat_tests) in sym (ap (λ z. cond z p q) t)
+  first-of p q n l = search arith
 
   second-of : (p q : Bool) (n : ℕ) → n ≤ c → q ≡ cond (ltb c n) p q
-  second-of p q n l = let t : ltb c n ≡ false = grind (arith, nat_tests) in sym (ap (λ z. cond z p q) t)
+  second-of p q n l = search arith
 
   abbrev new : Bool
   new = has (lane (x ∷ y ∷ z ∷ []) s) c
@@ -234,19 +222,13 @@ module _ (a b d x y z : List ℕ) (s : Bool) (pa : IsPair a) (pb : IsPair b) (px
 
   -- with the first word of the new row, the bits below 64 are new
   pub over-one : has (lane (x ∷ b ∷ d ∷ []) s) c ≡ cond (ltb c 64) (has (lane (x ∷ y ∷ z ∷ []) s) c) (has (lane (a ∷ b ∷ d ∷ []) s) c)
-  over-one = elim (cases_lt c 64) [
-    | inl k ↦ low-bit x b d s px pb c k ∙ (sym (low-bit x y z s px py c k) ∙ first-of new old 64 k)
-    | inr k ↦ elim (cases_lt c 128) [
-      | inl n ↦ middle-bit x b d s px pb c k n ∙ (sym (middle-bit a b d s pa pb c k n) ∙ second-of new old 64 k)
-      | inr n ↦ high-bit x b d s px pb c n ∙ (sym (high-bit a b d s pa pb c n) ∙ second-of new old 64 k)
-    ]
-  ]
+  over-one = search (arith, low-bit, first-of, middle-bit, second-of, high-bit)
 
   -- with the first two words of the new row, the bits below 128 are new
   pub over-two : has (lane (x ∷ y ∷ d ∷ []) s) c ≡ cond (ltb c 128) (has (lane (x ∷ y ∷ z ∷ []) s) c) (has (lane (a ∷ b ∷ d ∷ []) s) c)
   over-two = elim (cases_lt c 128) [
     | inl n ↦ same (cases_lt c 64) n ∙ first-of new old 128 n
-    | inr n ↦ high-bit x y d s px py c n ∙ (sym (high-bit a b d s pa pb c n) ∙ second-of new old 128 n)
+    | inr n ↦ search (arith, high-bit, second-of)
   ]
     where
       same : (c < 64) ⊎ (64 ≤ c) → c < 128 → has (lane (x ∷ y ∷ d ∷ []) s) c ≡ has (lane (x ∷ y ∷ z ∷ []) s) c
@@ -255,8 +237,4 @@ module _ (a b d x y z : List ℕ) (s : Bool) (pa : IsPair a) (pb : IsPair b) (px
 
   -- with all three words of the new row, the bits below 192 are new
   pub over-three : IsPair d → IsPair z → has (lane (x ∷ y ∷ z ∷ []) s) c ≡ cond (ltb c 192) (has (lane (x ∷ y ∷ z ∷ []) s) c) (has (lane (a ∷ b ∷ d ∷ []) s) c)
-  over-three pd pz = elim (cases_lt c 192) [
-    | inl n ↦ first-of new old 192 n
-    | inr n ↦ (high-bit x y z s px py c (omega arith) ∙ beyond (word_of z s) (word-small z s pz) (c - 128) (omega arith))
-        ∙ sym (high-bit a b d s pa pb c (omega arith) ∙ beyond (word_of d s) (word-small d s pd) (c - 128) (omega arith)) ∙ second-of new old 192 n
-  ]
+  over-three pd pz = search (arith, first-of, high-bit, beyond, word-small, second-of)

@@ -1,7 +1,7 @@
 -- Rows with one pattern, which are twelve rows apart.
 use Rattle.std.proofs.Common.{◌≡◌, ◌≢◌, ℕ, ◌+◌, ◌%◌, ◌<◌, ◌≤◌, Bool, true, false, cond, eqb, ltb, ◌&&◌, inl, inr, sym, ap, ◌∙◌, arith}
 use Rattle.std.proofs.lemmas.{Bool.{cases_eq, cases_lt}, Bool.Decides.nat_tests}
-use Rattle.qr_matrix.proofs.lemmas.bit_row.BoolLemmas.{and-false, false-and}
+use Rattle.qr_matrix.proofs.lemmas.bit_row.BoolLemmas.{false-and}
 
 -- row r is one of the rows with the pattern of row `first`, before row n
 abbrev pub is-passed : ℕ → ℕ → ℕ → Bool
@@ -18,13 +18,6 @@ below x y l = grind (arith, nat_tests)
 
 beyond : (x y : ℕ) → y ≤ x → ltb x y ≡ false
 beyond x y l = grind (arith, nat_tests)
-
--- none of them is before the first
-pub none-passed : (first r : ℕ) → first < 12 → is-passed first first r ≡ false
-none-passed first r l = elim (cases_lt r first) [
-  | inl k ↦ false-and (eqb (r % 12) first) _ (apart (r % 12) first (λ e. omega arith))
-  | inr k ↦ and-false (eqb (r % 12) first) _ (beyond r first k)
-]
 
 -- the next one is twelve rows below
 kept-passed : (first row r : ℕ) → row % 12 ≡ first → r ≢ row → is-passed first row r ≡ is-passed first (row + 12) r

@@ -1,5 +1,5 @@
 -- The bits of rows that are added column by column.
-use Rattle.std.proofs.Common.{◌≡◌, ℕ, zero, suc, ◌+◌, ◌*◌, ◌≤◌, Bool, false, not, ◌&&◌, cond, refl, arith}
+use Rattle.std.proofs.Common.{◌≡◌, ℕ, zero, suc, ◌+◌, ◌*◌, ◌≤◌, ltb, Bool, false, not, ◌&&◌, cond, refl, arith}
 use Rattle.std.proofs.lemmas.Bool.Decides.{nat_tests}
 use Rattle.qr_matrix.specs.{Grid.is_same, Steps.set_count, Sums.count_below}
 use Rattle.qr_matrix.proofs.lemmas.bit_row.SumLemmas.{count_below-cut}
@@ -30,7 +30,11 @@ set_count-most bit = most 192
     most zero = omega arith
     most (suc n) = let e = one (bit n) in let rest = most n in omega arith
 
+-- no column is left of column 0
+pub never : (c : ℕ) → ltb c 0 ≡ false
+never c = grind (arith, nat_tests)
+
 -- a row without bits has none to count
 pub none-of : (bit : ℕ → Bool) → ((c : ℕ) → bit c ≡ false) → set_count bit ≡ 0
 unfolding set_count
-none-of bit h = count_below-cut 192 0 bit (λ _. false) (omega arith) (λ c _. h c) (λ _ _. refl)
+none-of bit h = search (arith, count_below-cut)

@@ -38,7 +38,7 @@ owed-next s line n m h = search (arith, nat_tests, owed)
 point-step : (s : ℕ) (line : ℕ → Bool) (c : ℕ) → cond (begins_five s line c) 1 0 + 2 * cond (begins_long_run s line c) 1 0 + owed (one_before s line c) (two_before s line c)
     ≡ cond (is_charged s line c) 1 0 + owed (begins_five s line c) (one_before s line c)
 unfolding is_charged one_before two_before
-point-step s line c = rw (long-is s line c) (step (begins_five s line c) (one_before s line c) (two_before s line c) (gap-is s line c))
+point-step s line c = rw (long-is s line c) (search (arith, step, gap-is))
 
 -- after the first n modules, the points of the runs and the points of the modules differ by the points that are owed
 points-sum : (s : ℕ) (line : ℕ → Bool) (n : ℕ) → sum_below n (λ c. cond (begins_five s line c) 1 0 + 2 * cond (begins_long_run s line c) 1 0) ≡ count_below n (is_charged s line) + owed (one_before s line n) (two_before s line n)

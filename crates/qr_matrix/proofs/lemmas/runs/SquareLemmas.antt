@@ -1,6 +1,6 @@
 -- Bit operations on two rows compute the test of a square of two by two modules.
-use Rattle.std.proofs.Common.{◌≡◌, ℕ, ◌+◌, ◌<◌, ◌≤◌, ltb, Bool, true, false, ◌&&◌, inl, inr, refl, ap, ◌∙◌, arith}
-use Rattle.std.proofs.lemmas.Bool.{cases_lt, Decides.nat_tests}
+use Rattle.std.proofs.Common.{◌≡◌, ℕ, ◌+◌, ◌<◌, ◌≤◌, ltb, Bool, true, false, ◌&&◌, arith}
+use Rattle.std.proofs.lemmas.Bool.{Decides.nat_tests}
 use Rattle.qr_matrix.specs.{Steps.set_count, Grid.is_same, Sums.count_below, Penalty.is_square_of_two}
 use Rattle.qr_matrix.{specs.Runs.joins, proofs.lemmas.{runs.RowLemmas.size-is, bit_row.BoolLemmas.and-false}}
 
@@ -13,28 +13,15 @@ square-end : (t a b d : Bool) (u w x y z : Bool) → w ≡ false → (t && (u &&
 square-end t a b d u w x y z e = grind (arith, nat_tests)
 
 -- a bit that is set where joins in row r, in the next row and in column c begin is set where a square of two begins
-pub square-bit : (s : ℕ) (dark : ℕ → ℕ → Bool) (r c : ℕ) (x a n d : Bool) → x ≡ ((a && n) && d) → a ≡ joins s (dark r) c → (r + 1 < s → n ≡ joins s (dark (r + 1)) c) → d ≡ (ltb c s && joins s (λ i. dark i c) r) → x ≡ is_square_of_two s dark r c
+pub square-bit : (s : ℕ) (dark : ℕ → ℕ → Bool) (r c : ℕ) (x y a n d : Bool) → y ≡ (a && n) → x ≡ (y && d) → a ≡ joins s (dark r) c → (r + 1 < s → n ≡ joins s (dark (r + 1)) c) → d ≡ (ltb c s && joins s (λ i. dark i c) r) → x ≡ is_square_of_two s dark r c
 unfolding is_square_of_two joins
-square-bit s dark r c x a n d ex ea en ed = elim (cases_lt (r + 1) s) [
-  | inl l ↦
-      let t : ltb (c + 1) s ≡ true → ltb c s ≡ true = λ k. grind (arith, nat_tests) in
-      let f = square-bools (ltb (c + 1) s) (ltb c s) (ltb (r + 1) s) (dark r c) (dark r (c + 1)) (dark (r + 1) c) (dark (r + 1) (c + 1)) t in
-      let e = en l in
-      cc
-  | inr l ↦
-      let w : ltb (r + 1) s ≡ false = grind (arith, nat_tests) in
-      let f = square-end (a && n) (is_same (dark r c) (dark (r + 1) c)) (ltb (c + 1) s) n (ltb c s) (ltb (r + 1) s) (is_same (dark r c) (dark r (c + 1))) (is_same (dark r c) (dark (r + 1) c)) (is_same (dark r c) (dark (r + 1) (c + 1))) w in
-      cc
-]
+square-bit s dark r c x y a n d ey ex ea en ed = search (arith, nat_tests, square-bools, square-end)
 
 -- no square of two by two modules begins in a column from the side on
 square-past : (s : ℕ) (dark : ℕ → ℕ → Bool) (r c : ℕ) → s ≤ c → is_square_of_two s dark r c ≡ false
 unfolding is_square_of_two
-square-past s dark r c h =
-    let w : ltb (c + 1) s ≡ false = grind (arith, nat_tests) in
-    ap (λ z. ltb (r + 1) s && z && is_same (dark r c) (dark r (c + 1)) && is_same (dark r c) (dark (r + 1) c) && is_same (dark r c) (dark (r + 1) (c + 1))) w
-    ∙ ap (λ z. z && is_same (dark r c) (dark r (c + 1)) && is_same (dark r c) (dark (r + 1) c) && is_same (dark r c) (dark (r + 1) (c + 1))) (and-false (ltb (r + 1) s) false refl)
+square-past s dark r c h = search (arith, and-false)
 
 -- a bit row whose bits are the places of row r where squares of two begin has as many set bits as squares begin there
 pub squares-row : (s : ℕ) (dark : ℕ → ℕ → Bool) (r : ℕ) (bit : ℕ → Bool) → s ≤ 192 → ((c : ℕ) → bit c ≡ is_square_of_two s dark r c) → set_count bit ≡ count_below s (is_square_of_two s dark r)
-squares-row s dark r bit l h = size-is s bit (is_square_of_two s dark r) l (λ c k. h c) (λ c k. square-past s dark r c k)
+squares-row s dark r bit l h = search (arith, size-is, square-past)

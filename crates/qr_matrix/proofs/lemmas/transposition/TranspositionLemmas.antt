@@ -5,9 +5,8 @@ use Rattle.std.proofs.{Math.ListN.length-set, lemmas.Nat.Bits.bit_at_cat_low, le
 use Rattle.std.proofs.lemmas.List.{get_or_past, get_or-replicate, length-replicate, get_or-set_same, get_or-set_other}
 use Rattle.std.proofs.lemmas.Bool.{cases_lt, cases_eq, Decides.nat_tests}
 use Rattle.qr_matrix.specs.{BitRow.{has, has_bit}, Sums.all_below, Steps.{bit_in, exchanged}}
-use Rattle.qr_matrix.specs.Grid.{is_same, Grid, square, colour, with_row, IsSquare}
+use Rattle.qr_matrix.specs.Grid.{is_same, Grid, square, colour}
 use Rattle.qr_matrix.proofs.lemmas.bit_row.PlaceLemmas.{has-place, has_bit-and, has_bit-xor, has_bit-shr, word-step, has_bit-shl-low, has_bit-shl-high}
-use Rattle.qr_matrix.proofs.lemmas.matrix.GridLemmas.{square-same, colour-square}
 use Rattle.qr_matrix.proofs.lemmas.bit_row.RepeatLemmas.{below-at, same-same}
 
 -- f and g agree in the first n rows and 64 columns
@@ -132,8 +131,6 @@ module _ (s first row : ℕ) (w b : List ℕ) (u v : ℕ) (next : AreNext s firs
         | inr q ↦ search (arith, two-other)
       ]
 
--- ---- one stage
-
 -- ---- all stages
 
 -- f after its parts of s by s bits were transposed as wholes, the bits in each part as they were
@@ -157,7 +154,7 @@ half-high s x p l =
     search (arith, mod-mul-add)
 
 -- from f with parts of 2 * s by 2 * s bits transposed as wholes, the exchange makes f with parts of s by s bits so
-pub stage : (s : ℕ) (f g h : ℕ → ℕ → Bool) → 1 ≤ s → ((x : ℕ) → x < 64 → x % (2 * s) < s → x + s < 64)
+stage : (s : ℕ) (f g h : ℕ → ℕ → Bool) → 1 ≤ s → ((x : ℕ) → x < 64 → x % (2 * s) < s → x + s < 64)
     → Agree 64 g (mirrored (2 * s) f) → Agree 64 h (exchanged s g) → Agree 64 h (mirrored s f)
 stage s f g h p fits before now r c l m = now r c l m ∙ elim (cases_lt (r % (2 * s)) s) [
   | inl a ↦ exchanged-upper s g r c a ∙ elim (cases_lt (c % (2 * s)) s) [
@@ -183,12 +180,23 @@ stage s f g h p fits before now r c l m = now r c l m ∙ elim (cases_lt (r % (2
 ]
 
 -- the only part of 64 by 64 bits, transposed as a whole, is the tile f itself
-pub first-stage : (f : ℕ → ℕ → Bool) → Agree 64 f (mirrored 64 f)
+first-stage : (f : ℕ → ℕ → Bool) → Agree 64 f (mirrored 64 f)
 first-stage f r c l m = search arith
 
 -- if the parts are single bits, then f with its parts transposed is the transposed tile f
-pub last-stage : (f : ℕ → ℕ → Bool) (r c : ℕ) → mirrored 1 f r c ≡ f c r
+last-stage : (f : ℕ → ℕ → Bool) (r c : ℕ) → mirrored 1 f r c ≡ f c r
 last-stage f r c = search arith
+
+-- after six stages, with parts of 32, 16, 8, 4, 2 and 1 rows, the tile f is transposed
+pub all-stages : (f a b d e g h : ℕ → ℕ → Bool) → Agree 64 a (exchanged 32 f) → Agree 64 b (exchanged 16 a) → Agree 64 d (exchanged 8 b) → Agree 64 e (exchanged 4 d) → Agree 64 g (exchanged 2 e) → Agree 64 h (exchanged 1 g)
+    → (r c : ℕ) → r < 64 → c < 64 → h r c ≡ f c r
+all-stages f a b d e g h ha hb hd he hg hh r c l m =
+    let one = stage 32 f f a (omega arith) (λ x l m. omega arith) (first-stage f) ha in
+    let two = stage 16 f a b (omega arith) (λ x l m. omega arith) one hb in
+    let three = stage 8 f b d (omega arith) (λ x l m. omega arith) two hd in
+    let four = stage 4 f d e (omega arith) (λ x l m. omega arith) three he in
+    let five = stage 2 f e g (omega arith) (λ x l m. omega arith) four hg in
+    stage 1 f g h (omega arith) (λ x l m. omega arith) five hh r c l m ∙ last-stage f r c
 
 -- bit c of the mask m is set just when column c is in the left part of a pair of parts with s columns each
 abbrev pub is_mask : ℕ → ℕ → ℕ → Bool
@@ -204,49 +212,9 @@ mask-at m s e c l = same-same (has_bit m c) (ltb (c % (2 * s)) s) (below-at 64 (
 abbrev pub chosen : ℕ → (ℕ → ℕ → Bool) → (ℕ → ℕ → Bool) → (ℕ → ℕ → Bool) → Grid
 chosen s t f h = square s (λ r c. cond (t r c) (f r c) (h r c))
 
--- if g is the square of side s with the colours f, then g is a square
-pub chosen-square : (s : ℕ) (f : ℕ → ℕ → Bool) (g : Grid) → g ≡ square s f → IsSquare g.side g
-chosen-square s f g e = search (arith, square-same, colour-square)
-
--- if no place passes the test, the `chosen` square is as before
-pub chosen-none : (s : ℕ) (t f : ℕ → ℕ → Bool) (g : Grid) → g ≡ square g.side (colour g) → g.side ≡ s → ((r c : ℕ) → r < s → c < s → t r c ≡ false) → g ≡ chosen s t f (colour g)
-chosen-none s t f g e q n = search (arith, square-same)
-
--- where the places that pass t have the colours f already, giving them to those that pass u gives them to all of both
-pub chosen-more : (s : ℕ) (t u v f h : ℕ → ℕ → Bool) (g : Grid) → g ≡ chosen s t f h → ((r c : ℕ) → r < s → c < s → (u r c || t r c) ≡ v r c) → chosen g.side u f (colour g) ≡ chosen s v f h
-chosen-more s t u v f h g e k = search (arith, square-same, colour-square)
-
--- `chosen` squares are equal if their tests agree, and their colours at each place that passes
-pub chosen-same : (s : ℕ) (t u f g h : ℕ → ℕ → Bool) → ((r c : ℕ) → r < s → c < s → t r c ≡ u r c) → ((r c : ℕ) → r < s → c < s → u r c ≡ true → f r c ≡ g r c) → chosen s t f h ≡ chosen s u g h
-chosen-same s t u f g h e k = search (arith, square-same)
-
--- if each place of the square passes the test t, then the `chosen` square has the colours f
-pub chosen-all : (s : ℕ) (t f h : ℕ → ℕ → Bool) → ((r c : ℕ) → r < s → c < s → t r c ≡ true) → chosen s t f h ≡ square s f
-chosen-all s t f h e = search (arith, square-same)
-
--- giving the places of a row that pass t the colours x of this row in f is a `chosen` square
-pub chosen-row : (g : Grid) (row : ℕ) (t x : ℕ → Bool) (f : ℕ → ℕ → Bool) → ((c : ℕ) → x c ≡ f row c) → with_row g row (λ c. cond (t c) (x c) (colour g row c)) ≡ chosen g.side (λ r c. eqb r row && t c) f (colour g)
-chosen-row g row t x f e = search (arith, square-same, nat_tests)
-
--- no row r is in the first 0 rows of a band
-pub row-none : (band r : ℕ) (q : Bool) → ((eqb (r / 64) band && ltb r (64 * band + 0)) && q) ≡ false
-row-none band r q = search (arith, nat_tests)
-
 -- row r is row `row` of the band or in the first `row` rows of the band just when it is in the first `row + 1` rows
 pub row-more : (band row r : ℕ) (q : Bool) → row < 64 → ((eqb r (64 * band + row) && q) || ((eqb (r / 64) band && ltb r (64 * band + row)) && q)) ≡ ((eqb (r / 64) band && ltb r (64 * band + (row + 1))) && q)
 row-more band row r q l = grind (arith, nat_tests)
-
--- each row of the band is in its first `row` rows, if it has so many
-pub row-all : (band row s r : ℕ) (q : Bool) → 64 * band ≤ s → row ≡ min (s - 64 * band) 64 → r < s → ((eqb (r / 64) band && ltb r (64 * band + row)) && q) ≡ (eqb (r / 64) band && q)
-row-all band row s r q l e m = ap (λ z. z && q) (grind (arith, nat_tests))
-
--- no word k is below 0
-pub word-none : (k : ℕ) (q : Bool) → (q && ltb k 0) ≡ false
-word-none k q = grind (arith, nat_tests)
-
--- if s is at most 64 * words and column c is below s, then the word of c is below `words`
-pub word-all : (c words s : ℕ) (q : Bool) → c < s → s ≤ 64 * words → (q && ltb (c / 64) words) ≡ q
-word-all c words s q l m = grind (arith, nat_tests)
 
 -- the tile b has the colours of the square g in the rows of band `word` and the columns of word `band`, where there are any
 abbrev pub IsTileOf : ℕ → ℕ → ℕ → List ℕ → Grid → Type 0
@@ -274,12 +242,3 @@ pub tile-read : (band word row s : ℕ) (w : List ℕ) (g : Grid) → 64 * band 
     → IsTileOf band word s w g
 unfolding bit_in has_bit
 tile-read band word row s w g b e read rest r c l m = search (arith, nat_tests, bit_at-zero)
-
--- one row more of the tile has its colours
-pub read-more : (row x : ℕ) (w : List ℕ) (f : ℕ → ℕ → Bool) → row < length w → ((c : ℕ) → c < 64 → has_bit x c ≡ f row c)
-    → Agree row (λ r c. has_bit (get_or w r 0) c) f → Agree (row + 1) (λ r c. has_bit (get_or (set w row x) r 0) c) f
-read-more row x w f n here before r c l m = search (arith, get_or-set_same, get_or-set_other)
-
--- bits past the side stay unset if a word is replaced by one that has none set there
-pub word-past : (number k s : ℕ) (f : ℕ → Bool) (x : Bool) → ((c : ℕ) → c < 64 → s ≤ 64 * number + c → f c ≡ false) → s ≤ k → x ≡ false → cond (eqb (k / 64) number) (f (k % 64)) x ≡ false
-word-past number k s f x past l e = search (arith, nat_tests)

@@ -31,15 +31,14 @@ window-past s line c h = false-and (leb (c + 11) s) _ (grind (arith, nat_tests))
 -- a bit row that has a bit set just where a window begins has as many set bits as there are windows
 pub windows-row : (s : ℕ) (line : ℕ → Bool) (bit : ℕ → Bool) → s ≤ 192 → ((c : ℕ) → bit c ≡ is_window s line c) → set_count bit ≡ window_count s line
 unfolding window_count
-windows-row s line bit l h = size-is s bit (is_window s line) l (λ c k. h c) (λ c k. window-past s line c k)
+windows-row s line bit l h = search (arith, size-is, window-past)
 
 -- ---- windows of columns
 
 -- the ratio before four light modules is a window, if eleven rows are left
 pub before-bit : (s : ℕ) (line : ℕ → Bool) (r : ℕ) (u : Bool) → r + 11 ≤ s
     → ((u && reads line r finder_ratio) && not (not (reads line (r + 7) four_light))) ≡ (u && is_before_light s line r)
-before-bit s line r u h =
-    common u (leb (r + 11) s) (reads line r finder_ratio) (reads line (r + 7) four_light) (grind (arith, nat_tests))
+before-bit s line r u h = search arith
   where
     common : (u t a b : Bool) → t ≡ true → ((u && a) && not (not b)) ≡ (u && (t && (a && b)))
     common u t a b e = grind (arith, nat_tests)
@@ -47,10 +46,7 @@ before-bit s line r u h =
 -- the ratio after four light modules is a window that is found in the last row of these, if seven rows are left after it
 pub after-bit : (s : ℕ) (line : ℕ → Bool) (r : ℕ) (u : Bool) → 3 ≤ r → r + 8 ≤ s
     → ((u && reads line (r + 1) finder_ratio) && not (not (reads line (r - 3) four_light))) ≡ (u && (ltb 2 r && is_after_light s line (r - 3)))
-after-bit s line r u l h =
-    let e : r + 1 ≡ r - 3 + 4 = omega arith in
-    ap (λ z. (u && reads line z finder_ratio) && not (not (reads line (r - 3) four_light))) e
-    ∙ common u (ltb 2 r) (leb (r - 3 + 11) s) (reads line (r - 3 + 4) finder_ratio) (reads line (r - 3) four_light) (grind (arith, nat_tests)) (let k : r - 3 + 11 ≤ s = omega arith in grind (arith, nat_tests))
+after-bit s line r u l h = search (arith, nat_tests)
   where
     common : (u v t a b : Bool) → v ≡ true → t ≡ true → ((u && a) && not (not b)) ≡ (u && (v && (t && (b && a))))
     common u v t a b d e = grind (arith, nat_tests)
@@ -59,7 +55,7 @@ after-bit s line r u l h =
 -- of the second kind are
 pub found-bit : (s : ℕ) (line : ℕ → Bool) (r : ℕ) (u x y : Bool) → x ≡ (u && is_before_light s line r) → y ≡ (u && (ltb 2 r && is_after_light s line (r - 3))) → (x || y) ≡ (u && is_found s line r)
 unfolding is_found
-found-bit s line r u x y e f = common u (is_before_light s line r) (ltb 2 r && is_after_light s line (r - 3)) x y e f
+found-bit s line r u x y e f = search arith
   where
     common : (u a b x y : Bool) → x ≡ (u && a) → y ≡ (u && b) → (x || y) ≡ (u && (a || b))
     common u a b x y e f = grind (arith, nat_tests)
@@ -67,7 +63,7 @@ found-bit s line r u x y e f = common u (is_before_light s line r) (ltb 2 r && i
 -- in the first three rows no window is found that begins with light modules
 pub found-top : (s : ℕ) (line : ℕ → Bool) (r : ℕ) (u x : Bool) → r < 3 → x ≡ (u && is_before_light s line r) → x ≡ (u && is_found s line r)
 unfolding is_found
-found-top s line r u x h e = common u (is_before_light s line r) (ltb 2 r) (is_after_light s line (r - 3)) x (grind (arith, nat_tests)) e
+found-top s line r u x h e = search arith
   where
     common : (u a v b x : Bool) → v ≡ false → x ≡ (u && a) → x ≡ (u && (a || (v && b)))
     common u a v b x e f = grind (arith, nat_tests)
@@ -75,7 +71,7 @@ found-top s line r u x h e = common u (is_before_light s line r) (ltb 2 r) (is_a
 -- in the last ten rows no window is found that begins with the ratio
 pub found-bottom : (s : ℕ) (line : ℕ → Bool) (r : ℕ) (u x : Bool) → s < r + 11 → x ≡ (u && (ltb 2 r && is_after_light s line (r - 3))) → x ≡ (u && is_found s line r)
 unfolding is_found
-found-bottom s line r u x h e = common u (leb (r + 11) s) (reads line r finder_ratio && reads line (r + 7) four_light) (ltb 2 r && is_after_light s line (r - 3)) x (grind (arith, nat_tests)) e
+found-bottom s line r u x h e = search (arith, nat_tests)
   where
     common : (u v a b x : Bool) → v ≡ false → x ≡ (u && b) → x ≡ (u && ((v && a) || b))
     common u v a b x e f = grind (arith, nat_tests)
@@ -83,7 +79,7 @@ found-bottom s line r u x h e = common u (leb (r + 11) s) (reads line r finder_r
 -- nor is one found in the last seven rows, or in the first three of these ten
 pub found-none : (s : ℕ) (line : ℕ → Bool) (r : ℕ) (u x : Bool) → s < r + 11 → (3 ≤ r → s < r + 8) → x ≡ false → x ≡ (u && is_found s line r)
 found-none s line r u x h k e = found-bottom s line r u x h (e ∙ sym (and-false u _ (elim (cases_lt 2 r) [
-  | inl l ↦ (let n : s < r - 3 + 11 = let m = k (omega arith) in omega arith in and-false (ltb 2 r) _ (false-and (leb (r - 3 + 11) s) _ (grind (arith, nat_tests))))
+  | inl l ↦ search (arith, and-false, false-and)
   | inr l ↦ false-and (ltb 2 r) _ (grind (arith, nat_tests))
 ])))
 
@@ -93,23 +89,21 @@ found-row s dark r bit l h = guarded-size s bit (λ c. is_found s (λ i. dark i 
 
 -- the ratio begins with a dark module
 dark-first : (s : ℕ) (line : ℕ → Bool) (r : ℕ) → is_before_light s line r ≡ true → line r ≡ true
-dark-first s line r h = first (leb (r + 11) s) (line r) _ (reads line (r + 7) four_light) h
+dark-first s line r h = search arith
   where
     first : (t x a b : Bool) → (t && ((is_same x true && a) && b)) ≡ true → x ≡ true
     first t x a b h = grind (arith, nat_tests)
 
 -- the first module of four light ones is light
 light-first : (s : ℕ) (line : ℕ → Bool) (r : ℕ) → is_after_light s line r ≡ true → line r ≡ false
-light-first s line r h = first (leb (r + 11) s) (line r) _ (reads line (r + 4) finder_ratio) h
+light-first s line r h = search arith
   where
     first : (t x a b : Bool) → (t && ((is_same x false && a) && b)) ≡ true → x ≡ false
     first t x a b h = grind (arith, nat_tests)
 
 -- the last module of four light ones is light
 light-last : (s : ℕ) (line : ℕ → Bool) (r : ℕ) → 3 ≤ r → is_after_light s line (r - 3) ≡ true → line r ≡ false
-light-last s line r l h =
-    let e : r - 3 + 1 + 1 + 1 ≡ r = omega arith in
-    sym (ap line e) ∙ last (leb (r - 3 + 11) s) (is_same (line (r - 3)) false) (is_same (line (r - 3 + 1)) false) (is_same (line (r - 3 + 1 + 1)) false) (line (r - 3 + 1 + 1 + 1)) (reads line (r - 3 + 4) finder_ratio) h
+light-last s line r l h = search arith
   where
     last : (t a b d x y : Bool) → (t && ((a && (b && (d && (is_same x false && true)))) && y)) ≡ true → x ≡ false
     last t a b d x y h = grind (arith, nat_tests)
@@ -120,17 +114,7 @@ either p q x h k = grind (arith, nat_tests)
 
 -- one more number that passes a test after the first three
 later-more : (n : ℕ) (p : ℕ → Bool) → count_below (n + 1 - 3) p ≡ count_below (n - 3) p + cond (ltb 2 n && p (n - 3)) 1 0
-later-more n p = elim (cases_lt 2 n) [
-  | inl k ↦
-      let t : ltb 2 n ≡ true = grind (arith, nat_tests) in
-      let e : n + 1 - 3 ≡ n - 3 + 1 = omega arith in
-      ap (λ z. count_below z p) e ∙ sym (sum_below-more (n - 3) _ _ _ (λ k. cond (p k) 1 0) refl refl refl)
-      ∙ ap (λ z. count_below (n - 3) p + cond (z && p (n - 3)) 1 0) (sym t)
-  | inr k ↦
-      let t : ltb 2 n ≡ false = grind (arith, nat_tests) in
-      let e : n + 1 - 3 ≡ n - 3 = omega arith in
-      ap (λ z. count_below z p) e ∙ plain (count_below (n - 3) p) (cond (ltb 2 n && p (n - 3)) 1 0) (ap (λ z. cond (z && p (n - 3)) 1 0) t)
-]
+later-more n p = search (arith, sum_below-more)
   where
     plain : (a x : ℕ) → x ≡ 0 → a ≡ a + x
     plain a x e = omega arith
@@ -144,9 +128,7 @@ found-below s line (suc n) =
     let rest = found-below s line n in
     let one = either (is_before_light s line n) (ltb 2 n && is_after_light s line (n - 3)) (line n) (dark-first s line n) light in
     let more = later-more n (is_after_light s line) in
-    let e : n + 1 ≡ suc n = omega arith in
-    let same = ap (λ z. count_below (z - 3) (is_after_light s line)) e in
-    omega arith
+    search arith
   where
     both : (a b : Bool) → (a && b) ≡ true → (a ≡ true) × (b ≡ true)
     both a b h = (grind (arith, nat_tests), grind (arith, nat_tests))
@@ -194,11 +176,4 @@ pub windows-next : (s : ℕ) (dark : ℕ → ℕ → Bool) (n windows : ℕ) (ac
     → ((c : ℕ) → across c ≡ is_window s (dark n) c) → ((c : ℕ) → upright c ≡ (ltb c s && is_found s (λ i. dark i c) n))
     → more ≡ windows + (set_count across + set_count upright) → AreWindowsTo s dark (n + 1) more
 windows-next s dark n windows across upright more l h ha hu e =
-    let a = windows-row s (dark n) across l ha in
-    let u = found-row s dark n upright l hu in
-    let f = sum_below-more n _ _ _ (λ r. window_count s (dark r)) refl refl refl in
-    let g = sum_below-more n _ _ _ (λ r. count_below s (λ c. is_found s (λ i. dark i c) r)) refl refl refl in
-    record {
-      windows_are = let d = h.windows_are in omega arith;
-      windows_most = let d = h.windows_most in let i = set_count-most across in let j = set_count-most upright in omega arith;
-    }
+    search (arith, windows-row, found-row, sum_below-more, set_count-most)

@@ -1,6 +1,7 @@
+use Rattle.std.proofs.Common.{rules}
 use Rattle.std.proofs.Common.{◌≡◌, ℕ, ◌+◌, ◌*◌, Bool, arith, ap, refl, sym, ◌∙◌}
 use Rattle.qr_matrix.specs.{Steps.set_count, Sums.{count_below, places_passing, sum_below}}
-use Rattle.qr_matrix.proofs.lemmas.{rows.AdderLemmas.{none-of, set_count-most}, bit_row.SumLemmas.sum_below-more, penalties.PenaltyLemmas.row-count}
+use Rattle.qr_matrix.proofs.lemmas.{rows.AdderLemmas.{never, none-of, set_count-most}, bit_row.SumLemmas.sum_below-more, penalties.PenaltyLemmas.row-count}
 use Rattle.qr_matrix.proofs.penalties.dark_count.Goals as goal
 
 -- nothing is counted yet
@@ -8,10 +9,7 @@ begun : (f t o : ℕ) → f ≡ 0 → t ≡ 0 → o ≡ 0 → 4 * f + 2 * t + o 
 begun f t o d e h = omega arith
 
 pub loop-quarter-init : goal.loop-quarter-init
-loop-quarter-init g c =
-    let bit = g.S.Row.Rows.bit in
-    let none = λ (b : Bool). begun _ _ _ (c.zeros-fours.ensures b) (none-of (bit c.empty-twos.result b) (c.empty-twos.ensures b)) (none-of (bit c.empty-ones.result b) (c.empty-ones.ensures b)) in
-    record { counted = none; small = λ b. let e = none b in omega arith }
+loop-quarter-init g c = search (rules, none-of, never, begun)
 
 -- what three full adders keep: `a`, `b`, `p` and `q` are added to `o` ones, `t` twos and `f` fours
 kept : (f t o a b u x p q l y s e k : ℕ) → a + b + o ≡ u + 2 * x → p + q + u ≡ l + 2 * y → x + y + t ≡ s + 2 * e → k ≡ f + e → 4 * k + 2 * s + l ≡ (4 * f + 2 * t + o) + (a + b + (p + q))

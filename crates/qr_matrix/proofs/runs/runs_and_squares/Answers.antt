@@ -2,7 +2,7 @@ use Rattle.std.proofs.Common.{◌≡◌, ◌<◌, ℕ, ◌+◌, ◌-◌, ◌*◌
 use Rattle.qr_matrix.specs.{Runs.{joins, place_cost}, Steps.{begin_five, joins_down, row_share, set_count}}
 use Rattle.qr_matrix.specs.Sums.{count_below, places_passing, sum_below}
 use Rattle.qr_matrix.specs.Penalty.{is_square_of_two, over_lines, run_cost, square_count}
-use Rattle.qr_matrix.proofs.lemmas.{rows.AdderLemmas.{set_count-most}, bit_row.SumLemmas.{sum_below-same}}
+use Rattle.qr_matrix.proofs.lemmas.{rows.AdderLemmas.{never, set_count-most}, bit_row.SumLemmas.{sum_below-same}}
 use Rattle.qr_matrix.proofs.lemmas.runs.{AboveLemmas.{counted-next, share-left, share-next}, ChargeLemmas.row_cost, RowLemmas.side-most, RunLemmas.runs-by-places}
 use Rattle.qr_matrix.proofs.lemmas.runs.SquareLemmas.{square-bit, squares-row}
 use Rattle.qr_matrix.proofs.lemmas.runs.ColumnLemmas.{joins-down-none, shares-are-columns}
@@ -28,7 +28,7 @@ loop-row-preserved g c =
     let both = c.if-row-from.down in
     let down : (b : Bool) (k : ℕ) → bit both.0 b k ≡ joins_down s (d b) k r = λ b k. elim c.if-row-from.branch [
       | then-row-from w ↦ ap (λ z. bit z.0 b k) w.down-is ∙ w.joined_in_column.ensures b k
-      | else-row-from w ↦ ap (λ z. bit z.0 b k) w.down-is ∙ joins-down-none s (λ i. d b i k) k r _ (omega (arith, c.side-side.ensures.least, c.side-side.ensures.value, w.if-row-from.false)) (w.empty.ensures b k)
+      | else-row-from w ↦ ap (λ z. bit z.0 b k) w.down-is ∙ joins-down-none s (λ i. d b i k) k r _ (omega (arith, c.side-side.ensures.least, c.side-side.ensures.value, w.if-row-from.false)) (w.below_in-none.ensures b k ∙ never k)
     ] in
     let below : (b : Bool) (k : ℕ) → r + 1 < s → bit both.1 b k ≡ joins s (d b (r + 1)) k = λ b k l. elim c.if-row-from.branch [
       | then-row-from w ↦ ap (λ z. bit z.1 b k) w.down-is ∙ w.joined.ensures b k
@@ -37,15 +37,15 @@ loop-row-preserved g c =
     let across = λ (b : Bool). set_count (bit c.costing.result b) in
     let points = λ (b : Bool). row_cost s (d b r) (bit here.result b) (bit c.fours.result b) (bit c.costing.result b) few (here.ensures b) (c.fours.ensures b) (c.costing.ensures b) in
     let share = λ (b : Bool). share-next s (d b) r (bit upright.result.0 b) few (λ k. upright.ensures.upright b k r (joins_down s (d b) k) (i.above b k) (down b k)) in
-    let four = λ (b : Bool). squares-row s (d b) r (bit c.squares_at.result b) few (λ k. square-bit s (d b) r k (bit c.squares_at.result b k) (bit here.result b k) (bit both.1 b k) (bit both.0 b k) (c.squares_at.ensures b k) (here.ensures b k) (below b k) (down b k)) in
+    let four = λ (b : Bool). squares-row s (d b) r (bit c.bitand-in-loop-row.result b) few (λ k. square-bit s (d b) r k (bit c.bitand-in-loop-row.result b k) _ (bit here.result b k) (bit both.1 b k) (bit both.0 b k) (g.met.S.Row.Rows.bitand_law _ _ _ c.bitand.ensures b k) (g.met.S.Row.Rows.bitand_law _ _ _ c.bitand-in-loop-row.ensures b k) (here.ensures b k) (below b k) (down b k)) in
     record {
       above = λ b k. upright.ensures.above b k r (joins_down s (d b) k) (i.above b k) (down b k);
-      counted = λ b. counted-next s (d b) r _ _ (across b) (set_count (bit upright.result.0 b)) (set_count (bit c.squares_at.result b)) _ _ (i.counted b) (points b) (share b) (four b) (set_count-most (bit c.costing.result b)) (set_count-most (bit upright.result.0 b)) (set_count-most (bit c.squares_at.result b))
+      counted = λ b. counted-next s (d b) r _ _ (across b) (set_count (bit upright.result.0 b)) (set_count (bit c.bitand-in-loop-row.result b)) _ _ (i.counted b) (points b) (share b) (four b) (set_count-most (bit c.costing.result b)) (set_count-most (bit upright.result.0 b)) (set_count-most (bit c.bitand-in-loop-row.result b))
           (kept (number l.twos b) (set_count (bit l.ones b)) (across b) (set_count (bit upright.result.0 b)) _ _ _ (c.added-sum.ensures b) (c.add_to-twos.ensures.value b)) (c.add_to-of_two.ensures.value b);
     }
 
 -- what is counted in the end
-value : (t o l a k n : ℕ) → a ≡ 2 * t → k ≡ a + o → n ≡ k + l → n ≡ 2 * t + o + l
+value : (t o l a k n : ℕ) → a ≡ t + t → k ≡ a + o → n ≡ k + l → n ≡ 2 * t + o + l
 value t o l a k n e f h = omega arith
 
 -- the last sum
@@ -68,14 +68,14 @@ returns-clause-runs g c = λ b.
     ap (λ z. sum_below z (λ r. place_cost s (d r))) n ∙ sum_below-same s (λ r. place_cost s (d r)) (λ r. run_cost s (d r)) (λ r _. sym (runs-by-places s (d r))) in
     let columns : sum_below s (row_share s d) ≡ sum_below s (λ k. run_cost s (λ r. d r k)) =
     shares-are-columns s d ∙ sum_below-same s (λ k. place_cost s (λ r. d r k)) (λ k. run_cost s (λ r. d r k)) (λ k _. sym (runs-by-places s (λ r. d r k))) in
-    value _ _ (set_count left) _ _ _ (c.doubled.ensures b) (c.add_to.ensures.value b) (c.add_to-2.ensures.value b)
+    value _ _ (set_count left) _ _ _ (c.plus.ensures b) (c.add_to.ensures.value b) (c.add_to-2.ensures.value b)
     ∙ joined_sums _ _ _ (set_count left) _ ((l.invariant.counted b).runs_are ∙ (λ j. rows j + sum_below (n j - 3) (row_share s d))) last
     ∙ ap (λ z. sum_below s (λ r. run_cost s (d r)) + z) columns
 
 pub returns-clause-runs_bound : goal.returns-clause-runs_bound
 returns-clause-runs_bound g c = λ b.
     let left = g.S.Row.Rows.bit c.loop-row.above.earlier_fives b in
-    let e = value _ _ (set_count left) _ _ _ (c.doubled.ensures b) (c.add_to.ensures.value b) (c.add_to-2.ensures.value b) in
+    let e = value _ _ (set_count left) _ _ _ (c.plus.ensures b) (c.add_to.ensures.value b) (c.add_to-2.ensures.value b) in
     let p = (c.loop-row.invariant.counted b).runs_most in
     let q = set_count-most left in
     omega (arith, c.side-side.ensures.value, c.side-side.ensures.most)

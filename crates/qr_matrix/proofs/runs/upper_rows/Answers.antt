@@ -1,6 +1,7 @@
+use Rattle.std.proofs.Common.{rules}
 use Rattle.std.proofs.Common.{◌≡◌, ℕ, ◌+◌, ◌*◌, Bool, arith, refl, subst}
 use Rattle.qr_matrix.specs.{Runs.joins, Steps.{joins_down, set_count, IsAbove, IsCountedTo}}
-use Rattle.qr_matrix.proofs.lemmas.{rows.AdderLemmas.{none-of, set_count-most}, runs.SquareLemmas.{square-bit, squares-row}}
+use Rattle.qr_matrix.proofs.lemmas.{rows.AdderLemmas.{never, none-of, set_count-most}, runs.SquareLemmas.{square-bit, squares-row}}
 use Rattle.qr_matrix.proofs.lemmas.runs.{AboveLemmas.{counted-next, none-above, share-next}, ChargeLemmas.row_cost, RowLemmas.side-most}
 use Rattle.qr_matrix.proofs.runs.upper_rows.Goals as goal
 
@@ -9,15 +10,7 @@ begun : (f t o : ℕ) → f ≡ 0 → t ≡ 0 → o ≡ 0 → 2 * (2 * f + t) + 
 begun f t o d e h = omega arith
 
 pub loop-step-init : goal.loop-step-init
-loop-step-init g c =
-    let bit = g.S.Row.Rows.bit in
-    let none = c.empty-none.ensures in
-    let rest = λ (b : Bool). none-of (bit c.empty-none.result b) (none b) in
-    record {
-      first_is = c.joined-first.ensures;
-      above = λ b k. none-above _ _ _ _ _ _ (none b k) (none b k) (none b k) (none b k) (none b k);
-      counted = λ b. let e = c.zeros-in_fours.ensures b in let f = c.zeros-pairs.ensures b in let h = rest b in record { runs_are = omega arith; runs_most = omega arith; squares_are = omega arith; squares_most = omega arith };
-    }
+loop-step-init g c = search (rules, never, none-of, none-above)
 
 -- what three full adders keep of the points of two rows: `a` and `u`, and `x` and `y`
 kept : (f t o a u s p x y n q z k m : ℕ) → a + u + o ≡ s + 2 * p → x + y + s ≡ n + 2 * q → p + q + t ≡ z + 2 * k → m ≡ f + k → 2 * (2 * m + z) + n ≡ 2 * (2 * f + t) + o + (a + u) + (x + y)
@@ -59,17 +52,18 @@ loop-step-preserved g c =
     let share = λ (b : Bool). share-next s (d b) r (bit upright.result.0 b) few (λ k. upright.ensures.upright b k r (joins_down s (d b) k) (i.above b k) (down.ensures b k)) in
     let share2 = λ (b : Bool). share-next s (d b) (r + 1) (bit lower.result.0 b) few (λ k. lower.ensures.upright b k (r + 1) (joins_down s (d b) k) (between b k) (further.ensures b k)) in
     let below = λ (b : Bool) (k : ℕ). subst (λ z. bit third.result b k ≡ joins s (d b z) k) (one_more r) (third.ensures b k) in
-    let four = λ (b : Bool). squares-row s (d b) r (bit c.squares_at-upper.result b) few (λ k. square-bit s (d b) r k (bit c.squares_at-upper.result b k) (bit l.first b k) (bit second.result b k) (bit down.result b k) (c.squares_at-upper.ensures b k) (i.first_is b k) (λ _. second.ensures b k) (down.ensures b k)) in
-    let four2 = λ (b : Bool). squares-row s (d b) (r + 1) (bit c.squares_at.result b) few (λ k. square-bit s (d b) (r + 1) k (bit c.squares_at.result b k) (bit second.result b k) (bit third.result b k) (bit further.result b k) (c.squares_at.ensures b k) (second.ensures b k) (λ _. below b k) (further.ensures b k)) in
-    let upper = λ (b : Bool). counted-next s (d b) r _ _ (across b) (set_count (bit upright.result.0 b)) (set_count (bit c.squares_at-upper.result b)) _ _ (i.counted b) (points b) (share b) (four b) (set_count-most (bit c.costing.result b)) (set_count-most (bit upright.result.0 b)) (set_count-most (bit c.squares_at-upper.result b)) refl refl in
+    let and = g.met.S.Row.Rows.bitand_law in
+    let four = λ (b : Bool). squares-row s (d b) r (bit c.bitand-upper.result b) few (λ k. square-bit s (d b) r k (bit c.bitand-upper.result b k) _ (bit l.first b k) (bit second.result b k) (bit down.result b k) (and _ _ _ c.bitand.ensures b k) (and _ _ _ c.bitand-upper.ensures b k) (i.first_is b k) (λ _. second.ensures b k) (down.ensures b k)) in
+    let four2 = λ (b : Bool). squares-row s (d b) (r + 1) (bit c.bitand-in-loop-step-2.result b) few (λ k. square-bit s (d b) (r + 1) k (bit c.bitand-in-loop-step-2.result b k) _ (bit second.result b k) (bit third.result b k) (bit further.result b k) (and _ _ _ c.bitand-in-loop-step.ensures b k) (and _ _ _ c.bitand-in-loop-step-2.ensures b k) (second.ensures b k) (λ _. below b k) (further.ensures b k)) in
+    let upper = λ (b : Bool). counted-next s (d b) r _ _ (across b) (set_count (bit upright.result.0 b)) (set_count (bit c.bitand-upper.result b)) _ _ (i.counted b) (points b) (share b) (four b) (set_count-most (bit c.costing.result b)) (set_count-most (bit upright.result.0 b)) (set_count-most (bit c.bitand-upper.result b)) refl refl in
     record {
       first_is = λ b k. subst (λ z. bit third.result b k ≡ joins s (d b z) k) (two_after n) (third.ensures b k);
       above = λ b k. subst (λ z. IsAbove (joins_down s (d b) k) z (bit lower.result.1.joined b k) (bit lower.result.1.threes b k) (bit lower.result.1.earlier_threes b k) (bit lower.result.1.fives b k) (bit lower.result.1.earlier_fives b k)) (two_more n)
           (lower.ensures.above b k (r + 1) (joins_down s (d b) k) (between b k) (further.ensures b k));
       counted = λ b. subst (λ z. IsCountedTo s (d b) z (2 * (2 * number c.add_to-in_fours.result b + set_count (bit c.added-rest-in-loop-step.result.0 b)) + set_count (bit c.added-digit.result.0 b)) (2 * number c.add_to-pairs.result b + set_count (bit c.added-rest.result.0 b))) (two_more n)
-          (counted-next s (d b) (r + 1) _ _ (across2 b) (set_count (bit lower.result.0 b)) (set_count (bit c.squares_at.result b)) _ _ (upper b) (points2 b) (share2 b) (four2 b) (set_count-most (bit c.costing-in-loop-step.result b)) (set_count-most (bit lower.result.0 b)) (set_count-most (bit c.squares_at.result b))
+          (counted-next s (d b) (r + 1) _ _ (across2 b) (set_count (bit lower.result.0 b)) (set_count (bit c.bitand-in-loop-step-2.result b)) _ _ (upper b) (points2 b) (share2 b) (four2 b) (set_count-most (bit c.costing-in-loop-step.result b)) (set_count-most (bit lower.result.0 b)) (set_count-most (bit c.bitand-in-loop-step-2.result b))
           (kept (number l.in_fours b) (set_count (bit l.twos b)) (set_count (bit l.ones b)) (across b) (set_count (bit upright.result.0 b)) _ _ (across2 b) (set_count (bit lower.result.0 b)) _ _ _ _ _ (c.added-sum.ensures b) (c.added-digit.ensures b) (c.added-rest-in-loop-step.ensures b) (c.add_to-in_fours.ensures.value b))
-          (paired (number l.pairs b) (set_count (bit l.odd b)) (set_count (bit c.squares_at-upper.result b)) (set_count (bit c.squares_at.result b)) _ _ _ (c.added-rest.ensures b) (c.add_to-pairs.ensures.value b)));
+          (paired (number l.pairs b) (set_count (bit l.odd b)) (set_count (bit c.bitand-upper.result b)) (set_count (bit c.bitand-in-loop-step-2.result b)) _ _ _ (c.added-rest.ensures b) (c.add_to-pairs.ensures.value b)));
     }
 
 pub returns-clause-above : goal.returns-clause-above

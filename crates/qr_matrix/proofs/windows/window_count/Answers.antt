@@ -1,6 +1,6 @@
 use Rattle.std.proofs.Common.{ltb, ◌≡◌, ◌*◌, ◌+◌, ℕ, arith, ap, ◌∙◌}
 use Rattle.qr_matrix.specs.{Sums.{count_below, sum_below}, Penalty.{over_lines, window_count}, Steps.is_found}
-use Rattle.qr_matrix.proofs.lemmas.{rows.AdderLemmas.none-of, runs.RowLemmas.side-most, windows.WindowLemmas.{found-are-columns, found-none, windows-next, windows-none}}
+use Rattle.qr_matrix.proofs.lemmas.{rows.AdderLemmas.{never, none-of}, runs.RowLemmas.side-most, windows.WindowLemmas.{found-are-columns, found-none, windows-next, windows-none}}
 use Rattle.qr_matrix.proofs.windows.window_count.Goals as goal
 
 -- nothing is counted yet
@@ -10,7 +10,7 @@ begun t o d e = omega arith
 pub loop-upper-init : goal.loop-upper-init
 loop-upper-init g c = record {
   counted = λ b. windows-none (g.S.Squares.size c.args.squares.now) (g.S.Squares.dark c.args.squares.now b) _
-      (begun _ _ (c.zeros-twos.ensures b) (none-of (g.S.Row.Rows.bit c.empty-ones.result b) (c.empty-ones.ensures b)));
+      (begun _ _ (g.met.S.Row.Rows.zero_law _ c.default-twos.ensures b) (none-of (g.S.Row.Rows.bit c.below_in-none.result b) (λ k. c.below_in-none.ensures b k ∙ never k)));
 }
 
 pub loop-upper-preserved : goal.loop-upper-preserved
@@ -51,14 +51,14 @@ loop-last-preserved g c =
     let r = c.loop-last.last in
     let few = side-most s g.row.WORDS c.requires.width in
     record {
-      counted = λ b. windows-next s (g.S.Squares.dark m b) r _ (g.S.Row.Rows.bit c.row_windows-across-in-loop-last.result b) (g.S.Row.Rows.bit c.empty.result b) _ few
+      counted = λ b. windows-next s (g.S.Squares.dark m b) r _ (g.S.Row.Rows.bit c.row_windows-across-in-loop-last.result b) (g.S.Row.Rows.bit c.below_in-none.result b) _ few
           (c.loop-last.invariant.counted b) (c.row_windows-across-in-loop-last.ensures b)
-          (λ k. found-none s (λ i. g.S.Squares.dark m b i k) r (ltb k s) _ (omega (arith, c.side-side.ensures.value)) (λ _. omega (arith, c.side-side.ensures.value)) (c.empty.ensures b k))
+          (λ k. found-none s (λ i. g.S.Squares.dark m b i k) r (ltb k s) _ (omega (arith, c.side-side.ensures.value)) (λ _. omega (arith, c.side-side.ensures.value)) (c.below_in-none.ensures b k ∙ never k))
           (c.counted-in-loop-last.ensures b);
     }
 
 -- what is counted in the end
-value : (t o a k : ℕ) → a ≡ 2 * t → k ≡ a + o → k ≡ 2 * t + o
+value : (t o a k : ℕ) → a ≡ t + t → k ≡ a + o → k ≡ 2 * t + o
 value t o a k e f = omega arith
 
 pub returns-clause-value : goal.returns-clause-value
@@ -67,6 +67,6 @@ returns-clause-value g c = λ b.
     let s = g.S.Squares.size c.args.squares.now in
     let d = g.S.Squares.dark c.args.squares.now b in
     let n : c.loop-last.last ≡ s = omega (arith, c.side-side.ensures.value, c.loop-last.auto.last-end, c.loop-last-test.false, c.from-last-end.ensures) in
-    value _ _ _ _ (c.doubled.ensures b) (c.add_to.ensures.value b)
+    value _ _ _ _ (c.plus.ensures b) (c.add_to.ensures.value b)
     ∙ ((c.loop-last.invariant.counted b).windows_are
     ∙ (λ j. sum_below (n j) (λ r. window_count s (d r)) + (ap (λ z. sum_below z (λ r. count_below s (λ c. is_found s (λ i. d i c) r))) n ∙ found-are-columns s d) j))

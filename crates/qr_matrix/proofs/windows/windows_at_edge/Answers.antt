@@ -1,5 +1,7 @@
+use Rattle.std.proofs.Common.{rules}
 use Rattle.std.proofs.{Common.{◌≡◌, ◌<◌, ℕ, ◌-◌, ◌&&◌, ltb, inl, inr, arith}, lemmas.Bool.cases_lt}
 use Rattle.qr_matrix.specs.Steps.{is_after_light, is_before_light}
+use Rattle.qr_matrix.proofs.lemmas.rows.AdderLemmas.{never}
 use Rattle.qr_matrix.proofs.lemmas.windows.WindowLemmas.{after-bit, before-bit, found-bottom, found-none, found-top}
 use Rattle.qr_matrix.proofs.windows.windows_at_edge.Goals as goal
 
@@ -17,9 +19,7 @@ returns-then-row-from g c = λ b k.
     found-top s line r (ltb k s) _ upper before
 
 pub returns-then-row-lt3 : goal.returns-then-row-lt3
-returns-then-row-lt3 g c = λ b k.
-    let s = g.S.Squares.size c.args.squares.now in
-    found-none s (λ i. g.S.Squares.dark c.args.squares.now b i k) c.args.row (ltb k s) _ (omega (arith, c.side.ensures.value)) (λ l. absurd (omega (arith, c.if-row-lt3.true))) (c.empty.ensures b k)
+returns-then-row-lt3 g c = search (rules, found-none, never)
 
 pub returns : goal.returns
 returns g c = λ b k.

@@ -1,3 +1,4 @@
+use Rattle.std.proofs.Common.{rules}
 use Rattle.std.proofs.{Common.{get_or, ◌∙◌, arith}, lemmas.Nat.ones-le}
 use Rattle.qr_matrix.specs.{BitRow.has, BitRow.bit_row_number, Steps.set_count}
 use Rattle.qr_matrix.proofs.lemmas.bit_row.{WordLemmas.three-ones, WordLemmas.three-below, PlaceLemmas.ones-count}
@@ -10,9 +11,4 @@ returns-clause-value c =
     rw (← c.self.view_is) (three-ones (get_or a 0 0) (get_or a 1 0) (get_or a 2 0) (omega arith) (omega arith) ∙ ones-count 192 (bit_row_number a) (three-below (get_or a 0 0) (get_or a 1 0) (get_or a 2 0) (omega arith) (omega arith) (omega arith)))
 
 pub returns-clause-bound : goal.returns-clause-bound
-returns-clause-bound c =
-    let a = c.self.inside.0 in
-    let p = ones-le 64 (get_or a 0 0) (omega arith) in
-    let q = ones-le 64 (get_or a 1 0) (omega arith) in
-    let r = ones-le 64 (get_or a 2 0) (omega arith) in
-    omega arith
+returns-clause-bound c = search (rules, ones-le, get_or)

@@ -23,6 +23,4 @@ invariant_of-self c =
     set-words c.self.inside.0 c.from.result _ (omega arith) (or_lt 64 n _ (words-small c.self.inside.0 c.self.invariant c.from.result) (omega arith)) c.self.invariant
 
 pub invariant_of-self-else-dark : goal.invariant_of-self-else-dark
-invariant_of-self-else-dark c =
-    let n = get_or c.self.inside.0 c.from-else-dark.result 0 in
-    set-words c.self.inside.0 c.from-else-dark.result _ (omega arith) (and-small n _ (words-small c.self.inside.0 c.self.invariant c.from-else-dark.result)) c.self.invariant
+invariant_of-self-else-dark c = search (arith, get_or, set-words, and-small, words-small)

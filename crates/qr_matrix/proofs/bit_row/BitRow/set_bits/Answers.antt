@@ -1,9 +1,10 @@
+use Rattle.std.proofs.Common.{rules}
 use Rattle.std.proofs.{Common.arith, lemmas.Nat.or_lt}
 use Rattle.qr_matrix.proofs.lemmas.bit_row.{PlaceLemmas.{words-small, set-words}, SetLemmas.bits-set}
 use Rattle.qr_matrix.proofs.bit_row.BitRow.set_bits.Goals as goal
 
 pub returns : goal.returns
-returns c = rw (← c.self.view_is) (bits-set c.self.inside.0 c.args.index c.from.result c.args.bits c.self.invariant.0 (words-small c.self.inside.0 c.self.invariant) c.requires.index_in c.from.ensures c.requires.fits)
+returns c = search (rules, bits-set, words-small)
 
 pub invariant_of-self : goal.invariant_of-self
 invariant_of-self c =

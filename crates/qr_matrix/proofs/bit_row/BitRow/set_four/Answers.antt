@@ -1,6 +1,7 @@
-use Rattle.std.proofs.Common.{◌≡◌, ◌+◌, ◌-◌, ◌<◌, ℕ, Bool, true, false, ◌&&◌, ◌||◌, leb, ltb, inl, inr, ap, ◌∙◌, arith}
+use Rattle.std.proofs.Common.{rules}
+use Rattle.std.proofs.Common.{◌≡◌, ◌+◌, ◌-◌, ◌<◌, ℕ, Bool, true, false, ◌&&◌, leb, ltb, inl, inr, arith}
 use Rattle.std.proofs.lemmas.{Bool.cases_lt, Bool.Decides.nat_tests}
-use Rattle.qr_matrix.specs.BitRow.{has, has_bit}
+use Rattle.qr_matrix.specs.BitRow.{has_bit}
 use Rattle.qr_matrix.proofs.lemmas.bit_row.SetLemmas.{unset-above}
 use Rattle.qr_matrix.proofs.bit_row.BitRow.set_four.Goals as goal
 
@@ -21,6 +22,4 @@ four n i b l = elim (cases_lt (b - i) 4) [
     none a d e h = grind (arith, nat_tests)
 
 pub returns : goal.returns
-returns c = λ i.
-    c.set_bits.ensures i ∙ ap (λ z. has c.args.self.now i || z)
-    ((λ j. leb c.args.index i && has_bit (c.from.ensures j) (i - c.args.index)) ∙ four c.args.bits c.args.index i c.requires.bits)
+returns c = search (rules, nat_tests, four)

@@ -1,11 +1,10 @@
+use Rattle.std.proofs.Common.{rules}
 use Rattle.std.proofs.Common.{arith}
 use Rattle.qr_matrix.{specs.BitRow.has, proofs.lemmas.bit_row.FirstLemmas.{passing-first, passing-none}}
 use Rattle.qr_matrix.proofs.bit_row.BitRow.take_first.Goals as goal
 
 pub returns-then-index : goal.returns-then-index
-returns-then-index c =
-    let none = passing-none (has c.args.self.now) 0 192 (λ k l. c.first-index.ensures.before k (omega arith)) in
-    (none, none)
+returns-then-index c = search (rules, passing-none, has)
 
 pub returns : goal.returns
 returns c = passing-first (has c.args.self.now) (has c.clear.new.self) c.first-index.result 0 192 (omega arith) (omega arith)

@@ -1,4 +1,5 @@
-use Rattle.std.proofs.{Common.{get_or, refl, ap, ◌∙◌, arith}, lemmas.Nat.xor_lt}
+use Rattle.std.proofs.Common.{rules}
+use Rattle.std.proofs.{Common.{get_or, ap, ◌∙◌, arith}, lemmas.Nat.xor_lt}
 use Rattle.qr_matrix.specs.BitRow.{has, has_bit, bit_row_number}
 use Rattle.qr_matrix.proofs.lemmas.bit_row.{WordLemmas.three-xor, PlaceLemmas.has_bit-xor}
 use Rattle.qr_matrix.proofs.bit_row.BitRowBitXor.bitxor.Goals as goal
@@ -12,9 +13,4 @@ returns c =
     rw (← c.self.view_is, ← c.rhs.view_is) (λ k. ap (λ z. has_bit z k) e ∙ has_bit-xor (bit_row_number a) (bit_row_number b) k)
 
 pub invariant_of-result : goal.invariant_of-result
-invariant_of-result c = (
-  refl,
-  xor_lt 64 _ _ c.self.invariant.1 c.rhs.invariant.1,
-  xor_lt 64 _ _ c.self.invariant.2 c.rhs.invariant.2,
-  xor_lt 64 _ _ c.self.invariant.3 c.rhs.invariant.3,
-)
+invariant_of-result c = search (rules, xor_lt)

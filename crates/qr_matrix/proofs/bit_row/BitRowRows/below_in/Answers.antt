@@ -1,3 +1,4 @@
+use Rattle.std.proofs.Common.{rules}
 use Rattle.std.proofs.Common.{◌≡◌, ◌-◌, ◌^◌, ap, ◌∙◌, arith}
 use Rattle.qr_matrix.specs.BitRow.{has, has_bit, bit_row_number}
 use Rattle.qr_matrix.proofs.lemmas.bit_row.{WordLemmas.{three-low, three-middle, three-high}, PlaceLemmas.has_bit-ones}
@@ -5,11 +6,7 @@ use Rattle.qr_matrix.proofs.bit_row.BitRowRows.below_in.Goals as goal
 
 pub returns-in-1 : goal.returns-in-1
 unfolding has bit_row_number
-returns-in-1 c =
-    let n = c.args.n in
-    let x = c.low_bits.result in
-    let e : x ≡ 2 ^ n - 1 = c.low_bits.ensures ∙ ap (λ z. 2 ^ z - 1) (omega arith) in
-    λ _ k. ap (λ z. has_bit z k) (three-low n x e) ∙ has_bit-ones n k
+returns-in-1 c = search (rules, three-low, has_bit-ones)
 
 pub returns-in-2 : goal.returns-in-2
 unfolding has bit_row_number

@@ -1,19 +1,13 @@
+use Rattle.std.proofs.Common.{rules}
 use Rattle.std.proofs.Common.{refl, ap, arith}
 use Rattle.qr_matrix.{specs.Grid.Grid, proofs.lemmas.matrix.MatrixLemmas.{row-read, row-past}}
 use Rattle.qr_matrix.proofs.matrix.Matrix.bit_row.Goals as goal
 
 pub index-requires : goal.index-requires
-index-requires c =
-    let m = c.self.inside in
-    let e = ap (λ (g : Grid). g.side) c.self.view_is in
-    omega (arith, m.rows.ok.0, c.self.invariant.2)
+index-requires c = search rules
 
 pub returns-clause-colours : goal.returns-clause-colours
-returns-clause-colours c = λ k.
-    let m = c.self.inside in
-    let g = c.args.self.now in
-    let e = ap (λ (g : Grid). g.side) c.self.view_is in
-    row-read m.side c.args.row c.args.row m.rows.items c.index.result.now g c.self.view_is refl (omega (arith, c.self.invariant.2)) c.self.invariant.2 c.self.invariant.3 c.index.ensures k
+returns-clause-colours c = search (rules, row-read)
 
 pub returns-clause-past : goal.returns-clause-past
 returns-clause-past c = λ k l.
@@ -22,6 +16,4 @@ returns-clause-past c = λ k l.
     row-past m.side c.args.row c.args.row m.rows.items c.index.result.now refl (omega (arith, c.self.invariant.2)) c.self.invariant.3 c.index.ensures k (omega arith)
 
 pub returns-clause-few : goal.returns-clause-few
-returns-clause-few c =
-    let e = ap (λ (g : Grid). g.side) c.self.view_is in
-    omega (arith, c.self.invariant.1)
+returns-clause-few c = search rules

@@ -1,13 +1,12 @@
+use Rattle.std.proofs.Common.{rules}
 use Rattle.std.proofs.{Common.{◌≡◌, ◌≤◌, ℕ, Bool, false, ◌&&◌, cond, leb, ltb, ap, ◌∙◌, arith}, lemmas.Bool.Decides.nat_tests}
-use Rattle.qr_matrix.specs.{Grid.{Grid, colour}, BitRow.has}
+use Rattle.qr_matrix.specs.{Grid.{colour}, BitRow.has}
 use Rattle.qr_matrix.proofs.lemmas.matrix.MatrixLemmas.{columns-are, filled-dark, filled-light, rectangle-none, rectangle-row, view-square, with_row-same}
 use Rattle.qr_matrix.proofs.matrix.Matrix.fill.Goals as goal
 use Rattle.qr_matrix.proofs.matrix.Matrix.fill.Goals.{then-dark, else-dark}
 
 pub loop-row-init : goal.loop-row-init
-loop-row-init c = record {
-  so_far = rectangle-none c.args.self.now c.args.top c.args.left c.args.right c.args.dark (view-square c.self.inside.side c.self.inside.rows.items c.args.self.now c.self.view_is);
-}
+loop-row-init c = search (rules, nat_tests, rectangle-none, view-square)
 
 -- bit k of the row that is written
 row-filled : (c : goal.After-set_bit_row-arg-1) (k : ℕ) → has c.if-dark.filled k ≡ cond (leb c.args.left k && ltb k c.args.right) c.args.dark (has c.bit_row-bits.result k)
@@ -25,9 +24,7 @@ outside : (n l r k : ℕ) (d x : Bool) → r ≤ n → n ≤ k → x ≡ false �
 outside n l r k d x h i e = grind (arith, nat_tests)
 
 pub set_bit_row-requires-clause-past : goal.set_bit_row-requires-clause-past
-set_bit_row-requires-clause-past c = λ k l.
-    let e = ap (λ (g : Grid). g.side) c.loop-row.invariant.so_far in
-    row-filled c k ∙ outside c.loop-row.self.side c.args.left c.args.right k c.args.dark _ (omega arith) l (c.bit_row-bits.ensures.past k l)
+set_bit_row-requires-clause-past c = search (rules, nat_tests, row-filled, outside)
 
 pub loop-row-preserved : goal.loop-row-preserved
 loop-row-preserved c =

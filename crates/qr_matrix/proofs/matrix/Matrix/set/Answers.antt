@@ -1,17 +1,13 @@
+use Rattle.std.proofs.Common.{rules}
 use Rattle.std.proofs.{Common.{set, ap, ◌∙◌, arith}, Math.ListN.length-set}
 use Rattle.qr_matrix.{specs.Grid.Grid, proofs.lemmas.matrix.MatrixLemmas.{rows-set, inside-set, write-step}}
 use Rattle.qr_matrix.proofs.matrix.Matrix.set.Goals as goal
 
 pub index_mut-requires : goal.index_mut-requires
-index_mut-requires c =
-    let m = c.self.inside in
-    let e = ap (λ (g : Grid). g.side) c.self.view_is in
-    omega (arith, m.rows.ok.0, c.self.invariant.2)
+index_mut-requires c = search rules
 
 pub put-requires : goal.put-requires
-put-requires c =
-    let e = ap (λ (g : Grid). g.side) c.self.view_is in
-    omega (arith, c.self.invariant.1)
+put-requires c = search rules
 
 pub invariant_of-self : goal.invariant_of-self
 invariant_of-self c =
@@ -25,8 +21,4 @@ invariant_of-self c =
     )
 
 pub returns : goal.returns
-returns c =
-    let m = c.self.inside in
-    let e = ap (λ (g : Grid). g.side) c.self.view_is in
-    let h = rows-set m.side c.args.row c.args.col c.from.result m.rows.items c.index_mut.result.now c.put.new.self c.args.dark c.from.ensures (omega (arith, c.self.invariant.2)) c.index_mut.ensures.value c.put.ensures in
-    write-step m.side c.args.row c.args.col m.rows.items (set m.rows.items c.from.result c.put.new.self) c.args.self.now c.args.dark c.self.view_is h
+returns c = search (rules, rows-set, write-step)

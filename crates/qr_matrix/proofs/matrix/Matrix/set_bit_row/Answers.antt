@@ -1,25 +1,14 @@
-use Rattle.std.proofs.{Common.{set, refl, ap, ◌∙◌, arith}, Math.ListN.length-set}
+use Rattle.std.proofs.Common.{rules}
+use Rattle.std.proofs.{Common.{set, refl, ap, arith}, Math.ListN.length-set}
 use Rattle.qr_matrix.specs.{Grid.Grid, BitRow.has}
 use Rattle.qr_matrix.proofs.lemmas.matrix.MatrixLemmas.{line-set, line-inside, line-write}
 use Rattle.qr_matrix.proofs.matrix.Matrix.set_bit_row.Goals as goal
 
 pub index_mut-requires : goal.index_mut-requires
-index_mut-requires c =
-    let m = c.self.inside in
-    let e = ap (λ (g : Grid). g.side) c.self.view_is in
-    omega (arith, m.rows.ok.0, c.self.invariant.2)
+index_mut-requires c = search rules
 
 pub invariant_of-self : goal.invariant_of-self
-invariant_of-self c =
-    let m = c.self.inside in
-    let i = c.from.result in
-    let e = ap (λ (g : Grid). g.side) c.self.view_is in
-    let h = line-set m.rows.items c.args.row i c.args.bits c.from.ensures (omega (arith, c.self.invariant.2)) in (
-      c.self.invariant.0,
-      c.self.invariant.1,
-      length-set m.rows.items i c.args.bits ∙ c.self.invariant.2,
-      line-inside m.side c.args.row m.rows.items (set m.rows.items i c.args.bits) c.args.bits h (λ k l. c.requires.past k (omega arith)) c.self.invariant.3,
-    )
+invariant_of-self c = search (rules, line-set, length-set, line-inside)
 
 pub returns : goal.returns
 returns c =

@@ -1,71 +1,108 @@
-use Rattle.std.proofs.{Common.{◌≡◌, ◌<◌, ◌≤◌, ℕ, Bool, ◌+◌, ◌*◌, ◌/◌, ◌%◌, ◌&&◌, ◌||◌, ◌∙◌, true, eqb, ltb, sym, ap, refl, arith}, lemmas.Bool.Decides.nat_tests}
-use Rattle.qr_matrix.{specs.{Grid.{Grid, square, colour}, Steps.bit_in}, proofs.lemmas.matrix.MatrixLemmas.view-square}
-use Rattle.qr_matrix.proofs.lemmas.transposition.TranspositionLemmas.{chosen-none, chosen-square, chosen-more, chosen-same, chosen-all, tile-bit, tile-past, word-none, word-all}
+use Rattle.std.proofs.{Common.{◌≡◌, ◌<◌, ℕ, Bool, false, true, ◌+◌, ◌*◌, ◌/◌, ◌%◌, ◌&&◌, ◌||◌, ◌∙◌, cond, eqb, ltb, get_or, [], length, sym, ap, inl, inr, refl, arith}, lemmas.Bool.{cases_lt, Decides.nat_tests}, Math.ListN.length-set, lemmas.List.get_or_read}
+use Rattle.qr_matrix.specs.{Grid.{Grid}, BitRow.{dark_in, has, has_bit}, Steps.bit_in}
+use Rattle.qr_matrix.proofs.lemmas.{matrix.{GridLemmas.square-same, MatrixLemmas.line-set}}
+use Rattle.qr_matrix.proofs.lemmas.transposition.TranspositionLemmas.{all-stages, mask-at, row-more, tile-bit, tile-past, tile-read, zero-at}
 use Rattle.qr_matrix.proofs.matrix.Matrix.set_transposed.Goals as goal
 
-pub loop-band-init : goal.loop-band-init
-loop-band-init c =
-    let g = c.args.self.now in record {
-      so_far = chosen-none g.side (λ r k. ltb (r / 64) 0) (λ r k. colour c.args.other.now k r) g (view-square c.self.inside.side c.self.inside.rows.items g c.self.view_is) refl (λ r k l m. word-none (r / 64) true);
+pub loop-line-init : goal.loop-line-init
+loop-line-init c = record {
+  long = refl;
+  read = λ r k l m. absurd (omega arith);
+  rest = λ r l. zero-at 64 r 0;
+}
+
+pub exchange-requires-clause-masks : goal.exchange-requires-clause-masks
+unfolding has_bit
+exchange-requires-clause-masks c = mask-at 0x00000000FFFFFFFF 32 refl
+
+pub exchange-requires-in-loop-word-clause-masks : goal.exchange-requires-in-loop-word-clause-masks
+unfolding has_bit
+exchange-requires-in-loop-word-clause-masks c = mask-at 0x0000FFFF0000FFFF 16 refl
+
+pub exchange-requires-in-loop-word-2-clause-masks : goal.exchange-requires-in-loop-word-2-clause-masks
+unfolding has_bit
+exchange-requires-in-loop-word-2-clause-masks c = mask-at 0x00FF00FF00FF00FF 8 refl
+
+pub exchange-requires-in-loop-word-3-clause-masks : goal.exchange-requires-in-loop-word-3-clause-masks
+unfolding has_bit
+exchange-requires-in-loop-word-3-clause-masks c = mask-at 0x0F0F0F0F0F0F0F0F 4 refl
+
+pub exchange-requires-in-loop-word-4-clause-masks : goal.exchange-requires-in-loop-word-4-clause-masks
+unfolding has_bit
+exchange-requires-in-loop-word-4-clause-masks c = mask-at 0x3333333333333333 2 refl
+
+pub exchange-requires-in-loop-word-5-clause-masks : goal.exchange-requires-in-loop-word-5-clause-masks
+unfolding has_bit
+exchange-requires-in-loop-word-5-clause-masks c = mask-at 0x5555555555555555 1 refl
+
+-- a bit after one row more is written: `e` says that the place is in this row, `p` and `n` that it is in the rows before, and in all with this one
+one-more : (e p n q x b d y : Bool) → ((e && q) || (p && q)) ≡ (n && q) → (e ≡ true → x ≡ b) → (e ≡ true → d ≡ cond (p && q) b y) → cond e (cond q x d) (cond (p && q) b y) ≡ cond (n && q) b y
+one-more e p n q x b d y h i j = grind (arith, nat_tests)
+
+pub loop-row-preserved : goal.loop-row-preserved
+unfolding bit_in dark_in
+loop-row-preserved c =
+    let i = c.loop-row.invariant in
+    let band = c.loop-band.band in
+    let word = c.loop-word.word in
+    let row = c.loop-row.row in
+    let rows = c.loop-row.self-inside.rows.items in
+    let tile = c.exchange-in-loop-word-5.new.tile in
+    let at = 64 * band + row in
+    let old = c.index_mut.result.now in
+    let e = ap (λ (g : Grid). g.side) c.self.view_is in
+    let new = c.put_word.new.self in
+    let few : row < 64 = omega (arith, c.min-row-end.ensures, c.loop-row-test.true) in
+    let here : at < length rows = omega (arith, i.long, c.loop-word.invariant.same, c.min-row-end.ensures, c.loop-row-test.true) in
+    let read : old ≡ get_or rows at [] = get_or_read rows at old here c.index_mut.ensures.value [] in
+    record {
+      same = i.same;
+      long = length-set rows at new ∙ i.long;
+      written = λ r k. line-set rows at at new refl here r k
+          ∙ (ap (λ z. cond (eqb r at) z (dark_in rows r k)) (c.put_word.ensures k)
+          ∙ (ap (λ z. cond (eqb r at) (cond (eqb (k / 64) word) (has_bit (get_or tile row 0) (k % 64)) (has old k)) z) (i.written r k)
+          ∙ one-more (eqb r at) (eqb (r / 64) band && ltb r at) _ (eqb (k / 64) word) _ _ _ _ (row-more band row r (eqb (k / 64) word) few)
+          (λ t. let s : r % 64 ≡ row = grind (arith, nat_tests) in ap (λ z. has_bit (get_or tile z 0) (k % 64)) (sym s))
+          (λ t. let s : r ≡ at = grind (arith, nat_tests) in ap (λ w. has w k) (read ∙ ap (λ z. get_or rows z []) (sym s)) ∙ i.written r k)));
     }
 
--- before the first word, the words that are done are those of the bands before
-none-yet : (a b : Bool) (k : ℕ) → a ≡ (a || (b && ltb k 0))
-none-yet a b k = grind (arith, nat_tests)
+-- a place that is not in the band, or not in the word, is as before
+elsewhere : (r k band word : ℕ) (t x y : Bool) → (r / 64 ≡ band → k / 64 < word) → cond ((eqb (r / 64) band && t) && eqb (k / 64) word) x y ≡ y
+elsewhere r k band word t x y h = grind (arith, nat_tests)
 
-pub loop-word-init : goal.loop-word-init
-loop-word-init c =
-    let g = c.args.self.now in
-    let band = c.loop-band.band in record {
-      so_far = c.loop-band.invariant.so_far ∙ chosen-same g.side (λ r k. ltb (r / 64) band) (λ r k. ltb (r / 64) band || (eqb (r / 64) band && ltb (k / 64) 0)) (λ r k. colour c.args.other.now k r) (λ r k. colour c.args.other.now k r) (colour g)
-          (λ r k l m. none-yet (ltb (r / 64) band) (eqb (r / 64) band) (k / 64)) (λ r k l m t. refl);
-    }
+-- a place past the side, if neither the tile nor the square has a bit there
+outside : (p : Bool) (k word : ℕ) (x y : Bool) → (k / 64 ≡ word → x ≡ false) → y ≡ false → cond (p && eqb (k / 64) word) x y ≡ false
+outside p k word x y h e = search (arith, nat_tests)
 
-pub set_tile-requires-clause-whole : goal.set_tile-requires-clause-whole
-set_tile-requires-clause-whole c = chosen-square _ _ _ c.loop-word.invariant.so_far
-
-pub set_tile-requires-clause-past : goal.set_tile-requires-clause-past
-set_tile-requires-clause-past c = λ r k l m h.
-    let e = ap (λ (g : Grid). g.side) c.loop-word.invariant.so_far in
-    tile-past c.loop-band.band c.loop-word.word r k c.args.other.now.side c.tile_of-tile.result c.transpose.new.tile c.args.other.now c.transpose.ensures c.tile_of-tile.ensures l m (omega (arith, c.requires))
-
--- one word more of the band
-one-more : (a b : Bool) (k word : ℕ) → ((b && eqb k word) || (a || (b && ltb k word))) ≡ (a || (b && ltb k (word + 1)))
-one-more a b k word = grind (arith, nat_tests)
+-- a place in the tile has the bit of the tile
+inside : (r k band word : ℕ) (t x y : Bool) → r / 64 ≡ band → k / 64 ≡ word → t ≡ true → cond ((eqb (r / 64) band && t) && eqb (k / 64) word) x y ≡ x
+inside r k band word t x y e f g = grind (arith, nat_tests)
 
 pub loop-word-preserved : goal.loop-word-preserved
 loop-word-preserved c =
-    let g = c.args.self.now in
+    let i = c.loop-word.invariant in
+    let w = c.loop-row.invariant in
+    let n = c.args.self.now.side in
     let other = c.args.other.now in
     let band = c.loop-band.band in
     let word = c.loop-word.word in
-    let now = c.loop-word.self in
-    let e = ap (λ (g : Grid). g.side) c.loop-word.invariant.so_far in
-    let test = λ (r k : ℕ). eqb (r / 64) band && eqb (k / 64) word in record {
-      so_far = c.set_tile.ensures
-          ∙ (chosen-same now.side test test (λ r k. bit_in c.transpose.new.tile (r % 64) (k % 64)) (λ r k. colour other k r) (colour now) (λ r k l m. refl)
-          (λ r k l m t. tile-bit band word r k other.side c.tile_of-tile.result c.transpose.new.tile other c.transpose.ensures c.tile_of-tile.ensures (omega (arith, c.requires)) t)
-          ∙ chosen-more g.side (λ r k. ltb (r / 64) band || (eqb (r / 64) band && ltb (k / 64) word)) test (λ r k. ltb (r / 64) band || (eqb (r / 64) band && ltb (k / 64) (word + 1))) (λ r k. colour other k r) (colour g) now c.loop-word.invariant.so_far
-          (λ r k l m. one-more (ltb (r / 64) band) (eqb (r / 64) band) (k / 64) word));
-    }
-
--- when all words of a band are done, the band is done
-band-done : (r k n band words : ℕ) → k < n → n ≤ 64 * words → (ltb r band || (eqb r band && ltb (k / 64) words)) ≡ ltb r (band + 1)
-band-done r k n band words l m = grind (arith, nat_tests)
-
-pub loop-band-preserved : goal.loop-band-preserved
-loop-band-preserved c =
-    let g = c.args.self.now in
-    let band = c.loop-band.band in
-    let words = c.loop-word.word in
-    let e = ap (λ (g : Grid). g.side) c.self.view_is in record {
-      so_far = c.loop-word.invariant.so_far ∙ chosen-same g.side (λ r k. ltb (r / 64) band || (eqb (r / 64) band && ltb (k / 64) words)) (λ r k. ltb (r / 64) (band + 1)) (λ r k. colour c.args.other.now k r) (λ r k. colour c.args.other.now k r) (colour g)
-          (λ r k l m. band-done (r / 64) k g.side band words m (omega (arith, c.words_for.ensures.most))) (λ r k l m t. refl);
+    let tile = c.exchange-in-loop-word-5.new.tile in
+    let e = ap (λ (g : Grid). g.side) c.self.view_is in
+    let turned = all-stages (bit_in c.loop-line.tile) _ _ _ _ _ (bit_in tile) c.exchange.ensures c.exchange-in-loop-word.ensures c.exchange-in-loop-word-2.ensures c.exchange-in-loop-word-3.ensures c.exchange-in-loop-word-4.ensures c.exchange-in-loop-word-5.ensures in
+    let read = tile-read word band c.loop-line.line other.side c.loop-line.tile other (omega (arith, c.requires, c.words_for.ensures.least)) (omega (arith, c.requires, c.min-line-end.ensures, c.loop-line-test.false)) c.loop-line.invariant.read c.loop-line.invariant.rest in
+    record {
+      same = w.same ∙ i.same;
+      long = w.long ∙ i.same;
+      past = λ r k l. w.written r k ∙ outside _ k word _ _ (λ q. tile-past band word (r % 64) (k % 64) other.side c.loop-line.tile tile other turned read (omega arith) (omega arith) (omega (arith, c.requires))) (i.past r k l);
+      done = λ r k l m q. w.written r k ∙ (elsewhere r k band word _ _ _ (λ e. absurd (omega arith)) ∙ i.done r k l m q);
+      here = λ r k l m e f. w.written r k ∙ elim (cases_lt (k / 64) word) [
+        | inl q ↦ elsewhere r k band word _ _ _ (λ _. q) ∙ i.here r k l m e q
+        | inr q ↦
+            let t : ltb r (64 * band + c.loop-row.row) ≡ true = grind (arith, nat_tests, c.min-row-end.ensures, c.loop-row-test.false, i.same) in
+            let u : (eqb (r / 64) band && eqb (k / 64) word) ≡ true = grind (arith, nat_tests) in
+            inside r k band word _ _ _ e (omega arith) t ∙ tile-bit band word r k other.side c.loop-line.tile tile other turned read (omega (arith, c.requires)) u
+      ];
     }
 
 pub returns : goal.returns
-returns c =
-    let g = c.args.self.now in
-    let e = ap (λ (g : Grid). g.side) c.self.view_is in
-    c.loop-band.invariant.so_far ∙ (chosen-all g.side (λ r k. ltb (r / 64) c.loop-band.band) (λ r k. colour c.args.other.now k r) (colour g) (λ r k l m. word-all r c.loop-band.band g.side true l (omega (arith, c.words_for.ensures.most)))
-    ∙ ap (λ z. square z (λ r k. colour c.args.other.now k r)) (sym c.requires))
+returns c = search (arith, nat_tests, square-same)

@@ -1,4 +1,5 @@
-use Rattle.std.proofs.{Common.{sym, ℕ, Bool, ◌≡◌, ◌+◌, ◌-◌, ◌&&◌, ◌∙◌, inl, inr, ap, cond, leb, ltb, eqb, true, false, refl, arith}, lemmas.Bool.{cases_eq, Decides.nat_tests}}
+use Rattle.std.proofs.Common.{rules}
+use Rattle.std.proofs.{Common.{sym, ℕ, Bool, ◌≡◌, ◌+◌, ◌-◌, ◌&&◌, inl, inr, ap, cond, leb, ltb, eqb, true, false, refl, arith}, lemmas.Bool.{cases_eq, Decides.nat_tests}}
 use mir.Val.{bool_byte}
 use Rattle.qr_matrix.{specs.{Grid.{colour, one_of}, BitRow.has_bit}, proofs.lemmas.matrix.GridLemmas.square-same}
 use Rattle.qr_matrix.proofs.matrix_pair.MatrixPair.set.Goals as goal
@@ -37,8 +38,4 @@ either true d e m n p q = q
 either false d e m n p q = p
 
 pub returns : goal.returns
-returns c = λ s.
-    let a = c.args in
-    let g = one_of a.self.now s in
-    let bits = either s a.dark.0 a.dark.1 c.from.result c.from-2.result c.from.ensures c.from-2.ensures in
-    c.set_columns.ensures s ∙ square-same g.side _ _ (λ r k l m. one-column a.row r a.col k (cond s c.from-2.result c.from.result) (cond s a.dark.1 a.dark.0) (colour g) bits)
+returns c = search (rules, nat_tests, one_of, either, square-same, one-column, colour)

@@ -1,13 +1,14 @@
+use Rattle.std.proofs.Common.{rules}
 use Rattle.std.proofs.{Common.{◌≡◌, ◌∙◌, ℕ, Bool, ap, set, cond, ltb, leb, ◌+◌, ◌-◌, ◌&&◌, ◌≤◌, false, arith}, lemmas.Bool.Decides.nat_tests, Math.ListN.length-set}
 use Rattle.qr_matrix.specs.{Grid.{one_of}, BitRow.{has, has_bit, dark_in}, Steps.{lane, lanes}}
 use Rattle.qr_matrix.proofs.lemmas.{matrix.MatrixLemmas.{line-set, line-inside, line-write, row-of-square, row-past}, row_pair.PairLemmas.{lane-read, lanes-long, lanes-set, one-view, side-of, square-of}}
 use Rattle.qr_matrix.proofs.matrix_pair.MatrixPair.set_columns.Goals as goal
 
 pub put_bits-requires-clause-index_in : goal.put_bits-requires-clause-index_in
-put_bits-requires-clause-index_in c = let e = side-of c.self.inside.side c.self.inside.rows.items c.args.self.now c.self.view_is false in omega (arith, c.self.invariant.1)
+put_bits-requires-clause-index_in c = search (rules, nat_tests, side-of)
 
 pub put_bits-requires-clause-fits : goal.put_bits-requires-clause-fits
-put_bits-requires-clause-fits c = let e = side-of c.self.inside.side c.self.inside.rows.items c.args.self.now c.self.view_is false in omega (arith, c.self.invariant.1)
+put_bits-requires-clause-fits c = search (rules, nat_tests, side-of)
 
 -- no bit from n on is set, if none was and the columns that are set end before it
 past : (n col count k : ℕ) (x y z : Bool) → col + count ≤ n → n ≤ k → z ≡ cond (leb col k && ltb k (col + count)) x y → y ≡ false → z ≡ false

@@ -1,4 +1,4 @@
-use Rattle.std.proofs.Common.{arith}
+use Rattle.std.proofs.Common.{rules}
 use Rattle.qr_matrix.proofs.lemmas.row_pair.PairLemmas.{into-down, last-down, lane-down}
 use Rattle.qr_matrix.proofs.row_pair.RowPairRows.shifted_left.Goals as goal
 
@@ -8,6 +8,4 @@ invariant_of-result c =
     (into-down a.low a.middle k j p.0 p.1, into-down a.middle a.high k j p.1 p.2, last-down a.high k p.2)
 
 pub returns : goal.returns
-returns c =
-    let a = c.self.inside in let p = c.self.invariant in let k = c.from-down.result in let j = c.from-up.result in
-    rw (← c.self.view_is, ← c.from-down.ensures) (λ s i. lane-down a.low a.middle a.high s p.0 p.1 p.2 k j i (omega arith) (omega arith))
+returns c = search (rules, lane-down)

@@ -1,3 +1,4 @@
+use Rattle.std.proofs.Common.{rules}
 use Rattle.qr_matrix.proofs.lemmas.row_pair.PairLemmas.{into-up, first-up, lane-up}
 use Rattle.qr_matrix.proofs.row_pair.RowPairRows.shifted_right.Goals as goal
 
@@ -7,6 +8,4 @@ invariant_of-result c =
     (first-up a.low 1 p.0, into-up a.middle a.low 1 63 p.1 p.0, into-up a.high a.middle 1 63 p.2 p.1)
 
 pub returns : goal.returns
-returns c =
-    let a = c.self.inside in let p = c.self.invariant in
-    rw (← c.self.view_is) (λ s i l. lane-up a.low a.middle a.high s p.0 p.1 p.2 i l)
+returns c = search (rules, lane-up)

@@ -1,0 +1,8 @@
+use Rattle.std.proofs.{Common.arith, lemmas.Bool.Decides.nat_tests}
+use Rattle.qr_matrix.proofs.rows.and_not.Goals as goal
+
+pub returns : goal.returns
+returns g c = λ b k.
+    let e = g.met.R.Rows.bitand_law _ _ _ c.bitand.ensures b k in
+    let h = g.met.R.Rows.bitxor_law _ _ _ c.bitxor.ensures b k in
+    grind (arith, nat_tests)

@@ -1,0 +1,8 @@
+use Rattle.std.proofs.Common.{arith}
+use Rattle.qr_matrix.proofs.lemmas.rows.AdderLemmas.{none-of}
+use Rattle.qr_matrix.proofs.windows.counted.Goals as goal
+
+pub returns-then-is_empty : goal.returns-then-is_empty
+returns-then-is_empty g c = λ b.
+    let e = none-of (g.R.Rows.bit c.added-sum.result.1 b) (c.is_empty.ensures c.if-is_empty.true b) in
+    omega (arith, c.added-sum.ensures b)
