@@ -1,5 +1,5 @@
 -- The lemmas that other crates use.
-pub use Rattle.qr_bits.proofs.lemmas.bits.BitLemmas.{bits_at, bits_of-more, bool_byte-bit, field-more, length-bits_of, length-field, power-fits}
+pub use Rattle.qr_bits.proofs.lemmas.bits.BitLemmas.{bits_at, bits_of-append, bits_of-more, bool_byte-bit, field-join, field-low, field-more, length-bits_of, length-field, power-fits}
 pub use Rattle.qr_bits.proofs.lemmas.segmentation.BytesOnlyLemmas.{assignment-length, bytes-fit}
 pub use Rattle.qr_bits.proofs.lemmas.interpretation.WrittenLemmas.{least-most, may_write-drop, may_write-none, may_write-take}
 pub use Rattle.qr_bits.proofs.lemmas.laws.MeantLemmas.{least-meant}

@@ -12,6 +12,6 @@ pub use Rattle.qr_symbol.proofs.lemmas.reading.RefusalLemmas.{exactly, moved, Fa
 pub use Rattle.qr_symbol.proofs.lemmas.reading.RoundTripLemmas.{symbol-format, symbol-holds, symbol-parsed}
 pub use Rattle.qr_symbol.proofs.lemmas.series.SeriesLemmas.{long-has-no-series, series-joined, series-one}
 pub use Rattle.qr_symbol.proofs.lemmas.series.SizeLemmas.{series-few, series-side, series-some}
-pub use Rattle.qr_symbol.proofs.lemmas.encoding.SymbolLemmas.{symbol-one, version-one}
+pub use Rattle.qr_symbol.proofs.lemmas.encoding.SymbolMakingLemmas.{symbol-one, version-one}
 pub use Rattle.qr_symbol.proofs.lemmas.interleaving.PositionLemmas.{len-most, part-at, part-grown, part-last, part-len, start-most, start-next, start-none, position-in}
 pub use Rattle.qr_symbol.proofs.lemmas.version_choice.FitLemmas.{version-short}

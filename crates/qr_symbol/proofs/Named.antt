@@ -3,7 +3,6 @@ use Rattle.{qr_layout.proofs.Facts.blocks-sound, std.proofs.lemmas.Bool.Decides.
 use Rattle.qr_symbol.proofs.lemmas.interleaving.{CheckLemmas.slice-in, MessageLemmas.data-sizes-whole}
 use Rattle.qr_symbol.proofs.lemmas.interleaving.PositionLemmas.{start-next, start-none}
 use Rattle.qr_symbol.proofs.lemmas.{laws.DistanceLemmas.messages-apart}
-use Rattle.qr_symbol.proofs.lemmas.placement.LightLemmas.{cleared}
 use Rattle.qr_symbol.proofs.lemmas.words.BitLemmas.{word-past}
 use Rattle.qr_symbol.proofs.lemmas.words.SplitLemmas.{all-exchanged-bit, exchanged-bit}
 use Rattle.qr_symbol.proofs.lemmas.reading.ReadLemmas.{read-grid}
@@ -14,9 +13,6 @@ pub ruleset word_bits = (nat_tests, word-past)
 
 -- Bits of a word that are exchanged.
 pub ruleset exchanges = (exchanged-bit, all-exchanged-bit)
-
--- The columns of a strip.
-pub ruleset strips = (cleared)
 
 -- Messages and their blocks.
 pub ruleset slices = (slice-in)

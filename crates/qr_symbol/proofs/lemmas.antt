@@ -1,12 +1,10 @@
 -- Lemmas, in folders by the file of src that they serve, in the order in which they are read.
 pub mod interleaving
 pub mod words
-pub mod spans
 pub mod placement
 pub mod patterns
 pub mod mask
 pub mod canvas
-pub mod choice
 pub mod version_choice
 pub mod encoding
 pub mod collecting

@@ -9,7 +9,7 @@ ghost use Rattle.qr_matrix.specs.Grid.{one_of, IsSquare};
 ghost use Rattle.qr_symbol.specs.Steps.Canvas.{HasPatterns};
 ghost use Rattle.qr_symbol.specs.Steps.Placement.{masked_grid, plain_grid, region_grid};
 
-use crate::mask::{set_both_masked, set_masked};
+use crate::mask::{pattern, set_masked};
 use crate::patterns::{draw_both_formats, draw_fixed, draw_format, region_of};
 use crate::placement::draw_codewords;
 use qr_layout::{Level, Version, format_word};
@@ -82,14 +82,18 @@ impl Canvas {
         draw_format(matrix, self.version, format);
     }
 
-    // As `draw_masked`, but in two squares, each under a mask of its own.
+    // As `draw_masked`, but in two squares, each under a mask of its own. Rows whose indices differ by a multiple of
+    // twelve have the same pattern, and are set together.
     pub(crate) fn draw_both_masked(&self, pair: &mut MatrixPair, masks: (u8, u8))
         requires masks_in { (masks.0 < 8) × (masks.1 < 8) }
         requires squares { (second : Bool) → IsSquare (side_of self.now.version) (one_of pair.old second) }
         ensures { (second : Bool) → one_of pair.new second ≡ masked_grid self.now.version self.now.level
             (if second then masks.1 else masks.0) self.now.region self.now.plain }
     {
-        set_both_masked(pair, &self.plain, &self.region, masks);
+        for first in 0..12 {
+            let patterns = (pattern(masks.0, first), pattern(masks.1, first));
+            pair.set_rows_masked(first, &self.plain, &self.region, patterns);
+        }
         let first = u32::from(format_word(self.level, masks.0));
         let second = u32::from(format_word(self.level, masks.1));
         draw_both_formats(pair, self.version, (first, second));

@@ -13,7 +13,7 @@ ghost use Rattle.qr_layout.specs.Role.{finder_ring, is_alignment_light, role_of}
 ghost use Rattle.qr_layout.specs.Format.{version_word_of};
 ghost use Rattle.qr_matrix.specs.Grid.{square, colour, one_of, IsSquare};
 ghost use Rattle.qr_matrix.specs.BitRow.{has_bit};
-ghost use Rattle.qr_symbol.specs.Steps.Patterns.{fixed_colour, format_bits_or, format_or, is_dark_in_six, is_in_finder_area, paint_of, IsOver};
+ghost use Rattle.qr_symbol.specs.Steps.Patterns.{fixed_colour, format_bits_or, format_or, is_in_finder_area, paint_of, IsOver};
 ghost use Rattle.qr_symbol.specs.Steps.Placement.{region_grid};
 
 use crate::words::{is_bit_set, reversed};
@@ -23,23 +23,6 @@ use qr_layout::{
 };
 use qr_matrix::{Matrix, MatrixPair};
 use std::alloc::{AllocError, Global};
-
-fn clear_rectangles(matrix: &mut Matrix, version: Version, rectangles: &[Rectangle])
-    requires square { IsSquare (side_of version) matrix.old }
-    requires inside { All (IsInside (side_of version)) rectangles.now }
-    ensures { IsOver (side_of version) (λ r c. list_any (is_in_rectangle r c) rectangles.now) (λ _ _. false)
-        (colour matrix.old) matrix.new }
-{
-    for rectangle in rectangles {
-        let Rectangle {
-            top,
-            bottom,
-            left,
-            right,
-        } = *rectangle;
-        matrix.fill(top, bottom, left, right, false);
-    }
-}
 
 // Fills the square around `centre`: the modules at most `distance` rows and at most `distance` columns away from it.
 #[inline]
@@ -107,58 +90,6 @@ pub(crate) fn draw_format(matrix: &mut Matrix, version: Version, format: u32)
     draw_format_bits(matrix, version, format, 9, FORMAT_BITS);
 }
 
-// The format information with its 15 bits in reverse order: bit 14 becomes bit 0. Row 8 of a symbol has the bits in
-// this order, from left to right.
-#[inline(always)]
-fn reversed_format(format: u32) -> u64
-    ensures { (k : ℕ) → k < FORMAT_BITS → has_bit result k ≡ has_bit format (FORMAT_BITS - 1 - k) }
-{
-    reversed(u64::from(format)) >> 49
-}
-
-// Bit `bit` of each of the two numbers.
-#[inline(always)]
-fn both_bits(formats: (u32, u32), bit: u8) -> (bool, bool)
-    ensures { (second : Bool) → (if second then result.1 else result.0)
-        ≡ has_bit (if second then formats.1 else formats.0) bit }
-{
-    (is_bit_set(formats.0, bit), is_bit_set(formats.1, bit))
-}
-
-// Draws the bits of the format information that are in column 8 but not in row 8, for both copies.
-#[inline(always)]
-fn draw_both_down(pair: &mut MatrixPair, version: Version, formats: (u32, u32))
-    requires { (second : Bool) → IsSquare (side_of version) (one_of pair.old second) }
-    ensures { (second : Bool) → one_of pair.new second ≡ square (side_of version)
-        (λ r c. if r == 8 then colour (one_of pair.old second) r c
-        else format_or (if second then formats.1 else formats.0) (role_of version r c) (colour (one_of pair.old second) r c)) }
-{
-    for bit in 0..7 {
-        let place = format_place(bit);
-        pair.set(place.row, place.col, both_bits(formats, bit));
-    }
-    for bit in 8..FORMAT_BITS {
-        let place = second_format_place(version, bit);
-        pair.set(place.row, place.col, both_bits(formats, bit));
-    }
-}
-
-// Draws the bits of the format information that are in row 8, for both copies. The first copy has bits 14 to 9 in
-// columns 0 to 5, then a module of the timing pattern, and then bits 8 and 7. The second copy has bits 7 to 0 in the
-// last eight columns.
-#[inline(always)]
-fn draw_both_across(pair: &mut MatrixPair, version: Version, formats: (u32, u32))
-    requires { (second : Bool) → IsSquare (side_of version) (one_of pair.old second) }
-    ensures { (second : Bool) → one_of pair.new second ≡ square (side_of version)
-        (λ r c. if r == 8 then format_or (if second then formats.1 else formats.0) (role_of version r c)
-        (colour (one_of pair.old second) r c) else colour (one_of pair.old second) r c) }
-{
-    let (first, second) = (reversed_format(formats.0), reversed_format(formats.1));
-    pair.set_columns(8, 0, 6, (first, second));
-    pair.set_columns(8, 7, 2, (first >> 6, second >> 6));
-    pair.set_columns(8, version.side() - 8, 8, (first >> 7, second >> 7));
-}
-
 // As `draw_format`, but draws in two squares, each with a format information of its own. A write to a row has to wait
 // until the previous write to this row is done. So the bits in row 8 are written several at a time, which takes fewer
 // writes.
@@ -168,8 +99,24 @@ pub(crate) fn draw_both_formats(pair: &mut MatrixPair, version: Version, formats
         (λ r c. format_or (if second then formats.1 else formats.0) (role_of version r c)
         (colour (one_of pair.old second) r c)) }
 {
-    draw_both_down(pair, version, formats);
-    draw_both_across(pair, version, formats);
+    // In column 8 the first copy has bits 0 to 6, and the second copy has bits 8 to 14.
+    for bit in 0..7 {
+        let place = format_place(bit);
+        let dark = (is_bit_set(formats.0, bit), is_bit_set(formats.1, bit));
+        pair.set(place.row, place.col, dark);
+    }
+    for bit in 8..FORMAT_BITS {
+        let place = second_format_place(version, bit);
+        let dark = (is_bit_set(formats.0, bit), is_bit_set(formats.1, bit));
+        pair.set(place.row, place.col, dark);
+    }
+    // Row 8 has the bits in reverse order, from left to right. The first copy has bits 14 to 9 in columns 0 to 5, then a
+    // module of the timing pattern, and then bits 8 and 7. The second copy has bits 7 to 0 in the last eight columns.
+    let first = reversed(u64::from(formats.0)) >> 49;
+    let second = reversed(u64::from(formats.1)) >> 49;
+    pair.set_columns(8, 0, 6, (first, second));
+    pair.set_columns(8, 7, 2, (first >> 6, second >> 6));
+    pair.set_columns(8, version.side() - 8, 8, (first >> 7, second >> 7));
 }
 
 // Draws the three corners that have a finder pattern: these patterns with their separators, and the modules beside them
@@ -194,51 +141,9 @@ fn paint_corners(matrix: &mut Matrix, version: Version, format: u32)
     draw_format(matrix, version, format);
 }
 
-// Whether module `at` of row 6 is dark, counted from 0 at the left. Column 6 has the same colours from top to bottom.
-// The first seven and the last seven modules belong to finder patterns, and those next to them to separators. Between
-// the separators is a timing pattern (ISO/IEC 18004:2015, 6.3.5).
-fn is_dark_in_six(side: u8, at: u8) -> bool
-    ensures { result ≡ is_dark_in_six side at }
-{
-    at < 7 || at >= side.saturating_sub(7) || at % 2 == 0
-}
-
-// Draws row 6 and column 6 from end to end, with the modules of finder patterns and separators in them.
-fn paint_timing(matrix: &mut Matrix, version: Version)
-    requires { IsSquare (side_of version) matrix.old }
-    ensures { (format : ℕ) → IsOver (side_of version) is_timing (paint_of version format) (colour matrix.old) matrix.new }
-{
-    let side = version.side();
-    for at in 0..side {
-        let dark = is_dark_in_six(side, at);
-        matrix.set(6, at, dark);
-        matrix.set(at, 6, dark);
-    }
-}
-
 // The number of bits of the version information: six data bits and twelve error correction bits (ISO/IEC 18004:2015,
 // 7.10).
 const VERSION_BITS: u8 = 18;
-
-// Draws both copies of the version information, which symbols have from version 7 on (ISO/IEC 18004:2015, 7.10). One
-// copy is beside the top right finder pattern. The other is beside the bottom left one, with rows and columns
-// exchanged.
-fn paint_version(matrix: &mut Matrix, version: Version)
-    requires { IsSquare (side_of version) matrix.old }
-    ensures { (format : ℕ) → IsOver (side_of version) (is_version_information version) (paint_of version format) (colour matrix.old)
-        matrix.new }
-{
-    if let Some(word) = version.version_word() {
-        let left = version.side() - 11;
-        for bit in 0..VERSION_BITS {
-            let row = bit / 3;
-            let col = left + bit % 3;
-            let dark = is_bit_set(word, bit);
-            matrix.set(row, col, dark);
-            matrix.set(col, row, dark);
-        }
-    }
-}
 
 // Gives all modules of the alignment patterns one colour. A pattern has five by five modules (ISO/IEC 18004:2015,
 // 6.3.6).
@@ -253,32 +158,43 @@ fn fill_alignment(matrix: &mut Matrix, version: Version, centres: &[Place], dark
     }
 }
 
-// Makes the eight modules around each centre light, and leaves the centre as it is.
-fn clear_rings(matrix: &mut Matrix, version: Version, centres: &[Place])
-    requires square { IsSquare (side_of version) matrix.old }
-    requires centres { centres.now ≡ alignment_places (side_of version) (centres_of version) }
-    requires inside { All (IsCentreInside (side_of version)) centres.now }
-    ensures { IsOver (side_of version) (is_alignment_light version) (λ _ _. false) (colour matrix.old) matrix.new }
-{
-    for centre in centres {
-        let dark = matrix.dark(centre.row, centre.col);
-        fill_around(matrix, *centre, 1, false);
-        matrix.set(centre.row, centre.col, dark);
-    }
-}
-
 // Draws all that is outside the region. The region keeps its colours.
 pub(crate) fn draw_fixed(matrix: &mut Matrix, version: Version, format: u32)
     requires { IsSquare (side_of version) matrix.old }
     ensures { matrix.new ≡ square (side_of version) (λ r c. if is_in_region version r c then colour matrix.old r c
         else fixed_colour format (version_word_of version) (role_of version r c)) }
 {
-    let centres = alignment_centres(version);
-    fill_alignment(matrix, version, centres.as_slice(), true);
-    clear_rings(matrix, version, centres.as_slice());
+    let side = version.side();
+    let list = alignment_centres(version);
+    let centres = list.as_slice();
+    fill_alignment(matrix, version, centres, true);
+    // The eight modules around each centre are light. The centre stays as it is.
+    for centre in centres {
+        let dark = matrix.dark(centre.row, centre.col);
+        fill_around(matrix, *centre, 1, false);
+        matrix.set(centre.row, centre.col, dark);
+    }
     paint_corners(matrix, version, format);
-    paint_timing(matrix, version);
-    paint_version(matrix, version);
+    // Row 6 and column 6 have the same colours from end to end. The first seven and the last seven modules belong to
+    // finder patterns, and those next to them to separators. Between the separators is a timing pattern (ISO/IEC
+    // 18004:2015, 6.3.5).
+    for at in 0..side {
+        let dark = at < 7 || at >= side - 7 || at % 2 == 0;
+        matrix.set(6, at, dark);
+        matrix.set(at, 6, dark);
+    }
+    // Symbols have version information from version 7 on (ISO/IEC 18004:2015, 7.10). One copy is beside the top right
+    // finder pattern. The other is beside the bottom left one, with rows and columns exchanged.
+    if let Some(word) = version.version_word() {
+        let left = side - 11;
+        for bit in 0..VERSION_BITS {
+            let row = bit / 3;
+            let col = left + bit % 3;
+            let dark = is_bit_set(word, bit);
+            matrix.set(row, col, dark);
+            matrix.set(col, row, dark);
+        }
+    }
 }
 
 // The square in which exactly the region is dark. First all modules are made dark, and then those outside the region
@@ -289,7 +205,16 @@ pub(crate) fn region_of(alloc: Global, version: Version) -> Result<Matrix, Alloc
     let side = version.side();
     let mut region = Matrix::new(alloc, side)?;
     region.fill(0, side, 0, side, true);
-    clear_rectangles(&mut region, version, fixed_rectangles(version).as_slice());
+    let fixed = fixed_rectangles(version);
+    for rectangle in fixed.as_slice() {
+        let Rectangle {
+            top,
+            bottom,
+            left,
+            right,
+        } = *rectangle;
+        region.fill(top, bottom, left, right, false);
+    }
     fill_alignment(
         &mut region,
         version,

@@ -10,7 +10,7 @@ ghost use Rattle.std.specs.Prelude.{◌≡◌, ℕ, ◌*◌, ◌%◌, ◌+◌, �
 ghost use Rattle.qr_layout.specs.Version.{side_of};
 ghost use Rattle.qr_matrix.specs.Grid.{square, colour, transposed, IsSquare};
 ghost use Rattle.qr_matrix.specs.BitRow.{has, has_bit};
-ghost use Rattle.qr_symbol.specs.Steps.Placement.{number_at, placed_colour, region_grid, walked_colour, AreDrawn, AreLight, IsRegion, IsStripDrawn};
+ghost use Rattle.qr_symbol.specs.Steps.Placement.{number_at, placed_colour, region_grid, walked_colour, AreDrawn, AreLight, IsRegion};
 ghost use Rattle.qr_symbol.specs.Steps.Spans.{AreWithin};
 ghost use Rattle.qr_symbol.specs.Steps.Words.{rank_in};
 
@@ -20,39 +20,8 @@ use crate::words::{bit_at, bits_at, split};
 use qr_layout::{Place, Strip, Version, all_strips, walk};
 use qr_matrix::Matrix;
 
-// The columns of a strip, with all modules of the region made light.
-#[tactic(auto, using(crate::proofs::Named::strips))]
-fn with_light_region(columns: Columns, region: &Columns) -> Columns
-    ensures right { (row : ℕ) → has result.right row ≡ (has columns.right row && not (has region.now.right row)) }
-    ensures left { (row : ℕ) → has result.left row ≡ (has columns.left row && not (has region.now.left row)) }
-{
-    Columns {
-        right: columns.right ^ (columns.right & region.right),
-        left: columns.left ^ (columns.left & region.left),
-    }
-}
-
 // The most rows that are drawn at once: a word of 64 bits has two bits for each row.
 const ROWS_MAX: u8 = 32;
-
-// Draws the `2 * count` highest bits of `bits` into `count` rows, from row `top` down. All modules of these rows are in
-// the region and were light before, so only the modules whose bits are 1 have to be made dark. The bound on `top` is
-// the number of bits in a bit row.
-#[inline(always)]
-fn draw_rows(columns: &mut Columns, top: u8, count: u8, upward: bool, bits: u64)
-    requires top_in { top < 192 }
-    requires some { 1 ≤ count }
-    requires few { count ≤ 32 }
-    requires word { top % 64 + count ≤ 64 }
-    ensures right { (i : ℕ) → has columns.new.right i ≡ (has columns.old.right i || nat_le top i
-        && (nat_lt (i - top) count && has_bit bits (63 - 2 * rank_in count upward (i - top)))) }
-    ensures left { (i : ℕ) → has columns.new.left i ≡ (has columns.old.left i || nat_le top i
-        && (nat_lt (i - top) count && has_bit bits (62 - 2 * rank_in count upward (i - top)))) }
-{
-    let (right, left) = split(bits, upward, count);
-    columns.right.set_bits(top, right);
-    columns.left.set_bits(top, left);
-}
 
 // Draws the columns of a strip. The first bit of the strip has the number `first`, and the function returns the number
 // of the first bit after the strip. The modules of the region were light before, so only the modules whose bits are 1
@@ -80,7 +49,9 @@ fn draw_columns(
         match span {
             Span::Both { top, count } => {
                 let bits = bits_at(codewords, number);
-                draw_rows(columns, top, count, strip.upward, bits);
+                let (right, left) = split(bits, strip.upward, count);
+                columns.right.set_bits(top, right);
+                columns.left.set_bits(top, left);
                 number += 2 * usize::from(count);
             }
             Span::Right { row } => {
@@ -99,46 +70,10 @@ fn draw_columns(
     number
 }
 
-// As `draw_columns`, but takes the columns from the square `across`, and puts them back. `draw_columns` is called in
-// two places, so that the compiler makes separate code for strips that are filled upward and for those that are filled
+// Draws all codewords into the transposed square. Outside the region the square keeps its colours. From each strip the
+// two columns are taken, the region in them is made light, they are drawn, and put back. `draw_columns` is called in two
+// places, so that the compiler makes separate code for strips that are filled upward and for those that are filled
 // downward.
-fn draw_strip(
-    across: &mut Matrix,
-    version: Version,
-    region: &Matrix,
-    codewords: &[u8],
-    first: usize,
-    strip: Strip,
-) -> usize
-    requires square { IsSquare (side_of version) across.old }
-    requires region { region.now ≡ region_grid version }
-    requires left_in { 1 ≤ strip.right }
-    requires right_in { strip.right < side_of version }
-    requires few { first ≤ 29648 }
-    ensures { IsStripDrawn version codewords.now strip first across.old result across.new }
-{
-    let Strip { right, upward } = strip;
-    let within = columns_of(region, right);
-    let mut columns = with_light_region(columns_of(across, right), &within);
-    let next = if upward {
-        let strip = Strip {
-            right,
-            upward: true,
-        };
-        draw_columns(&mut columns, version, &within, codewords, first, strip)
-    } else {
-        let strip = Strip {
-            right,
-            upward: false,
-        };
-        draw_columns(&mut columns, version, &within, codewords, first, strip)
-    };
-    across.set_bit_row(right, columns.right);
-    across.set_bit_row(right - 1, columns.left);
-    next
-}
-
-// Draws all codewords into the transposed square. Outside the region the square keeps its colours.
 pub(crate) fn draw_codewords(
     across: &mut Matrix,
     version: Version,
@@ -153,7 +88,26 @@ pub(crate) fn draw_codewords(
 {
     let mut number = 0;
     for strip in all_strips(version) {
-        number = draw_strip(across, version, region, codewords, number, strip);
+        let Strip { right, upward } = strip;
+        let within = columns_of(region, right);
+        let mut columns = columns_of(across, right);
+        columns.right = columns.right ^ (columns.right & within.right);
+        columns.left = columns.left ^ (columns.left & within.left);
+        number = if upward {
+            let strip = Strip {
+                right,
+                upward: true,
+            };
+            draw_columns(&mut columns, version, &within, codewords, number, strip)
+        } else {
+            let strip = Strip {
+                right,
+                upward: false,
+            };
+            draw_columns(&mut columns, version, &within, codewords, number, strip)
+        };
+        across.set_bit_row(right, columns.right);
+        across.set_bit_row(right - 1, columns.left);
     }
 }
 

@@ -118,19 +118,6 @@ impl Spans {
             rows.ones_from(self.passed).min(self.side - self.passed)
         }
     }
-
-    // The topmost of the next `count` rows.
-    #[inline(always)]
-    fn top(&self, count: u8) -> u8
-        requires { self.now.passed + count ≤ self.now.side }
-        ensures { result ≡ top_row self.now.side self.now.strip self.now.passed count }
-    {
-        if self.strip.upward {
-            self.side - count - self.passed
-        } else {
-            self.passed
-        }
-    }
 }
 
 impl Iterator for Spans {
@@ -149,7 +136,11 @@ impl Iterator for Spans {
         }
         let count = self.rows_set(&self.rows.both).min(self.most);
         if count > 0 {
-            let top = self.top(count);
+            let top = if self.strip.upward {
+                self.side - count - self.passed
+            } else {
+                self.passed
+            };
             self.passed += count;
             return Some(Span::Both { top, count });
         }
@@ -158,7 +149,11 @@ impl Iterator for Spans {
             self.passed += outside;
             return Some(Span::Outside);
         }
-        let row = self.top(1);
+        let row = if self.strip.upward {
+            self.side - 1 - self.passed
+        } else {
+            self.passed
+        };
         self.passed += 1;
         if self.region.right.at(row) {
             Some(Span::Right { row })

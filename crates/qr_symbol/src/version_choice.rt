@@ -5,13 +5,11 @@
 //! versions. Its width changes only after versions 9 and 26. So an input is cut into segments at most once for each of
 //! the ranges 1 to 9, 10 to 26 and 27 to 40.
 
-ghost use Rattle.std.specs.Prelude.{◌≡◌, ◌≤◌, ◌<◌, ◌+◌, ℕ, length, IfOk, MatchOption};
+ghost use Rattle.std.specs.Prelude.{◌≡◌, ◌≤◌, ◌<◌, ◌+◌, ℕ, length, IfOk};
 ghost use Rattle.std.specs.Cow.{cow_slice_items};
 ghost use Rattle.qr_bits.specs.declared.modes.Rule.{Rule};
 ghost use Rattle.qr_bits.specs.declared.interpretation.Interpretation.{Interpretation};
 ghost use Rattle.qr_bits.specs.Interpretation.{interpretation_bits, MayWrite};
-ghost use Rattle.qr_bits.specs.declared.modes.Mode.{Mode};
-ghost use Rattle.qr_bits.specs.Modes.{count_width};
 ghost use Rattle.qr_bits.specs.Segmentation.{bits, Covers};
 ghost use Rattle.qr_bits.specs.Padding.{capacity_of};
 ghost use Rattle.qr_layout.specs.declared.level.Level.{Level};
@@ -42,21 +40,6 @@ const MEDIUM_BYTES: usize = 3288;
 pub(crate) struct Fit<'a> {
     pub version: Version,
     pub segmented: Segmented<'a>,
-}
-
-// The last version of the range that contains `version`: 1 to 9, 10 to 26 or 27 to 40. In all versions of a range,
-// character count indicators have the same widths (7.4.1, Table 3).
-fn last_of_width(version: Version) -> u8
-    ensures least { version ≤ result }
-    ensures most { result ≤ 40 }
-    ensures same { (v : ℕ) → version ≤ v → v ≤ result
-        → (m : Mode) → count_width v m ≡ count_width version m }
-{
-    match version.number() {
-        1..=9 => 9,
-        10..=26 => 26,
-        _ => 40,
-    }
 }
 
 // The number of bits that the segments take, with the ECI header or FNC1 of the interpretation.
@@ -107,23 +90,6 @@ fn first_for(input: &[u8], level: Level, rule: Rule, interpretation: Interpretat
     }
 }
 
-// The first version, from `first` to `last`, that has room for `bits` bits.
-fn first_with_room(level: Level, first: Version, last: u8, bits: u64) -> Option<Version>
-    requires { last ≤ 40 }
-    ensures { MatchOption result
-        ((v : ℕ) → first ≤ v → v ≤ last → capacity_of v level < bits)
-        (λ v. (first ≤ v) × (v ≤ last) × (bits ≤ capacity_of v level)
-        × ((u : ℕ) → first ≤ u → u < v → capacity_of u level < bits)) }
-{
-    for number in first.number()..=last {
-        let version = Version::new(number).unwrap();
-        if bits <= version.capacity(level) {
-            return Some(version);
-        }
-    }
-    None
-}
-
 // Finds the least version, from `smallest` on, that the input fits, and the segments of the input in this version. Goes
 // through the ranges of versions 1 to 9, 10 to 26 and 27 to 40, and cuts the input into segments once for each range.
 // The search ends at the first version that has room for the segments that were cut for its range.
@@ -149,11 +115,20 @@ pub(crate) fn least_fit<'a>(
     let start = first_for(input, level, rule, interpretation);
     let mut first = Version::new(smallest.number().max(start)).unwrap();
     loop {
-        let last = last_of_width(first);
+        // The last version of the range that contains `first`. In all versions of a range, character count indicators
+        // have the same widths (7.4.1, Table 3).
+        let last = match first.number() {
+            1..=SMALL => SMALL,
+            10..=MEDIUM => MEDIUM,
+            _ => 40,
+        };
         let segmented = segments(alloc, input, first, rule, interpretation)?;
         let bits = needed_bits(&segmented, interpretation, first);
-        if let Some(version) = first_with_room(level, first, last, bits) {
-            return Ok(Fit { version, segmented });
+        for number in first.number()..=last {
+            let version = Version::new(number).unwrap();
+            if bits <= version.capacity(level) {
+                return Ok(Fit { version, segmented });
+            }
         }
         match Version::new(last + 1) {
             Some(next) => first = next,

@@ -55,6 +55,7 @@ fn exchange_bits(bits: u64, steps: u32, mask: u64) -> u64
 // o3 o2 o1 o0 e3 e2 e1 e0    after the group of 8
 // ```
 #[inline(always)]
+#[tactic(auto, unfolding(crate::specs::Steps::Words::are_pairs, crate::specs::Steps::Words::are_halves, qr_matrix::specs::BitRow::has_bit))]
 fn unshuffled(bits: u64) -> u64
     ensures { (i : ℕ) → i < 64 → has_bit result i ≡ has_bit bits (2 * (i % 32) + i / 32) }
 {
@@ -67,6 +68,7 @@ fn unshuffled(bits: u64) -> u64
 
 // The inverse of `unshuffled`. It makes the same exchanges in the opposite order.
 #[inline(always)]
+#[tactic(auto, unfolding(crate::specs::Steps::Words::are_pairs, crate::specs::Steps::Words::are_halves, qr_matrix::specs::BitRow::has_bit))]
 fn shuffled(bits: u64) -> u64
     ensures { (i : ℕ) → i < 64 → has_bit result i ≡ has_bit bits (32 * (i % 2) + i / 2) }
 {
@@ -102,6 +104,7 @@ fn exchange_all(bits: u64, steps: u32, mask: u64) -> u64
 // Reverses the order of the 64 bits. `u64::reverse_bits` does the same, but Rattle's kit compiles it to a loop over the
 // bits. The last three exchanges reverse the order of the bytes, and LLVM makes one instruction of them.
 #[inline(always)]
+#[tactic(auto, unfolding(crate::specs::Steps::Words::are_pairs, crate::specs::Steps::Words::are_halves, qr_matrix::specs::BitRow::has_bit))]
 pub(crate) fn reversed(bits: u64) -> u64
     ensures { (i : ℕ) → i < 64 → has_bit result i ≡ has_bit bits (63 - i) }
 {
@@ -157,27 +160,8 @@ pub(crate) fn joined(right: u64, left: u64, upward: bool, count: u8) -> u64
     }
 }
 
-// The codeword at index `index`, or 0 after the last codeword. So the remainder bits are 0 before a mask is applied.
-fn codeword_at(codewords: &[u8], index: usize) -> u8
-    ensures { result ≡ slice_index codewords.now index }
-{
-    codewords.get(index).copied().unwrap_or(0)
-}
-
-// The bits of the eight codewords from index `first` on, with the first bit as the highest.
-fn eight_codewords(codewords: &[u8], first: usize) -> u64
-    requires { first + 8 ≤ length codewords.now }
-    ensures { (k : ℕ) → k < 64 → has_bit result (63 - k) ≡ codeword_bit codewords.now (8 * first + k) }
-{
-    let mut bits = 0u64;
-    for next in 0..8 {
-        bits = 256 * bits + u64::from(codewords[first + next]);
-    }
-    bits
-}
-
-// As `eight_codewords`, but with 0 in place of each codeword after the last one. The bound on `first` follows from the
-// bound on `number` in `bits_at`, since a codeword has eight bits.
+// The bits of the eight codewords from index `first` on, with the first bit as the highest. Each codeword after the last
+// one counts as 0. The bound on `first` follows from the bound on `number` in `bits_at`, since a codeword has eight bits.
 #[inline(never)]
 fn last_codewords(codewords: &[u8], first: usize) -> u64
     requires { first ≤ 5000 }
@@ -185,7 +169,7 @@ fn last_codewords(codewords: &[u8], first: usize) -> u64
 {
     let mut bits = 0u64;
     for next in 0..8 {
-        bits = 256 * bits + u64::from(codeword_at(codewords, first + next));
+        bits = 256 * bits + u64::from(codewords.get(first + next).copied().unwrap_or(0));
     }
     bits
 }
@@ -201,20 +185,25 @@ pub(crate) fn bits_at(codewords: &[u8], number: usize) -> u64
     let first = number / 8;
     let skipped = number % 8;
     let bits = if first + 8 <= codewords.len() {
-        eight_codewords(codewords, first)
+        let mut eight = 0u64;
+        for next in 0..8 {
+            eight = 256 * eight + u64::from(codewords[first + next]);
+        }
+        eight
     } else {
         last_codewords(codewords, first)
     };
-    let ninth = u64::from(codeword_at(codewords, first + 8));
+    let ninth = u64::from(codewords.get(first + 8).copied().unwrap_or(0));
     bits << skipped | ninth >> (8 - skipped)
 }
 
-// Bit `number` of the codewords.
+// Bit `number` of the codewords. After the last codeword all bits are 0, so the remainder bits are 0 before a mask is
+// applied.
 #[tactic(auto, unfolding(qr_matrix::specs::BitRow::has_bit))]
 pub(crate) fn bit_at(codewords: &[u8], number: usize) -> bool
     ensures { result ≡ codeword_bit codewords.now number }
 {
-    let codeword = codeword_at(codewords, number / 8);
+    let codeword = codewords.get(number / 8).copied().unwrap_or(0);
     is_bit_set(u32::from(codeword), 7 - (number % 8) as u8)
 }
 

@@ -1,2 +1,2 @@
--- The function patterns of a canvas, which stay while the codewords of one symbol after another are drawn.
+-- The function patterns of a canvas, which stay while codewords are drawn, and the mask of the least penalty.
 pub mod CanvasLemmas

@@ -1,4 +1,2 @@
 -- The bits of a strip, row by row, are those of the strip's places in the encoding region, in their order.
 pub mod CollectingLemmas
--- Rows of a strip of which all modules are in the encoding region, read at once.
-pub mod RunLemmas

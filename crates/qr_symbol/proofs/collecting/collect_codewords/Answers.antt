@@ -2,7 +2,7 @@ use Rattle.qr_layout.{proofs.Facts.Inside, specs.{Order.{IsOrder, in_region_of},
 use Rattle.{qr_layout.specs.declared.strips.Strip.Strip, qr_symbol.proofs.lemmas.collecting.CollectingLemmas.strip-read}
 use Rattle.qr_symbol.proofs.lemmas.reading.SymbolReadLemmas.{all-read, read-across}
 use Rattle.std.proofs.Common.{◌≤◌, List, ◌++◌, ◌∙◌, ap, sym, subst, append_assoc, append-nil, arith}
-use Rattle.std.{proofs.lemmas.List.Elements.{All-head, All-tail}, specs.List.All, proofs.lemmas.Result.IfOk-weaker}
+use Rattle.std.{proofs.lemmas.List.Elements.{All-tail}, specs.List.All, proofs.lemmas.Result.IfOk-weaker}
 use Rattle.qr_symbol.proofs.collecting.collect_codewords.Goals as goal
 
 pub loop-strip-init : goal.loop-strip-init
@@ -15,11 +15,6 @@ loop-strip-init c =
       whole = subst (λ (xs : List Strip). IsOrder v (in_region_of v (places_of (side_of v) xs))) e c.all_strips-strip-items.ensures.order;
       bits = c.in_ok-bits.ensures;
     }
-
-pub collect_strip-requires : goal.collect_strip-requires
-collect_strip-requires c =
-    let inside = All-head (Inside c.args.version) _ _ (rw c.in-Some.ensures.steps at c.loop-strip.invariant.inside) in
-    record { side = c.requires.side; region = c.requires.region; left_in = inside.0; right_in = inside.1 }
 
 pub loop-strip-preserved : goal.loop-strip-preserved
 loop-strip-preserved c =

@@ -1,5 +1,7 @@
 use Rattle.std.proofs.Common.{◌≡◌, ℕ, ◌+◌, ◌<◌, ap, subst, sym, ◌∙◌, arith}
-use Rattle.{qr_matrix.specs.BitRow.has, qr_symbol.proofs.lemmas.{collecting.RunLemmas.run-bits, spans.SpanLemmas.run-row}}
+use Rattle.qr_matrix.specs.BitRow.{has}
+use Rattle.qr_symbol.proofs.lemmas.collecting.CollectingLemmas.{run-bits}
+use Rattle.qr_symbol.proofs.lemmas.placement.ColumnLemmas.{run-row}
 use Rattle.qr_symbol.specs.Steps.{Spans.row_of, Words.{rank_in, Appends}}
 use Rattle.qr_symbol.proofs.collecting.collect_rows.Goals as goal
 

@@ -1,7 +1,7 @@
 use Rattle.qr_bits.proofs.Facts.{least-most, least_fits}
 use Rattle.qr_symbol.proofs.lemmas.version_choice.FitLemmas.{version-short}
 use Rattle.qr_symbol.proofs.lemmas.encoding.SymbolMakingLemmas.{boosted-found, highest-fits, refused-again, refused-only, symbol-back, version-fits}
-use Rattle.std.proofs.Common.{arith}
+use Rattle.std.proofs.Common.{rules, arith}
 use Rattle.std.proofs.lemmas.Result.{err_from_is_err_and, MatchResult-weaker}
 use Rattle.qr_symbol.proofs.encoding.encode_boosted.Goals as goal
 
@@ -28,7 +28,7 @@ highest_with_room-highest-requires c = let fit = c.in_ok-fit.ensures.fit in
     rw c.needed_bits-bits.ensures (version-fits _ _ _ _ _ _ _ (omega arith) fit.version.most fit.chosen fit.version.fits)
 
 pub symbol_at-requires-clause-room : goal.symbol_at-requires-clause-room
-symbol_at-requires-clause-room c = omega (arith, rw c.needed_bits-bits.ensures at c.highest_with_room-highest.ensures.room)
+symbol_at-requires-clause-room c = search rules
 
 pub returns : goal.returns
 returns c =

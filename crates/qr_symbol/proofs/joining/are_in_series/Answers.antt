@@ -1,4 +1,4 @@
-use Rattle.std.proofs.{Common.{◌-◌, length, refl, sym, ◌∙◌, rules}, lemmas.Bool.false≢true}
+use Rattle.std.proofs.{Common.{sym, ◌∙◌, rules}, lemmas.Bool.false≢true}
 use Rattle.qr_symbol.proofs.lemmas.joining.JoiningLemmas.{headers-next, headers-before, headers-end}
 use Rattle.qr_symbol.proofs.joining.are_in_series.Goals as goal
 
@@ -8,15 +8,7 @@ returns-then-not-has_header c =
     (λ e. absurd (false≢true e), λ w. sym c.if-not-has_header.true ∙ c.has_header.ensures.1 (next (c.loop-position.invariant.there w.1)).0)
 
 pub loop-position-preserved : goal.loop-position-preserved
-loop-position-preserved c =
-    let at = c.index-contents-position.is in
-    let here = c.has_header.ensures.0 c.if-not-has_header.false in record {
-      here = λ h. c.loop-position.invariant.here (headers-before _ _ _ _ _ c.loop-position-test.true at here h);
-      there = λ h. (headers-next _ _ _ _ _ c.loop-position-test.true at (c.loop-position.invariant.there h)).1;
-    }
+loop-position-preserved c = search (rules, headers-next, headers-before)
 
 pub returns : goal.returns
-returns c = (
-  λ _. (search rules, c.loop-position.invariant.here (headers-end (length _ - 1) _ c.loop-position.position _ c.loop-position-test.false)),
-  λ _. refl,
-)
+returns c = search (rules, headers-end)

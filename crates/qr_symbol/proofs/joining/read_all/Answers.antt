@@ -1,3 +1,5 @@
+use Rattle.std.proofs.lemmas.Grind.{common_steps}
+use Rattle.std.proofs.Common.{rules, arith}
 use Rattle.std.proofs.{Common.rules, lemmas.{List.take_all, Result.err_from_is_err_and}}
 use Rattle.qr_symbol.proofs.lemmas.joining.JoiningLemmas.{readings-none, readings-more, unjoined-at}
 use Rattle.qr_symbol.proofs.joining.read_all.Goals as goal
@@ -6,17 +8,13 @@ pub loop-symbol-init : goal.loop-symbol-init
 loop-symbol-init c = search (rules, readings-none)
 
 pub returns-in_err-read_symbol : goal.returns-in_err-read_symbol
-returns-in_err-read_symbol c =
-    let p = err_from_is_err_and c.from_residual-in_err-read_symbol.result c.from_residual-in_err-read_symbol.ensures.1 in
-    rw (p.1, p.2) (unjoined-at _ _ _ _ _ c.loop-symbol-test.true c.symbol-item.is c.loop-symbol.invariant c.in_err-read_symbol.ensures.read)
+returns-in_err-read_symbol c = search (rules, err_from_is_err_and, unjoined-at)
 
 pub loop-symbol-preserved : goal.loop-symbol-preserved
-loop-symbol-preserved c =
-    rw c.in_ok-push.ensures.items (readings-more _ _ _ _ _ c.loop-symbol-test.true c.symbol-item.is c.loop-symbol.invariant c.in_ok-read_symbol.ensures.read)
+loop-symbol-preserved c = grind (arith, common_steps, readings-more)
 
 pub returns-in_err-push : goal.returns-in_err-push
-returns-in_err-push c =
-    let p = err_from_is_err_and c.from_residual-in_err-push.result c.from_residual-in_err-push.ensures.1 in rw (p.1, p.2) tt
+returns-in_err-push c = grind (arith, common_steps, err_from_is_err_and)
 
 pub returns : goal.returns
-returns c = rw (take_all _ c.args.symbols.now c.loop-symbol-test.false) at c.loop-symbol.invariant
+returns c = search (rules, take_all)

@@ -1,4 +1,5 @@
-use Rattle.qr_symbol.proofs.lemmas.series.{LongLemmas.long-refused, SeriesLemmas.{long-fits-none, long-has-no-series}}
+use Rattle.qr_symbol.proofs.lemmas.series.PartExistenceLemmas.{long-refused}
+use Rattle.qr_symbol.proofs.lemmas.series.SeriesLemmas.{long-fits-none, long-has-no-series}
 use Rattle.std.proofs.Common.{arith}
 use Rattle.qr_symbol.proofs.laws.long_inputs_have_none.Goals as goal
 

@@ -1,4 +1,4 @@
-use Rattle.qr_symbol.proofs.lemmas.series.LongLemmas.{none-shorter}
+use Rattle.qr_symbol.proofs.lemmas.series.PartExistenceLemmas.{none-shorter}
 use Rattle.qr_symbol.proofs.lemmas.series.{PartLemmas.needs-parts, PartLemmas.parts-fit, SizeLemmas.series-shortest}
 use Rattle.qr_symbol.proofs.laws.series_are_shortest.Goals as goal
 

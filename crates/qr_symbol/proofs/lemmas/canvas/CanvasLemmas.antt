@@ -1,12 +1,19 @@
--- The function patterns of a canvas, which stay while the codewords of one symbol after another are drawn.
+-- The function patterns of a canvas, which stay while codewords are drawn, and the mask of the least penalty.
 use Rattle.qr_layout.proofs.Facts.{below, below-at, region-symmetric, role-symmetric}
-use Rattle.qr_layout.specs.{Region.is_in_region, Version.side_of}
+use Rattle.qr_layout.specs.Region.{is_in_region}
+use Rattle.qr_layout.specs.Version.{side_of}
 use Rattle.qr_matrix.proofs.Facts.{same-same, square-same, colour-square, colour-transposed}
-use Rattle.qr_matrix.specs.{BitRow.has_bit, Grid.{is_same, Grid, square, colour, transposed}}
-use Rattle.qr_symbol.proofs.lemmas.placement.PlacementLemmas.{by_test, inside, outside, square-is}
-use Rattle.qr_symbol.specs.Steps.{Canvas.HasPatterns, Patterns.{fixed_colour, paint_of, symmetric_format}}
-use Rattle.qr_symbol.specs.Steps.Placement.{placed_colour, plain_grid}
-use Rattle.std.proofs.Common.{◌≡◌, ℕ, ◌<◌, ◌≤◌, true, cond, eqb, List, refl, ◌∙◌, arith}
+use Rattle.qr_matrix.specs.BitRow.{has_bit}
+use Rattle.qr_matrix.specs.Grid.{is_same, Grid, square, colour, transposed}
+use Rattle.qr_symbol.proofs.lemmas.placement.PlacementLemmas.{by_test, inside, outside, square-is, masked-all}
+use Rattle.qr_symbol.specs.Steps.Canvas.{HasPatterns}
+use Rattle.qr_symbol.specs.Steps.Patterns.{fixed_colour, paint_of, symmetric_format}
+use Rattle.qr_symbol.specs.Steps.Placement.{placed_colour, plain_grid, masked_grid, masked_penalty, region_grid}
+use Rattle.std.proofs.Common.{◌≡◌, ℕ, ◌<◌, ◌≤◌, true, cond, eqb, List, refl, ◌∙◌, arith, ap, subst}
+use Rattle.qr_layout.specs.declared.level.Level.{Level}
+use Rattle.qr_symbol.specs.Choice.{IsFirstLeast, IsMask}
+use Rattle.qr_symbol.specs.Symbol.{grid_of}
+use Rattle.qr_symbol.specs.declared.canvas.Canvas.{Canvas}
 
 -- just bit 7 of the symmetric format information is 1, computed
 just-seven : below 15 (λ i. is_same (has_bit symmetric_format i) (eqb i 7)) ≡ true
@@ -30,3 +37,22 @@ patterns-kept v cw g e = search (arith, square-is, outside, colour-square)
 -- codewords drawn on a square with the function patterns, which is then transposed, make the symbol of these codewords
 pub patterns-drawn : (v : ℕ) (cw : List ℕ) (g h : Grid) → 1 ≤ v → HasPatterns v g → h ≡ square (side_of v) (placed_colour v cw (colour (transposed g))) → h ≡ plain_grid v cw
 patterns-drawn v cw g h l p k = k ∙ square-same _ _ _ (search (arith, by_test, inside, outside, colour-transposed, region-symmetric, paint-symmetric))
+
+-- functions with equal values have the same number of the least value
+least-same : (n : ℕ) (f g : ℕ → ℕ) (m : ℕ) → ((k : ℕ) → f k ≡ g k) → IsFirstLeast n f m → IsFirstLeast n g m
+least-same n f g m e h = search arith
+
+-- the least penalty of the drawn symbols is that of the symbols of the codewords
+pub mask-is : (v : ℕ) (l : Level) (cw : List ℕ) (region plain : Grid) (mask : ℕ) → 1 ≤ v → region ≡ region_grid v → plain ≡ plain_grid v cw → IsFirstLeast 8 (masked_penalty v l region plain) mask → IsMask v l cw mask
+mask-is v l cw region plain mask k e f h = least-same 8 _ _ _ (search (arith, masked-all)) h
+
+-- the mask that is best for a canvas is the mask of its codewords
+pub canvas-mask : (v : ℕ) (l : Level) (cw : List ℕ) (k : Canvas) (mask : ℕ) → 1 ≤ v → k.version ≡ v → k.level ≡ l → k.plain ≡ plain_grid v cw
+    → IsFirstLeast 8 (masked_penalty k.version k.level k.region k.plain) mask → IsMask v l cw mask
+canvas-mask v l cw k mask least a b e h =
+    mask-is v l cw _ _ _ least (k.region_is ∙ ap region_grid a) e (subst (λ (w : Level). IsFirstLeast 8 (masked_penalty v w k.region k.plain) mask) b (subst (λ (w : ℕ). IsFirstLeast 8 (masked_penalty w k.level k.region k.plain) mask) a h))
+
+-- what a canvas draws with a mask is the symbol of its codewords
+pub canvas-drawn : (v : ℕ) (l : Level) (cw : List ℕ) (k : Canvas) (mask : ℕ) → 1 ≤ v → k.version ≡ v → k.level ≡ l → k.plain ≡ plain_grid v cw
+    → masked_grid k.version k.level mask k.region k.plain ≡ grid_of v l mask cw
+canvas-drawn v l cw k mask least a b e = search (arith, masked-all)

@@ -1,25 +1,30 @@
 -- The bits of a strip, row by row, are those of the strip's places in the encoding region, in their order.
-use Rattle.qr_layout.specs.{Order.in_region_of, Region.is_in_region, Strips.{both_of, rows_from, places_of}}
-use Rattle.{qr_layout.specs.declared.{region.Place.Place, strips.Strip.Strip}, std.{proofs.lemmas.List.{map-append}}}
-use Rattle.qr_matrix.specs.BitRow.{has}
+use Rattle.qr_layout.specs.Order.{in_region_of}
+use Rattle.qr_layout.specs.Region.{is_in_region}
+use Rattle.qr_layout.specs.Strips.{both_of, rows_from, places_of}
+use Rattle.qr_layout.specs.declared.region.Place.{Place}
+use Rattle.qr_layout.specs.declared.strips.Strip.{Strip}
+use Rattle.std.proofs.lemmas.List.{map-append}
+use Rattle.qr_matrix.specs.BitRow.{has, has_bit}
 use Rattle.qr_matrix.specs.Grid.{Grid, colour}
 use Rattle.qr_symbol.specs.declared.spans.Columns.{Columns}
-use Rattle.qr_symbol.proofs.lemmas.placement.{KeptPlaceLemmas.{kept-append, places-push}, PlacementLemmas.at}
-use Rattle.qr_symbol.specs.Steps.Collecting.{bit_if, bits_in_row, bits_in_rows, colour_across}
+use Rattle.qr_symbol.proofs.lemmas.placement.PlacementLemmas.{kept-append, places-push}
+use Rattle.qr_symbol.proofs.lemmas.placement.PlacementLemmas.{at}
+use Rattle.qr_symbol.specs.Steps.Collecting.{bit_if, bits_in_rows, colour_across}
 use Rattle.qr_symbol.specs.Steps.Words.{Appends, Bits, HasCollected}
-use Rattle.qr_symbol.specs.Steps.Spans.{row_of, AreOutside}
-use Rattle.std.proofs.Common.{◌≡◌, ℕ, zero, suc, ◌+◌, ◌-◌, ◌<◌, ◌≤◌, Bool, true, false, cond, List, [], ◌∷◌, ◌++◌, map, refl, sym, ◌∙◌, ap, subst, append_assoc, append-nil, arith}
+use Rattle.qr_symbol.specs.Steps.Spans.{row_of, AreOutside, AreWholeRows}
+use Rattle.std.proofs.Common.{◌≡◌, ℕ, zero, suc, ◌+◌, ◌-◌, ◌<◌, ◌≤◌, Bool, true, false, cond, List, [], ◌∷◌, ◌++◌, map, refl, append_assoc, append-nil, arith, ◌*◌, sym, ◌∙◌, ap}
+use Rattle.qr_bits.specs.Bits.{field}
 
 -- the bits of n + m rows are those of the first n rows, followed by those of m more
 rows-append : (s : ℕ) (x : Strip) (r y : Columns) (k n m : ℕ) → bits_in_rows s x r y k (n + m) ≡ bits_in_rows s x r y k n ++ bits_in_rows s x r y (k + n) m
-rows-append s x r y k zero m = let e : 0 + m ≡ m = omega arith in let f : k + 0 ≡ k = omega arith in rw (e, f) refl
+rows-append s x r y k zero m = search arith
 rows-append s x r y k (suc n) m =
-    let e : suc n + m ≡ suc (n + m) = omega arith in let f : k + suc n ≡ k + 1 + n = omega arith in
-    rw (e, f) (ap (λ z. bits_in_row r y (row_of s x k) ++ z) (rows-append s x r y (k + 1) n m) ∙ sym (append_assoc (bits_in_row r y (row_of s x k)) _ _))
+    let e : suc n + m ≡ suc (n + m) = omega arith in search (arith, append_assoc, rows-append s x r y (k + 1) n m)
 
 -- bits and then further bits are added
 pub both-added : (a b c : Bits) (more further all : List Bool) → all ≡ more ++ further → Appends more a b → Appends further b c → Appends all a c
-both-added a b c more further all e p q xs i = subst (λ zs. HasCollected zs c) (append_assoc xs more further ∙ ap (λ zs. xs ++ zs) (sym e)) (q _ (p xs i))
+both-added a b c more further all e p q xs i = search (arith, append_assoc)
 
 -- after n rows, m more rows are read
 pub rows-read : (s : ℕ) (x : Strip) (r y : Columns) (k n m h j : ℕ) (a b c : Bits) → h ≡ k + n → j ≡ n + m → Appends (bits_in_rows s x r y k n) a b → Appends (bits_in_rows s x r y h m) b c
@@ -67,5 +72,27 @@ module _ (v s : ℕ) (g : Grid) (x : Strip) (r y : Columns)
 -- the bits of one strip more
 pub strip-read : (v s : ℕ) (f : Place → Bool) (xs : List Strip) (x : Strip) (a b : Bits) → HasCollected (map f (in_region_of v (places_of s xs))) a → Appends (map f (in_region_of v (both_of (rows_from s x 0 s)))) a b
     → HasCollected (map f (in_region_of v (places_of s (xs ++ x ∷ [])))) b
-strip-read v s f xs x a b i q =
-    let e : map f (in_region_of v (places_of s (xs ++ x ∷ []))) ≡ map f (in_region_of v (places_of s xs)) ++ map f (in_region_of v (both_of (rows_from s x 0 s))) = search (arith, map-append, kept-append, places-push) in rw e (q _ i)
+strip-read v s f xs x a b i q = search (arith, map-append, kept-append, places-push)
+
+-- n rows of which all modules are in the region have the bits of a number with two bits for each row, of which the right
+-- column has the higher one; the lowest bits are for the last row
+pub run-bits : (s : ℕ) (x : Strip) (r y : Columns) (k n w : ℕ) → AreWholeRows s x k n r
+    → ((m : ℕ) → m < n → has_bit w (2 * (n - 1 - m) + 1) ≡ has y.right (row_of s x (k + m)))
+    → ((m : ℕ) → m < n → has_bit w (2 * (n - 1 - m)) ≡ has y.left (row_of s x (k + m)))
+    → field (2 * n) w ≡ bits_in_rows s x r y k n
+unfolding field has_bit
+run-bits s x r y k zero w whole p q = refl
+run-bits s x r y k (suc n) w whole p q =
+    let e : 2 * suc n ≡ suc (suc (2 * n)) = omega arith in
+    let f : 2 * (suc n - 1 - 0) ≡ 2 * n = omega arith in
+    let g : 2 * (suc n - 1 - 0) + 1 ≡ suc (2 * n) = omega arith in
+    let h : k + 0 ≡ k = omega arith in
+    let here = whole k (omega arith) (omega arith) in
+    let right = ap (has_bit w) (sym g) ∙ (p 0 (omega arith) ∙ ap (λ z. has y.right (row_of s x z)) h) in
+    let left = ap (has_bit w) (sym f) ∙ (q 0 (omega arith) ∙ ap (λ z. has y.left (row_of s x z)) h) in
+    let at : (m : ℕ) → k + 1 + m ≡ k + (m + 1) = λ m. omega arith in
+    let place : (m : ℕ) → m < n → 2 * (n - 1 - m) ≡ 2 * (suc n - 1 - (m + 1)) = λ m l. omega arith in
+    let rest = run-bits s x r y (k + 1) n w (λ j a b. whole j (omega arith) (omega arith))
+    (λ m l. ap (λ z. has_bit w (z + 1)) (place m l) ∙ (p (m + 1) (omega arith) ∙ ap (λ z. has y.right (row_of s x z)) (sym (at m))))
+    (λ m l. ap (has_bit w) (place m l) ∙ (q (m + 1) (omega arith) ∙ ap (λ z. has y.left (row_of s x z)) (sym (at m)))) in
+    rw (e, here.0, here.1) (cc (right, left, rest))

@@ -14,14 +14,10 @@ use Rattle.qr_symbol.specs.declared.fault.ReadFault.TheVariants as unread
 abbrev pub Refused : {X E : Type 0} → Result X E → (e memory : E) → Type 0 → Type 0
 Refused r e memory P = (r ≡ Err e) ↔ ((r ≢ Err memory) × P)
 
--- a result has one fault
-pub err-same : {X E : Type 0} (r : Result X E) (e f : E) → r ≡ Err e → r ≡ Err f → e ≡ f
-err-same r e f h k = cc
-
 -- what makes it, if with the fact no value is returned, and no other fault than e and lack of memory
 pub exactly : {X E : Type 0} (r : Result X E) (e memory : E) (P : Type 0) → (e ≡ memory → ⊥) → (r ≡ Err e → P)
     → IfOk r (λ _. P → ⊥) → IfErr r (λ g. (P → g ≡ e) ⊎ (g ≡ memory)) → Refused r e memory P
-exactly {X = X} {E = E} r e memory P other f none told = (λ h. (λ m. other (err-same r e _ h m), f h), λ w. back r none told w.0 w.1)
+exactly {X = X} {E = E} r e memory P other f none told = grind arith
   where
     back : (r : Result X E) → IfOk r (λ _. P → ⊥) → IfErr r (λ g. (P → g ≡ e) ⊎ (g ≡ memory)) →
         r ≢ Err memory → P → r ≡ Err e
@@ -33,9 +29,8 @@ exactly {X = X} {E = E} r e memory P other f none told = (λ h. (λ m. other (er
 pub too-many-exactly : (x : List ℕ) (l : Level) (b : Rule) (how : Interpretation) (v : ℕ) (r : Result (Vec Symbol Global) EncodeFault) → MatchResult r
     (λ ss. IsSeries v l b how x ss.items) (λ e. (e ≡ fault.Memory) ⊎ ((e ≡ fault.TooMany) × HasNoSeries v l b how x))
     → Refused r fault.TooMany fault.Memory (HasNoSeries v l b how x)
-too-many-exactly x l b how v (Ok ss) (inl a) = exactly _ _ _ _ (λ e. cc) (λ e. cc) (λ none. none.too_long a.fits) tt
-too-many-exactly x l b how v (Ok ss) (inr a) = let few = a.many in
-    exactly _ _ _ _ (λ e. cc) (λ e. cc) (λ none. absurd (omega (arith, none.too_many a.parts a.split))) tt
+too-many-exactly x l b how v (Ok ss) (inl a) = search (arith, exactly)
+too-many-exactly x l b how v (Ok ss) (inr a) = search (arith, exactly)
 too-many-exactly x l b how v (Err e) (inl m) = exactly _ _ _ _ (λ e. cc) (λ h. cc) tt (inr m)
 too-many-exactly x l b how v (Err e) (inr w) = exactly _ _ _ _ (λ e. cc) (λ _. w.1) tt (inl (λ _. w.0))
 
@@ -54,24 +49,9 @@ long-has-no-version x l b how smallest least long v a c fits = let short = versi
 pub refused-some : {X : Type 0} (smallest : ℕ) (l : Level) (b : Rule) (how : Interpretation) (x : List ℕ) (r : Result X EncodeFault)
     → length x ≢ 0 → length x ≤ 7089 → MatchResult r (λ _. HasNoVersion smallest l b how x → ⊥)
     (λ e. (e ≡ fault.Memory) ⊎ ((e ≡ fault.TooLong) × HasNoVersion smallest l b how x)) → IsRefusedExactly smallest l b how x r
-refused-some smallest l b how x (Ok f) some short fits = record {
-  empty = (λ e. cc, λ none. absurd (some (ap length none)));
-  too_long = exactly _ _ _ _ (λ e. cc) (λ e. cc) fits tt;
-  long = λ more. absurd (omega arith);
-  fault = tt;
-}
-refused-some smallest l b how x (Err e) some short (inl m) = record {
-  empty = (λ e. cc, λ none. absurd (some (ap length none)));
-  too_long = exactly _ _ _ _ (λ e. cc) (λ e. cc) tt (inr m);
-  long = λ more. absurd (omega arith);
-  fault = inr (inr m);
-}
-refused-some smallest l b how x (Err e) some short (inr w) = record {
-  empty = (λ e. cc, λ none. absurd (some (ap length none)));
-  too_long = exactly _ _ _ _ (λ e. cc) (λ _. w.1) tt (inl (λ _. w.0));
-  long = λ more. absurd (omega arith);
-  fault = inr (inl w.0);
-}
+refused-some smallest l b how x (Ok f) some short fits = search (arith, exactly)
+refused-some smallest l b how x (Err e) some short (inl m) = search (arith, exactly)
+refused-some smallest l b how x (Err e) some short (inr w) = search (arith, exactly)
 
 -- an empty input has a series
 pub empty-has-series : (x : List ℕ) (l : Level) (b : Rule) (how : Interpretation) (v : ℕ) → x ≡ [] → HasNoSeries v l b how x → ⊥
@@ -81,7 +61,7 @@ empty-has-series x l b how v e none = none.too_long (subst (FitsVersion v l b ho
 pub check-exactly : (Holds : List ℕ → Type 0) (r : Result (Vec ℕ Global) ReadFault) → MatchResult r (λ d. Holds d.items)
     (λ e. (e ≡ unread.Memory) ⊎ ((e ≡ unread.Check) × ((d : List ℕ) → Holds d → ⊥)))
     → Refused r unread.Check unread.Memory ((d : List ℕ) → Holds d → ⊥)
-check-exactly Holds (Ok d) made = exactly _ _ _ _ (λ e. cc) (λ e. cc) (λ n. n d.items made) tt
+check-exactly Holds (Ok d) made = search (arith, exactly)
 check-exactly Holds (Err e) (inl m) = exactly _ _ _ _ (λ e. cc) (λ h. cc) tt (inr m)
 check-exactly Holds (Err e) (inr w) = exactly _ _ _ _ (λ e. cc) (λ _. w.1) tt (inl (λ _. w.0))
 

@@ -44,7 +44,7 @@ map-each P f g (x ∷ xs) a e = λ i. (e x (a 0 x (omega arith))) i ∷ (map-eac
 
 -- a list is the codewords of all blocks in interleaved order
 interleaved-is : (c : BlockSizes) (xs interleaved : List ℕ) → length interleaved ≡ codeword_count c → (g : IsGathered c interleaved xs) → interleaved ≡ map (codeword_at c xs) g.positions
-interleaved-is c xs interleaved n g = sym (g.same ∙ take_all (codeword_count c) interleaved (omega arith))
+interleaved-is c xs interleaved n g = search (arith, take_all)
 
 -- the data codewords and then the error correction codewords were interleaved
 pub both-interleaved : (b : Blocks) (d es first checks : List ℕ) → ((i : ℕ) → i < block_count (data_sizes b) → IsCorrection (block_of b d i) b.ec_len (part_of (correction_sizes b) es i)) → length first ≡ codeword_count (data_sizes b) → length checks ≡ codeword_count (correction_sizes b) → IsGathered (data_sizes b) first d → IsGathered (correction_sizes b) checks es → IsFinalMessage b d (first ++ checks)
@@ -64,7 +64,7 @@ both-interleaved b d es first checks h m n s t =
       each = λ i l. rw (part i l) (h i l);
       check_positions = t.positions;
       check_order = t.order;
-      whole = ap (λ (xs : List ℕ). xs ++ checks) (interleaved-is _ d first m s) ∙ ap (λ (xs : List ℕ). map (codeword_at (data_sizes b) d) s.positions ++ xs) (interleaved-is _ es checks n t ∙ map-each _ _ _ _ t.order.in_blocks same);
+      whole = cc (interleaved-is _ d first m s, interleaved-is _ es checks n t, map-each _ _ _ _ t.order.in_blocks same);
     }
 
 -- a block is inside the data codewords

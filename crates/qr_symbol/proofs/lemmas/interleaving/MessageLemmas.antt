@@ -7,7 +7,7 @@ use Rattle.qr_symbol.proofs.lemmas.interleaving.RankLemmas.{positions-one, posit
 use Rattle.qr_symbol.proofs.lemmas.interleaving.{CheckLemmas.both-interleaved, PositionLemmas.part-at}
 use Rattle.qr_symbol.specs.{Interleaving.IsChecks, declared.interleaving.BlockSizes.BlockSizes}
 use Rattle.qr_symbol.specs.Interleaving.{block_count, codeword_count, codeword_at, data_sizes, correction_sizes, block_of, check_at, part_of, IsFinalMessage, IsGathered}
-use Rattle.std.proofs.Common.{◌≡◌, ℕ, ◌+◌, ◌-◌, ◌*◌, ◌<◌, ◌≤◌, List, [], ◌∷◌, ◌++◌, map, length, length-append, get_or, refl, sym, ◌∙◌, ap, subst, arith, drop, take}
+use Rattle.std.proofs.Common.{◌≡◌, ℕ, ◌+◌, ◌<◌, ◌≤◌, List, [], ◌∷◌, ◌++◌, map, length, length-append, get_or, refl, sym, ◌∙◌, ap, subst, arith, drop, take}
 use Rattle.std.proofs.{Math.Seq.{take-append_seam, drop-append_seam}, lemmas.List.{length-map, length-drop, length-take-le, ext_get_or, take-append-drop, take-take, take_all}}
 
 -- ---- one final sequence
@@ -53,21 +53,13 @@ final-many b d cw h =
     let m = length-map h.data_positions (codeword_at (data_sizes b) d) in
     let n = length-map h.check_positions (check_at h.corrections) in omega (arith, positions-many)
 
--- the number of codewords in blocks of two lengths
-sizes-sum : (k n r : ℕ) → n * (k + r) + (k + r - k) ≡ k * n + r * (n + 1)
-sizes-sum k n r = omega arith
-
--- the number of codewords in blocks of one length
-sizes-even : (k n : ℕ) → n * (k + 0) + (k + 0 - k) ≡ k * n
-sizes-even k n = omega arith
-
 -- the blocks of the data codewords contain all data codewords
 pub data-sizes-whole : (v : ℕ) (l : Level) → 1 ≤ v → v ≤ 40 → codeword_count (data_sizes (blocks_of v l)) ≡ data_codewords_of v l
-data-sizes-whole v l h k = search (arith, sizes-sum, blocks-sound)
+data-sizes-whole v l h k = grind (arith, blocks-sound)
 
 -- the blocks of data and error correction codewords together contain all codewords of the symbol
 pub sizes-whole : (v : ℕ) (l : Level) → 1 ≤ v → v ≤ 40 → codeword_count (data_sizes (blocks_of v l)) + codeword_count (correction_sizes (blocks_of v l)) ≡ total_codewords_of v
-sizes-whole v l h k = search (arith, blocks-sound, data-sizes-whole, sizes-even)
+sizes-whole v l h k = grind (arith, blocks-sound, data-sizes-whole)
 
 -- a final sequence has as many codewords as the symbol
 pub final-whole : (v : ℕ) (l : Level) (d cw : List ℕ) → 1 ≤ v → v ≤ 40 → IsFinalMessage (blocks_of v l) d cw → length cw ≡ total_codewords_of v
@@ -109,21 +101,13 @@ checks-read b interleaved d xs es n e h g k =
     let w = position-of c (block_count c) j (omega arith) (omega (arith, g.long)) in
     let read = map-at _ _ _ w.0 both (Mem-of-Contains _ w.0 (g.order.complete w.0 w.1)) in
     let here : w.0.block < block_count (data_sizes b) = (let i = w.1.0 in omega arith) in
-    let same = correction-one (block_of b d w.0.block) b.ec_len _ (part_of c es w.0.block) (h.each w.0.block here) (k.each w.0.block here) in
-    let computed : codeword_at c es w.0 ≡ check_at h.corrections w.0 = part-at c es w.0 w.1 ∙ ap (λ (ys : List ℕ). get_or ys w.0.index 0) (sym same) in
-    let index = w.2 in cc)
+    cc (correction-one (block_of b d w.0.block) b.ec_len _ (part_of c es w.0.block) (h.each w.0.block here) (k.each w.0.block here), part-at c es w.0 w.1))
 
 -- ---- a sequence that is read
 
 -- the first codewords of a sequence are gathered as they are in the sequence
 gathered-front : (c : BlockSizes) (interleaved xs : List ℕ) (n : ℕ) → n ≡ codeword_count c → IsGathered c interleaved xs → IsGathered c (take n interleaved) xs
-gathered-front c interleaved xs n e g = record {
-  long = g.long;
-  positions = g.positions;
-  order = g.order;
-  many = g.many;
-  same = g.same ∙ sym (take-take (codeword_count c) n interleaved (omega arith));
-}
+gathered-front c interleaved xs n e g = search (arith, take-take)
 
 -- a sequence is the final sequence of its gathered message, if its error correction codewords are those of the message
 pub message-read : (b : Blocks) (interleaved d es : List ℕ) (n : ℕ) → n ≡ codeword_count (data_sizes b)

@@ -27,7 +27,7 @@ ordered-next c interleaved p b n l m h = elim (cases_lt p (block_len c b)) [
       let below = rank-in c p b t in record {
         positions = h.positions ++ position p b ∷ [];
         order = positions-push c p b _ t h.order;
-        same = cc (map-append (item_at c interleaved) h.positions (position p b ∷ []), take_more interleaved (rank_of c p b) 0 (omega arith), rank-push c p b t, h.same);
+        same = search (arith, map-append, position, take_more, rank_of, rank-push);
       }
   | inr k ↦
       let none : IsPosition c (position p b) → ⊥ = λ t. absurd (let j = t.1 in omega arith) in record {
@@ -77,9 +77,7 @@ pub placed-interleaved : (c : BlockSizes) (b p : ℕ) (interleaved xs : List ℕ
 placed-interleaved c b p interleaved xs i x n u e f h t k w =
     let below = rank-in c p b u in elim (later-cases t b p w) [
       | inl s ↦ get_or-set_other interleaved i (rank_of c t.index t.block) x 0 (λ q. let z = rank-one c t (position p b) k u (q ∙ e) in earlier-other t b p s z.0 z.1) ∙ h t k s
-      | inr s ↦
-          let j : rank_of c t.index t.block ≡ i = cc in
-          ap (λ (z : ℕ). get_or (set interleaved i x) z 0) j ∙ (get_or-set_same interleaved i x 0 (omega arith) ∙ (f ∙ cc))
+      | inr s ↦ search (arith, rank_of, get_or-set_same)
     ]
 
 -- one codeword more is put back into its block
@@ -87,9 +85,7 @@ pub placed-gathered : (c : BlockSizes) (b p : ℕ) (interleaved xs : List ℕ) (
 placed-gathered c b p interleaved xs i x n u e f h t k w =
     let inside = position-in c p b u in elim (later-cases t b p w) [
       | inl s ↦ h t k s ∙ sym (get_or-set_other xs i (start_of c t.block + t.index) x 0 (λ q. let z = position-one c t (position p b) k u (q ∙ e) in earlier-other t b p s z.0 z.1))
-      | inr s ↦
-          let j : start_of c t.block + t.index ≡ i = cc in
-          sym (ap (λ (z : ℕ). get_or (set xs i x) z 0) j ∙ (get_or-set_same xs i x 0 (omega arith) ∙ (f ∙ cc)))
+      | inr s ↦ search (arith, get_or-set_same)
     ]
 
 -- after the last block, all codewords are at their ranks

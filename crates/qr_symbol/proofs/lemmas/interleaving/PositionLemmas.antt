@@ -2,7 +2,7 @@
 use Rattle.qr_layout.proofs.Facts.{Mem, Rises, All-of-Mem}
 use Rattle.qr_symbol.specs.Interleaving.{Position, ComesBefore, block_count, block_len, start_of, IsPosition, IsPositionOrder, codeword_at, codeword_count, part_of}
 use Rattle.qr_symbol.specs.declared.interleaving.BlockSizes.{BlockSizes}
-use Rattle.std.proofs.Common.{◌≡◌, ℕ, zero, suc, ◌+◌, ◌<◌, ◌≤◌, List, [], ◌∷◌, ◌++◌, length, length-drop, drop, get_or, refl, inl, inr, ◌⊎◌, arith}
+use Rattle.std.proofs.Common.{◌≡◌, ℕ, zero, suc, ◌+◌, ◌<◌, ◌≤◌, List, [], ◌∷◌, ◌++◌, length, length-drop, get_or, refl, inl, inr, ◌⊎◌, arith}
 use Rattle.std.proofs.{Math.Nat.{mul-suc, mul-le-mul_left}, lemmas.Bool.Decides.nat_tests}
 use Rattle.std.proofs.lemmas.List.{drop-append-le, drop_at, get_or-drop, get_or-take, length-take, take-append-le, take_all}
 use Rattle.std.{proofs.lemmas.List.Kept.AllPairs-cons, specs.List.{All, AllPairs, AllByRecursion, Contains}}
@@ -140,8 +140,4 @@ part-last c xs es k h l = search (arith, drop_at, take_all)
 
 -- the codeword at a position, in its block
 pub part-at : (c : BlockSizes) (d : List ℕ) (t : Position) → IsPosition c t → codeword_at c d t ≡ get_or (part_of c d t.block) t.index 0
-part-at c d t i =
-    let rest = drop (start_of c t.block) d in
-    let first = get_or-take (block_len c t.block) rest t.index 0 i.1 in
-    let second = get_or-drop (start_of c t.block) d t.index 0 in
-    cc
+part-at c d t i = search (arith, get_or-take, get_or-drop)

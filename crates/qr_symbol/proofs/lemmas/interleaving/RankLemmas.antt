@@ -3,7 +3,7 @@ use Rattle.qr_layout.proofs.Facts.{All-rec, Mem, Mem-at, Mem-of-Contains, Rises-
 use Rattle.qr_symbol.proofs.lemmas.interleaving.PositionLemmas.{position, start-next, start-most}
 use Rattle.qr_symbol.specs.Interleaving.{Position, ComesBefore, block_count, start_of, codeword_count, IsPosition, IsPositionOrder}
 use Rattle.qr_symbol.specs.declared.interleaving.BlockSizes.{BlockSizes}
-use Rattle.std.proofs.Common.{◌≡◌, ℕ, zero, suc, ◌+◌, ◌-◌, ◌*◌, ◌<◌, ◌≤◌, cond, eqb, ltb, List, [], ◌∷◌, map, sym, ◌∙◌, ap, subst, inl, inr, ◌⊎◌, arith}
+use Rattle.std.proofs.Common.{◌≡◌, ℕ, zero, suc, ◌+◌, ◌-◌, ◌*◌, ◌<◌, ◌≤◌, cond, eqb, ltb, List, [], ◌∷◌, map, sym, ◌∙◌, ap, inl, inr, ◌⊎◌, arith}
 use Rattle.std.proofs.{Math.Nat.{mul-suc, mul-le-mul_left, mul_comm}, lemmas.Bool.{cases_lt, Decides.nat_tests}}
 
 -- two positions of codewords at the same index of the message are equal
@@ -60,19 +60,7 @@ rank-across c p a b (inr l) (inr m) e = search (arith, nat_tests)
 
 -- two positions of equal rank are equal
 pub rank-one : (c : BlockSizes) (t u : Position) → IsPosition c t → IsPosition c u → rank_of c t.index t.block ≡ rank_of c u.index u.block → (t.index ≡ u.index) × (t.block ≡ u.block)
-rank-one c t u i j e =
-    let v = position-cases c t.index t.block i in
-    let w = position-cases c u.index u.block j in elim (cases_lt t.index u.index) [
-      | inl k ↦ absurd (let z = rank-below c t u i.0 v w k in omega arith)
-      | inr k ↦ elim (cases_lt u.index t.index) [
-        | inl n ↦ absurd (let z = rank-below c u t j.0 w v n in omega arith)
-        | inr n ↦
-            let q : u.index ≡ t.index = omega arith in
-            let same : rank_of c t.index t.block ≡ rank_of c t.index u.block = e ∙ ap (λ (p : ℕ). rank_of c p u.block) q in
-            let x = subst (λ (p : ℕ). IsRow c p u.block) q w in
-            (sym q, rank-across c t.index t.block u.block v x same)
-      ]
-    ]
+rank-one c t u i j e = search (arith, nat_tests, position-cases, rank-below, rank-across)
 
 -- block b has no codeword with index p, so the number stays the same
 pub rank-pass : (c : BlockSizes) (p b : ℕ) → p ≤ c.short_len → b < block_count c → (IsPosition c (position p b) → ⊥) → rank_of c p (b + 1) ≡ rank_of c p b

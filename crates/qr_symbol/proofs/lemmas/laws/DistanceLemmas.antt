@@ -1,5 +1,5 @@
 -- Messages whose blocks differ in few codewords are the same message.
-use Rattle.std.proofs.Common.{◌≡◌, ℕ, zero, suc, ◌+◌, ◌<◌, ◌≤◌, List, [], ◌++◌, length, take, drop, length-drop, get_or, sym, ap, ◌∙◌, inl, inr, ◌⊎◌, arith}
+use Rattle.std.proofs.Common.{◌≡◌, ℕ, zero, suc, ◌+◌, ◌<◌, ◌≤◌, List, [], length, take, drop, length-drop, get_or, sym, ◌∙◌, inl, inr, ◌⊎◌, arith}
 use Rattle.std.proofs.{Math.Seq.take-add, Math.Seq.take-length, lemmas.Bool.cases_lt, lemmas.List.length-take}
 use Rattle.qr_field.{proofs.Facts.near-same, proofs.Facts.unambiguous-known, specs.Distance.differences}
 use Rattle.qr_layout.{proofs.Facts.laws-of, specs.Blocks.blocks_of, specs.declared.level.Level.Level}
@@ -19,30 +19,23 @@ fronts-same : (c : BlockSizes) (d e : List ℕ) (i : ℕ) → ((j : ℕ) → j <
 fronts-same c d e zero h = cc (start-none c)
 fronts-same c d e (suc i) h =
     let f = fronts-same c d e i (λ j l. h j (omega arith)) in let more : suc i ≡ i + 1 = omega arith in
-    let n = ap (start_of c) more ∙ start-next c i in
-    let a : take (start_of c (suc i)) d ≡ take (start_of c i) d ++ part c d i =
-    ap (λ k. take k d) n ∙ take-add (start_of c i) (block_len c i) d in
-    let b : take (start_of c (suc i)) e ≡ take (start_of c i) e ++ part c e i =
-    ap (λ k. take k e) n ∙ take-add (start_of c i) (block_len c i) e in search arith
+    search (arith, start-next, take-add)
 
 -- lists of codewords with equal blocks are equal
 pub parts-same : (c : BlockSizes) (d e : List ℕ) → length d ≡ codeword_count c → length e ≡ codeword_count c
     → ((j : ℕ) → j < block_count c → part c d j ≡ part c e j) → d ≡ e
-parts-same c d e n m h =
-    sym (take-length d) ∙ (ap (λ k. take k d) n ∙ (fronts-same c d e _ h ∙ (ap (λ k. take k e) (sym m) ∙ take-length e)))
+parts-same c d e n m h = cc (take-length d, fronts-same c d e _ h, take-length e)
 
 -- block i has the same length in two lists of the same length
 part-length : (c : BlockSizes) (d e : List ℕ) (i : ℕ) → length d ≡ length e → length (part c d i) ≡ length (part c e i)
-part-length c d e i h =
-    let a = length-take (block_len c i) (drop (start_of c i) d) in
-    let b = length-take (block_len c i) (drop (start_of c i) e) in search (arith, length-drop)
+part-length c d e i h = search (arith, length-take, length-drop)
 
 -- a block has at most 255 codewords
 part-short : (v : ℕ) (l : Level) (d : List ℕ) (i : ℕ) → 1 ≤ v → v ≤ 40 →
     length (part (data_sizes (blocks_of v l)) d i) + (blocks_of v l).ec_len ≤ 255
 part-short v l d i h k =
     let c = data_sizes (blocks_of v l) in let w = laws-of l v h k in
-    omega (arith, (length-take (block_len c i) (drop (start_of c i) d)), (len-most c i), w.len, w.ec_most)
+    search (arith, length-take, len-most)
 
 -- some number below n has the property P, or all of them have the property Q
 search-below : (P Q : ℕ → Type 0) (n : ℕ) → ((i : ℕ) → i < n → P i ⊎ Q i) →

@@ -1,5 +1,5 @@
 -- The modules of row 8 and column 8 that are beside the finder patterns.
-use Rattle.std.proofs.Common.{◌≡◌, ℕ, ◌+◌, ◌-◌, ◌<◌, ◌≤◌, Bool, true, false, cond, eqb, ◌&&◌, ◌||◌, ◌⊎◌, refl, sym, ◌∙◌, ap, inl, inr, arith}
+use Rattle.std.proofs.Common.{◌≡◌, ℕ, ◌+◌, ◌-◌, ◌<◌, ◌≤◌, Bool, true, false, cond, eqb, ◌&&◌, ◌||◌, ◌⊎◌, refl, ap, inl, inr, arith}
 use Rattle.std.proofs.lemmas.Bool.{cases_eq, cases_lt, Decides.nat_tests}
 use Rattle.qr_layout.proofs.Facts.{dark-module, format-first, format-only, format-second}
 use Rattle.qr_layout.specs.{Format.version_word_of, Region.is_corner, Role.role_of, Format.first_place, Format.second_place}
@@ -31,14 +31,14 @@ timing-dark : (s : ℕ) → 21 ≤ s → is_dark_in_six s 8 ≡ true
 timing-dark s h = grind (arith, nat_tests)
 
 pub timing-left : (v format : ℕ) → 1 ≤ v → true ≡ paint_of v format 8 6
-timing-left v format l = sym (timing-dark (side_of v) (omega arith)) ∙ paint-column_six v 8 format l (omega arith)
+timing-left v format l = search (arith, timing-dark, paint-column_six)
 
 pub timing-top : (v format : ℕ) → 1 ≤ v → true ≡ paint_of v format 6 8
-timing-top v format l = sym (timing-dark (side_of v) (omega arith)) ∙ paint-row_six v 8 format l (omega arith)
+timing-top v format l = search (arith, timing-dark, paint-row_six)
 
 -- the dark module is dark
 pub dark-painted : (v format : ℕ) → 1 ≤ v → v ≤ 40 → true ≡ paint_of v format (side_of v - 8) 8
-dark-painted v format l k = sym (paint-fixed v (side_of v - 8) 8 format true (dark-module v l k))
+dark-painted v format l k = search (arith, paint-fixed, dark-module)
 
 -- a module that contains a bit of the format information gets its colour when this information is drawn
 bit-painted : (v r c format i : ℕ) (w : Bool) → role_of v r c ≡ FormatBit i → format_or format (role_of v r c) w ≡ paint_of v format r c
@@ -88,11 +88,11 @@ row-painted v c format w k1 k2 n l o = elim (cases_lt c 6) [
 -- a place of a corner that is drawn last is beside a finder pattern, in column 8 or in row 8
 beside-column : (s r c : ℕ) → 21 ≤ s → r < s → begun s r c ≡ false → is_corner s r c ≡ true → c ≡ 8
     → (9 ≤ r → s - 8 < r) × (r ≡ 6 → ⊥)
-beside-column s r c h l t u e = (λ a. grind (arith, nat_tests), λ a. grind (arith, nat_tests))
+beside-column s r c h l t u e = search arith
 
 beside-row : (s r c : ℕ) → 21 ≤ s → r < s → c < s → begun s r c ≡ false → is_corner s r c ≡ true
     → (c ≡ 8 → ⊥) → (r ≡ 8) × (8 ≤ c → s - 8 ≤ c) × (c ≡ 6 → ⊥)
-beside-row s r c h l m t u e = (grind (arith, nat_tests), λ a. grind (arith, nat_tests), λ a. grind (arith, nat_tests))
+beside-row s r c h l m t u e = search (arith, nat_tests)
 
 -- drawing the format information does not change the modules outside the corners
 outside-kept : (v r c format : ℕ) (w : Bool) → 1 ≤ v → is_corner (side_of v) r c ≡ false → format_or format (role_of v r c) w ≡ w

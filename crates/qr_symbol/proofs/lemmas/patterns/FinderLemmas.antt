@@ -1,8 +1,8 @@
 -- Finder patterns as three squares, each inside the one before.
 use Rattle.qr_layout.specs.{Region.ring_of, Role.{finder_ring, pattern_colour, role_of}, Version.side_of}
-use Rattle.{qr_layout.specs.declared.role.Role.TheVariants.Fixed, std.proofs.lemmas.Bool.{cases_lt, Decides.nat_tests}}
+use Rattle.{qr_layout.specs.declared.role.Role.TheVariants.Fixed, std.proofs.lemmas.Bool.{Decides.nat_tests}}
 use Rattle.qr_symbol.{proofs.lemmas.patterns.TimingLemmas.paint-fixed, specs.Steps.Patterns.{is_in_finder_area, paint_of}}
-use Rattle.std.proofs.Common.{◌≡◌, ℕ, ◌+◌, ◌-◌, ◌<◌, ◌≤◌, Bool, true, false, not, cond, eqb, ltb, leb, ◌&&◌, refl, sym, ◌∙◌, inl, inr, arith}
+use Rattle.std.proofs.Common.{◌≡◌, ℕ, ◌+◌, ◌-◌, ◌<◌, ◌≤◌, Bool, true, false, not, cond, eqb, ltb, leb, ◌&&◌, sym, ◌∙◌, arith}
 
 -- three squares, painted one inside the other, leave only ring 2 light
 pub three-squares : (n : ℕ) (w x y z : Bool) → x ≡ cond (leb n 3) true w → y ≡ cond (leb n 2) false x → z ≡ cond (leb n 1) true y → z ≡ cond (ltb n 4) (not (eqb n 2)) w
@@ -15,10 +15,7 @@ area-tests b f q w h = grind (arith, nat_tests)
 -- the colour of a place within ring 4 of a finder pattern
 finder-role : (v r c n : ℕ) → finder_ring (side_of v) r c ≡ n → n ≤ 4 → role_of v r c ≡ Fixed (ltb n 4 && not (eqb n 2))
 unfolding role_of pattern_colour
-finder-role v r c n e l = elim (cases_lt n 4) [
-  | inl k ↦ rw (e, below n k) refl
-  | inr k ↦ let f : n ≡ 4 = omega arith in rw (e, f) refl
-]
+finder-role v r c n e l = search (arith, nat_tests)
   where
     below : (n : ℕ) → n < 4 → ltb n 4 ≡ true
     below n l = grind (arith, nat_tests)

@@ -42,7 +42,7 @@ pub format-step : (v format first i : ℕ) (g0 g : Grid) (a b : Place) (d : Bool
     → first ≤ i → i < 15 → g.side ≡ side_of v → IsPlaceIn (side_of v) (first_place i) a → IsPlaceIn (side_of v) (second_place (side_of v) i) b
     → d ≡ has_bit format i → FormatDone v format first i g0 g
     → FormatDone v format first (i + 1) g0 (painted (painted g a.row a.col d) b.row b.col d)
-format-step v format first i g0 g a b d k1 k2 k l s at bt ed h r c m n = let ea = at.same in let ar = at.row in let ac = at.col in let eb = bt.same in let br = bt.row in let bc = bt.col in elim (same-place b.row b.col r c) [
+format-step v format first i g0 g a b d k1 k2 k l s at bt ed h r c m n = let ea = at.same in let eb = bt.same in elim (same-place b.row b.col r c) [
   | inl w ↦
       let q : role_of v b.row b.col ≡ FormatBit i = rw eb (format-second v i k1 k2 l) in
       rw (w.0.0, w.0.1) (colour-painted-here _ _ _ d (omega arith) (omega arith) ∙ bit-drawn _ i _ _ _ d k q ed)
@@ -86,10 +86,7 @@ FormatDown v format n g0 g = (r c : ℕ) → r < side_of v → c < side_of v →
 
 -- two colours that are the same, but for row 8
 but-in-eight : (r : ℕ) (x y z : Bool) → (r ≢ 8 → y ≡ z) → cond (eqb r 8) x y ≡ cond (eqb r 8) x z
-but-in-eight r x y z h = elim (cases_eq r 8) [
-  | inl e ↦ (let t : eqb r 8 ≡ true = grind (arith, nat_tests) in rw t refl)
-  | inr o ↦ (let t : eqb r 8 ≡ false = grind (arith, nat_tests) in rw t (h o))
-]
+but-in-eight r x y z h = search arith
 
 -- at first no bit is drawn
 pub down-start : (v format : ℕ) (g : Grid) → FormatDown v format 0 g g
@@ -108,9 +105,9 @@ down-step : (v format i : ℕ) (g0 g : Grid) (a : Place) (d : Bool) → g.side �
     → role_of v a.row a.col ≡ FormatBit i → IsOnlyOutside v i a
     → d ≡ has_bit format i → FormatDown v format i g0 g → FormatDown v format (i + 1) g0 (painted g a.row a.col d)
 down-step v format i g0 g a d s o ar ac q only ed h r c m n = elim (same-place a.row a.col r c) [
-  | inl w ↦ (let t : eqb a.row 8 ≡ false = grind (arith, nat_tests) in rw (w.0.0, w.0.1, t) (colour-painted-here _ _ _ d (omega arith) (omega arith) ∙ bit-drawn 0 i format _ _ d (omega arith) q ed))
+  | inl w ↦ search (arith, colour-painted-here, bit-drawn)
   | inr w ↦ colour-painted-there _ _ _ r c d (omega arith) (omega arith) w.0 ∙ (h r c m n ∙ but-in-eight r _ _ _ (λ p. bit-kept 0 i format _ _ (λ k.
-      let e = only (record { row = r; col = c }) (format-only v (record { row = r; col = c }) i k).1 p in w.0 (ap (λ (z : Place). z.row) e, ap (λ (z : Place). z.col) e))))
+      let e = only (record { row = r; col = c }) (format-only v (record { row = r; col = c }) i k).1 p in search arith)))
 ]
 
 -- the rows of the places of a bit
@@ -120,29 +117,16 @@ first-row i l e = grind (arith, nat_tests)
 second-row : (n i : ℕ) → 21 ≤ n → 8 ≤ i → cond (ltb i 8) 8 (n - 15 + i) ≡ 8 → ⊥
 second-row n i k l e = grind (arith, nat_tests)
 
-first-in-eight : (i : ℕ) → 7 ≤ i → cond (ltb i 6) i (cond (eqb i 6) 7 8) ≡ 8
-first-in-eight i l = grind (arith, nat_tests)
-
-second-in-eight : (n i : ℕ) → i < 8 → cond (ltb i 8) 8 (n - 15 + i) ≡ 8
-second-in-eight n i l = grind (arith, nat_tests)
-
 -- the bits before bit 7 have the first of their places outside row 8
 pub first-step : (v format i : ℕ) (g0 g : Grid) (a : Place) (d : Bool) → 1 ≤ v → v ≤ 40 → i < 7 → g.side ≡ side_of v → IsPlaceIn (side_of v) (first_place i) a
     → d ≡ has_bit format i → FormatDown v format i g0 g → FormatDown v format (i + 1) g0 (painted g a.row a.col d)
-first-step v format i g0 g a d k1 k2 l s at ed h =
-    let ea = at.same in down-step v format i g0 g a d s (λ e. first-row i l (ap (λ (z : Place). z.row) (sym ea) ∙ e)) at.row at.col (rw ea (format-first v i k1 k2 (omega arith))) (λ m o p. elim o [
-      | inl e ↦ e ∙ sym ea
-      | inr e ↦ absurd (p (ap (λ (z : Place). z.row) e ∙ second-in-eight (side_of v) i (omega arith)))
-    ]) ed h
+first-step v format i g0 g a d k1 k2 l s at ed h = grind (arith, down-step, first-row, format-first, nat_tests)
 
 -- the bits after bit 7 have the second of their places outside row 8
 pub second-step : (v format i : ℕ) (g0 g : Grid) (a : Place) (d : Bool) → 1 ≤ v → v ≤ 40 → 8 ≤ i → i < 15 → g.side ≡ side_of v → IsPlaceIn (side_of v) (second_place (side_of v) i) a
     → d ≡ has_bit format i → FormatDown v format i g0 g → FormatDown v format (i + 1) g0 (painted g a.row a.col d)
 second-step v format i g0 g a d k1 k2 k l s at ed h =
-    let ea = at.same in down-step v format i g0 g a d s (λ e. second-row (side_of v) i (omega arith) k (ap (λ (z : Place). z.row) (sym ea) ∙ e)) at.row at.col (rw ea (format-second v i k1 k2 l)) (λ m o p. elim o [
-      | inl e ↦ absurd (p (ap (λ (z : Place). z.row) e ∙ first-in-eight i (omega arith)))
-      | inr e ↦ e ∙ sym ea
-    ]) ed h
+    grind (arith, down-step, second-row, format-second, nat_tests)
 
 -- bit 7 has both its places in row 8
 pub down-seven : (v format : ℕ) (g0 g : Grid) → FormatDown v format 7 g0 g → FormatDown v format 8 g0 g
@@ -165,7 +149,7 @@ all-bits v format r c other = parts _ (λ i q. (format-only v _ i q).0)
 
 pub down-end : (v format : ℕ) (g0 g : Grid) → IsSquare (side_of v) g → FormatDown v format 15 g0 g
     → g ≡ square (side_of v) (λ r c. cond (eqb r 8) (colour g0 r c) (format_or format (role_of v r c) (colour g0 r c)))
-down-end v format g0 g e h = e ∙ square-same _ _ _ (λ r c l m. h r c l m ∙ ap (cond (eqb r 8) (colour g0 r c)) (all-bits v format r c (colour g0 r c)))
+down-end v format g0 g e h = search (arith, square-same, all-bits)
 
 -- a colour by the role of the module
 is-bit : (format i : ℕ) (q : Role) (x y : Bool) → q ≡ FormatBit i → x ≡ has_bit format i → x ≡ format_or format q y
@@ -188,19 +172,19 @@ module _ (v : ℕ) (least : 1 ≤ v) (most : v ≤ 40) (c : ℕ) (inside : c < s
   in-first : (i : ℕ) → 7 ≤ i → i < 15 → cond (ltb i 8) 8 (cond (eqb i 8) 7 (14 - i)) ≡ c → role_of v 8 c ≡ FormatBit i
   in-first i k l e =
       let f : cond (ltb i 6) i (cond (eqb i 6) 7 8) ≡ 8 = grind (arith, nat_tests) in
-      (λ z. role_of v (sym f z) (sym e z)) ∙ format-first v i least most l
+      cc (format-first v i least most l)
 
   in-second : (i : ℕ) → i < 8 → side_of v - 1 - i ≡ c → role_of v 8 c ≡ FormatBit i
   in-second i l e =
       let f : cond (ltb i 8) 8 (side_of v - 15 + i) ≡ 8 = grind (arith, nat_tests) in
       let h : cond (ltb i 8) (side_of v - 1 - i) 8 ≡ c = grind (arith, nat_tests) in
-      (λ z. role_of v (sym f z) (sym h z)) ∙ format-second v i least most (omega arith)
+      search (arith, format-second)
 
   -- all other columns have none there
   in-none : ((c ≡ 6) ⊎ (9 ≤ c)) → c < side_of v - 8 → (i : ℕ) → role_of v 8 c ≡ FormatBit i → ⊥
   in-none o k i q = elim (format-only v (record { row = 8; col = c }) i q).1 [
-    | inl f ↦ not-first i o (ap (λ (z : Place). z.row) f) (ap (λ (z : Place). z.col) f)
-    | inr f ↦ not-second i (ap (λ (z : Place). z.row) f) (ap (λ (z : Place). z.col) f)
+    | inl f ↦ search arith
+    | inr f ↦ search arith
   ]
     where
       not-first : (i : ℕ) → ((c ≡ 6) ⊎ (9 ≤ c)) → 8 ≡ cond (ltb i 6) i (cond (eqb i 6) 7 8) → c ≡ cond (ltb i 8) 8 (cond (eqb i 8) 7 (14 - i)) → ⊥
@@ -244,7 +228,7 @@ module _ (v : ℕ) (least : 1 ≤ v) (most : v ≤ 40) (c : ℕ) (inside : c < s
 
 -- a colour after a row was written
 row-written : (n row : ℕ) (g h : Grid) (line : ℕ → Bool) → g.side ≡ n → h ≡ with_row g row line → (r c : ℕ) → r < n → c < n → colour h r c ≡ cond (eqb r row) (line c) (colour g r c)
-row-written n row g h line s e r c l m = ap (λ (z : Grid). colour z r c) e ∙ colour-square g.side (λ r c. cond (eqb r row) (line c) (colour g r c)) r c (omega arith) (omega arith)
+row-written n row g h line s e r c l m = search (arith, colour-square)
 
 -- three words that are written into row 8 are its format information, and no other row is changed
 pub across-end : (v format far x y z : ℕ) (g0 g1 g2 g3 : Grid) → 1 ≤ v → v ≤ 40 → g0.side ≡ side_of v → far ≡ side_of v - 8 → AreInRow8 format x y z
@@ -260,13 +244,10 @@ across-end v format far x y z g0 g1 g2 g3 k l s ef words e1 e2 e3 =
     let line2 = λ (c : ℕ). cond (leb 7 c && ltb c 9) (has_bit y (c - 7)) (colour g1 8 c) in
     let line3 = λ (c : ℕ). cond (leb far c && ltb c (far + 8)) (has_bit z (c - far)) (colour g2 8 c) in
     (e3 ∙ ap (λ m. square m (λ r c. cond (eqb r 8) (line3 c) (colour g2 r c))) s2) ∙ square-same n _ _ (λ r c i j. elim (cases_eq r 8) [
-      | inl e ↦ rw e (
-          ap (cond (leb far c && ltb c (far + 8)) (has_bit z (c - far))) (row-written n 8 g1 g2 line2 s1 e2 8 c (omega arith) j
-          ∙ ap (cond (leb 7 c && ltb c 9) (has_bit y (c - 7))) (row-written n 8 g0 g1 line1 s e1 8 c (omega arith) j))
-          ∙ across-at v k l c j format far x y z (colour g0 8 c) ef words)
+      | inl e ↦ cc (row-written n 8 g1 g2 line2 s1 e2 8 c (omega arith) j, row-written n 8 g0 g1 line1 s e1 8 c (omega arith) j, across-at v k l c j format far x y z (colour g0 8 c) ef words)
       | inr o ↦
           let t : eqb r 8 ≡ false = grind (arith, nat_tests) in
-          rw t ((row-written n 8 g1 g2 line2 s1 e2 r c i j ∙ ap (λ q. cond q (line2 c) (colour g1 r c)) t) ∙ (row-written n 8 g0 g1 line1 s e1 r c i j ∙ ap (λ q. cond q (line1 c) (colour g0 r c)) t))
+          cc (row-written n 8 g1 g2 line2 s1 e2 r c i j, row-written n 8 g0 g1 line1 s e1 r c i j)
     ])
 
 -- what is drawn in all other rows, and then in row 8, is the format information
@@ -274,8 +255,7 @@ pub both-parts : (v format : ℕ) (g0 g1 g2 : Grid)
     → g1 ≡ square (side_of v) (λ r c. cond (eqb r 8) (colour g0 r c) (format_or format (role_of v r c) (colour g0 r c)))
     → g2 ≡ square (side_of v) (λ r c. cond (eqb r 8) (format_or format (role_of v r c) (colour g1 r c)) (colour g1 r c))
     → g2 ≡ square (side_of v) (λ r c. format_or format (role_of v r c) (colour g0 r c))
-both-parts v format g0 g1 g2 e f = f ∙ square-same _ _ _ (λ r c l m.
-    joined (eqb r 8) (format_or format (role_of v r c)) _ _ (ap (λ (h : Grid). colour h r c) e ∙ colour-square (side_of v) (λ r c. cond (eqb r 8) (colour g0 r c) (format_or format (role_of v r c) (colour g0 r c))) r c l m))
+both-parts v format g0 g1 g2 e f = search (arith, square-same, colour-square)
   where
     joined : (t : Bool) (h : Bool → Bool) (x y : Bool) → y ≡ cond t x (h x) → cond t (h y) y ≡ h x
     joined true h x y e = ap h e

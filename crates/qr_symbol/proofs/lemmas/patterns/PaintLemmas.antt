@@ -10,10 +10,7 @@ use Rattle.std.{proofs.lemmas.{Bool.Decides.nat_tests, List.{take_more, Folds.li
 -- a square with these colours
 pub over-is : {s : ℕ} {g : Grid} (t f h : ℕ → ℕ → Bool)
     → g ≡ square s (λ r c. cond (t r c) (f r c) (h r c)) → IsOver s t f h g
-over-is {s} {g} t f h e = record {
-  square = square-is s (λ r c. cond (t r c) (f r c) (h r c)) g e;
-  colours = search (arith, colour-square);
-}
+over-is {s} {g} t f h e = search (arith, square-is, colour-square)
 
 -- the side of a painted square
 pub over-side : {s : ℕ} {t f h : ℕ → ℕ → Bool} {g : Grid} → IsOver s t f h g → g.side ≡ s
@@ -36,12 +33,12 @@ over-twice {s} {t} {u} {f} {h} w e k d = search (arith, twice)
 -- if no place passes the test, the square is unchanged
 pub over-none : {s : ℕ} {t f : ℕ → ℕ → Bool} {g : Grid} → IsSquare s g →
     ((r c : ℕ) → r < s → c < s → t r c ≡ false) → IsOver s t f (colour g) g
-over-none e d = record { square = e; colours = λ r c l m. rw (d r c l m) refl }
+over-none e d = search arith
 
 -- two tests that agree paint the same
 pub over-same : {s : ℕ} {t u f h : ℕ → ℕ → Bool} {g : Grid} → IsOver s t f h g
     → ((r c : ℕ) → r < s → c < s → t r c ≡ u r c) → IsOver s u f h g
-over-same e d = record { square = e.square; colours = λ r c l m. rw (← d r c l m) (e.colours r c l m) }
+over-same e d = search arith
 
 -- one place is painted
 pub over-place : {s : ℕ} (f : ℕ → ℕ → Bool) (g g' : Grid) (row col : ℕ) (d : Bool) → g.side ≡ s
@@ -79,15 +76,11 @@ no_rectangle = record { top = 0; bottom = 0; left = 0; right = 0 }
 pub square-rings : (a b d r c : ℕ) → (leb (a - d) r && ltb r (a + d + 1) && leb (b - d) c && ltb c (b + d + 1)) ≡ leb (ring_of a b r c) d
 square-rings a b d r c = grind (arith, nat_tests)
 
--- the ring is what is left of its square if the centre gets back its colour
-ring-left : (a b r c : ℕ) (w x y : Bool) → x ≡ cond (leb (ring_of a b r c) 1) false w → y ≡ cond (eqb r a && eqb c b) w x → y ≡ cond (eqb (ring_of a b r c) 1) false w
-ring-left a b r c w x y d e = grind (arith, nat_tests)
-
 pub over-ring : {s : ℕ} {g' g'' : Grid} (g : Grid) (a b : ℕ) →
     IsOver s (λ r c. leb (ring_of a b r c) 1) (λ _ _. false) (colour g) g' →
     g'' ≡ painted g' a b (colour g a b) → IsOver s (λ r c. eqb (ring_of a b r c) 1) (λ _ _. false) (colour g) g''
 over-ring g a b e p = let d = over-place (colour g) _ _ a b _ (over-side e) refl p in
-    record { square = d.square; colours = λ r c l m. ring-left a b r c _ _ _ (e.colours r c l m) (d.colours r c l m) }
+    grind (arith, nat_tests)
 
 -- ---- tests with other brackets
 

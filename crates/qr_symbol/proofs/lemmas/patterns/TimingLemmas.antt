@@ -2,8 +2,8 @@
 use Rattle.qr_layout.specs.{Format.version_word_of, Region.is_timing, Role.{finder_ring, pattern_colour, role_of}}
 use Rattle.qr_layout.specs.{Version.side_of, declared.role.Role.TheVariants.Fixed}
 use Rattle.qr_symbol.specs.Steps.Patterns.{fixed_colour, is_dark_in_six, paint_of}
-use Rattle.std.proofs.Common.{◌≡◌, ℕ, ◌+◌, ◌-◌, ◌%◌, ◌<◌, ◌≤◌, Bool, true, false, eqb, ltb, ◌&&◌, ◌||◌, refl, sym, ◌∙◌, ap, inl, inr, arith}
-use Rattle.std.proofs.lemmas.Bool.{cases_lt, Decides.nat_tests}
+use Rattle.std.proofs.Common.{◌≡◌, ℕ, ◌+◌, ◌-◌, ◌%◌, ◌<◌, ◌≤◌, Bool, true, false, eqb, ltb, ◌&&◌, ◌||◌, refl, ap, arith}
+use Rattle.std.proofs.lemmas.Bool.{Decides.nat_tests}
 
 -- a place in ring 3 of a finder pattern is dark
 ring-three : (v r c : ℕ) → finder_ring (side_of v) r c ≡ 3 → role_of v r c ≡ Fixed true
@@ -25,19 +25,7 @@ record AreRingsOfSix (s at ring : ℕ) : Type 0 where
 -- row 6, or column 6: its ends are in ring 3 and ring 4 of finder patterns, and between them is a timing pattern
 six : (v r c at : ℕ) → 21 ≤ side_of v → at < side_of v → AreRingsOfSix (side_of v) at (finder_ring (side_of v) r c)
     → (7 < at → at < side_of v - 8 → role_of v r c ≡ Fixed (eqb (at % 2) 0)) → role_of v r c ≡ Fixed (is_dark_in_six (side_of v) at)
-six v r c at least inside rings off = let near = rings.near in let far = rings.far in let seven = rings.seven in let eight = rings.eight in elim (cases_lt at 7) [
-  | inl l ↦ search (arith, ring-three)
-  | inr l ↦ elim (cases_lt at _) [
-    | inr m ↦ ring-three v r c (far m) ∙ ap Fixed (sym (dark-far _ at m))
-    | inl m ↦ elim (cases_lt 7 at) [
-      | inr n ↦ search (arith, ring-four)
-      | inl n ↦ elim (cases_lt at _) [
-        | inr o ↦ search (arith, ring-four)
-        | inl o ↦ off n o ∙ ap Fixed (sym (between _ at l m))
-      ]
-    ]
-  ]
-]
+six v r c at least inside rings off = search (arith, ring-three, ring-four)
   where
     dark-far : (s at : ℕ) → s - 7 ≤ at → is_dark_in_six s at ≡ true
     dark-far s at l = grind (arith, nat_tests)
@@ -52,7 +40,7 @@ five-on n h = (grind (arith, nat_tests), grind (arith, nat_tests))
 -- between the finder patterns row 6 is a timing pattern
 row-off : (v at : ℕ) → 5 ≤ finder_ring (side_of v) 6 at → role_of v 6 at ≡ Fixed (eqb (at % 2) 0)
 unfolding role_of pattern_colour
-row-off v at h = rw ((five-on (finder_ring (side_of v) 6 at) h).0, (five-on (finder_ring (side_of v) 6 at) h).1) refl
+row-off v at h = search (arith, five-on)
 
 -- between the finder patterns column 6 is a timing pattern
 column-off : (v at : ℕ) → 5 ≤ finder_ring (side_of v) at 6 → 7 < at → role_of v at 6 ≡ Fixed (eqb (at % 2) 0)
@@ -79,11 +67,11 @@ paint-fixed v r c format dark e = ap (fixed_colour format (version_word_of v)) e
 
 -- the colour that a module of row 6 is painted with
 pub paint-row_six : (v at format : ℕ) → 1 ≤ v → at < side_of v → is_dark_in_six (side_of v) at ≡ paint_of v format 6 at
-paint-row_six v at format l h = sym (paint-fixed v 6 at format (is_dark_in_six (side_of v) at) (row-six v at l h))
+paint-row_six v at format l h = search (arith, paint-fixed, row-six)
 
 -- the colour that a module of column 6 is painted with
 pub paint-column_six : (v at format : ℕ) → 1 ≤ v → at < side_of v → is_dark_in_six (side_of v) at ≡ paint_of v format at 6
-paint-column_six v at format l h = sym (paint-fixed v at 6 format (is_dark_in_six (side_of v) at) (column-six v at l h))
+paint-column_six v at format l h = search (arith, paint-fixed, column-six)
 
 -- the painted modules of row 6 and column 6, with one module more of each
 pub six-more : (at r c : ℕ) → ((eqb r 6 && ltb c (at + 1)) || (eqb c 6 && ltb r (at + 1)))

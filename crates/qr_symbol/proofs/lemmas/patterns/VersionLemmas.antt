@@ -3,7 +3,7 @@ use Rattle.qr_layout.proofs.Facts.{version-first, version-second}
 use Rattle.qr_layout.specs.{Format.version_word_of, Region.is_version_information, Role.role_of, Version.side_of}
 use Rattle.{qr_layout.specs.declared.role.Role.TheVariants.VersionBit, qr_matrix.specs.BitRow.has_bit}
 use Rattle.{qr_symbol.specs.Steps.Patterns.{fixed_colour, paint_of}, std.proofs.lemmas.Bool.Decides.nat_tests}
-use Rattle.std.proofs.Common.{◌≡◌, ℕ, ◌+◌, ◌-◌, ◌*◌, ◌/◌, ◌%◌, ◌<◌, ◌≤◌, Bool, false, eqb, ltb, leb, ◌&&◌, ◌||◌, sym, ap, arith}
+use Rattle.std.proofs.Common.{◌≡◌, ℕ, ◌+◌, ◌-◌, ◌*◌, ◌/◌, ◌%◌, ◌<◌, ◌≤◌, Bool, false, eqb, ltb, leb, ◌&&◌, ◌||◌, ap, arith}
 
 -- the places of the first n bits beside the top right finder pattern
 abbrev part : ℕ → ℕ → ℕ → ℕ → Bool
@@ -32,7 +32,7 @@ bit-colour v r c format i e = ap (fixed_colour format (version_word_of v)) e
 
 -- the colour of bit i at its two places
 pub version-here : (v format i : ℕ) → 7 ≤ v → v ≤ 40 → i < 18 → has_bit (version_word_of v) i ≡ paint_of v format (i / 3) (side_of v - 11 + i % 3)
-version-here v format i h k l = sym (bit-colour v (i / 3) (side_of v - 11 + i % 3) format i (version-first v i h k l))
+version-here v format i h k l = search (arith, bit-colour, version-first)
 
 pub version-there : (v format i : ℕ) → 7 ≤ v → v ≤ 40 → i < 18 → has_bit (version_word_of v) i ≡ paint_of v format (side_of v - 11 + i % 3) (i / 3)
-version-there v format i h k l = sym (bit-colour v (side_of v - 11 + i % 3) (i / 3) format i (version-second v i h k l))
+version-there v format i h k l = search (arith, bit-colour, version-second)

@@ -3,29 +3,23 @@ use Rattle.qr_layout.proofs.Facts.{region-symmetric}
 use Rattle.qr_layout.specs.{Region.is_in_region, Version.side_of, declared.strips.Strip.Strip}
 use Rattle.qr_matrix.{proofs.Facts.colour-square, specs.{BitRow.has, Grid.{Grid, colour, with_row, IsSquare}}}
 use Rattle.qr_symbol.proofs.lemmas.placement.PlacementLemmas.{square-is}
-use Rattle.qr_symbol.proofs.lemmas.spans.SpanLemmas.{row-small}
+use Rattle.qr_symbol.proofs.lemmas.placement.ColumnLemmas.{row-small}
 use Rattle.qr_symbol.specs.Steps.Placement.{number_at, region_grid, AreDrawn, IsStripDrawn}
 use Rattle.qr_symbol.specs.Steps.Spans.{row_of}
 use Rattle.std.proofs.lemmas.Bool.Decides.{nat_tests}
 use Rattle.qr_symbol.specs.declared.spans.Columns.{Columns}
-use Rattle.std.proofs.Common.{◌≡◌, ℕ, ◌-◌, ◌<◌, ◌≤◌, Bool, not, cond, eqb, ◌&&◌, List, refl, ◌∙◌, ap, arith}
+use Rattle.std.proofs.Common.{◌≡◌, ℕ, ◌-◌, ◌<◌, ◌≤◌, Bool, not, cond, ◌&&◌, List, refl, ◌∙◌, ap, arith}
 
 -- the square of the encoding region, read with row and column exchanged, says whether a place is in the region
 pub region-across : (v : ℕ) (g : Grid) (row col : ℕ) → g ≡ region_grid v → row < side_of v → col < side_of v → colour g col row ≡ is_in_region v row col
-region-across v g row col e k l = ap (λ (z : Grid). colour z col row) e ∙ (colour-square _ _ col row l k ∙ region-symmetric v col row)
-
--- inside a square with two rows replaced, the colours are those of the rows or of the square
-two-rows : (g : Grid) (a b : ℕ) (f h : ℕ → Bool) (r c : ℕ) → r < g.side → c < g.side
-    → colour (with_row (with_row g a f) b h) r c ≡ cond (eqb r b) (h c) (cond (eqb r a) (f c) (colour g r c))
-two-rows g a b f h r c l m = colour-square _ (λ r c. cond (eqb r b) (h c) (colour (with_row g a f) r c)) r c l m
-    ∙ ap (cond _ (h c)) (colour-square _ (λ r c. cond (eqb r a) (f c) (colour g r c)) r c l m)
+region-across v g row col e k l = search (arith, colour-square, region-symmetric)
 
 -- the colours of the two rows, and of the others
 two-colours : (g : Grid) (a b : ℕ) (f h : ℕ → Bool) (r c : ℕ) → r < g.side → c < g.side → (a ≡ b
     → ⊥) → (r ≡ a → colour (with_row (with_row g a f) b h) r c ≡ f c) × (r ≡ b
     → colour (with_row (with_row g a f) b h) r c ≡ h c) × ((r ≡ a → ⊥) → (r ≡ b → ⊥)
     → colour (with_row (with_row g a f) b h) r c ≡ colour g r c)
-two-colours g a b f h r c l m n = search (arith, two-rows, nat_tests)
+two-colours g a b f h r c l m n = grind (arith, colour-square, nat_tests)
 
 -- a module in the region gets its bit also if it was made light before
 drawn-light : (t p q w z : Bool) → z ≡ cond t w q → q ≡ (p && not t) → z ≡ cond t w p

@@ -1,13 +1,37 @@
--- The columns of a strip, held apart from the square in which they are two rows.
-use Rattle.std.proofs.Common.{◌≡◌, ℕ, zero, suc, ◌+◌, ◌-◌, ◌*◌, ◌<◌, ◌≤◌, Bool, true, cond, eqb, ◌&&◌, List, inl, inr, add-one, arith}
+-- The rows of a strip and their indices, its two columns, and rows that are drawn at once.
+use Rattle.std.proofs.Common.{◌≡◌, ℕ, zero, suc, ◌+◌, ◌-◌, ◌*◌, ◌<◌, ◌≤◌, Bool, true, cond, eqb, ◌&&◌, List, inl, inr, add-one, arith, false, not, leb, ltb, ◌||◌, sym, ◌∙◌, ap}
 use Rattle.std.proofs.lemmas.Bool.{cases_lt}
 use Rattle.std.proofs.lemmas.Bool.Decides.{nat_tests}
 use Rattle.qr_symbol.specs.declared.spans.Columns.{Columns}
-use Rattle.qr_layout.specs.{Region.is_in_region, Version.side_of, declared.strips.Strip.Strip}
+use Rattle.qr_layout.specs.Region.{is_in_region}
+use Rattle.qr_layout.specs.Version.{side_of}
+use Rattle.qr_layout.specs.declared.strips.Strip.{Strip}
 use Rattle.qr_matrix.specs.BitRow.{has, has_bit}
-use Rattle.qr_symbol.specs.Steps.Placement.{number_after, number_at, AreDrawn}
-use Rattle.qr_symbol.{specs.Steps.Spans.row_of}
-use Rattle.qr_symbol.specs.Steps.Words.{AreNext}
+use Rattle.qr_symbol.specs.Steps.Placement.{number_after, number_at, AreDrawn, AreLightRows, AreWhole}
+use Rattle.qr_symbol.specs.Steps.Spans.{row_of, top_row}
+use Rattle.qr_symbol.specs.Steps.Words.{AreNext, rank_in}
+use Rattle.qr_bits.specs.Bits.{codeword_bit}
+use Rattle.qr_matrix.specs.Grid.{is_same}
+
+-- two different indices are two different rows
+pub rows-apart : (x : Strip) (s j k : ℕ) → j < s → k < j → row_of s x j ≡ row_of s x k → ⊥
+rows-apart x s j k l m e = grind (arith, nat_tests)
+
+-- a row of the strip is a row of the symbol, and has its own index as the row of that index
+pub row-small : (x : Strip) (s k : ℕ) → k < s → (row_of s x k < s) × (row_of s x (row_of s x k) ≡ k)
+row-small x s k l = (grind (arith, nat_tests), grind (arith, nat_tests))
+
+-- row m of n rows, by its index from the top
+pub run-row : (x : Strip) (s k n m : ℕ) → k + n ≤ s → m < n
+    → (row_of s x (k + m) ≡ top_row s x k n + rank_in n x.upward m) × (rank_in n x.upward m < n) × (rank_in n x.upward (rank_in n x.upward m) ≡ m)
+run-row x s k n m room l = (grind (arith, nat_tests), grind (arith, nat_tests), grind (arith, nat_tests))
+
+-- a row between these, by its rank
+pub run-from : (x : Strip) (s k n i : ℕ) → k + n ≤ s → top_row s x k n ≤ i → i < top_row s x k n + n
+    → (row_of s x (k + rank_in n x.upward (i - top_row s x k n)) ≡ i) × (rank_in n x.upward (i - top_row s x k n) < n)
+run-from x s k n i room l m =
+    let w = run-row x s k n (i - top_row s x k n) room (omega arith) in
+    (omega (arith, (run-row x s k n _ room w.1).0, w.2), w.1)
 
 -- ---- rows and their numbers
 
@@ -45,17 +69,9 @@ rows-drawn {v} {x = x} {i = i} d e f g room = record {
   kept = search arith;
 }
 
--- a module is drawn if it is in the region
-here-drawn : (t q w d p z : Bool) → z ≡ cond (t && q) d p → q ≡ true → d ≡ w → z ≡ cond t w p
-here-drawn t q w d p z e f g = grind (arith, nat_tests)
-
 -- another module keeps its colour
 there-kept : (t d p z : Bool) (i row : ℕ) → z ≡ cond (t && eqb i row) d p → (row ≡ i → ⊥) → z ≡ p
 there-kept t d p z i row e n = grind (arith, nat_tests)
-
--- a number equals itself
-eqb-same : (n : ℕ) → eqb n n ≡ true
-eqb-same n = grind (arith, nat_tests)
 
 -- one row is drawn, module by module
 pub row-drawn : {v : ℕ} {cw : List ℕ} {x : Strip} {first k : ℕ} {old new : Columns} (row n taken one bits : ℕ)
@@ -65,7 +81,44 @@ pub row-drawn : {v : ℕ} {cw : List ℕ} {x : Strip} {first k : ℕ} {old new :
     ((i : ℕ) → has new.right i ≡ cond (t && eqb i row) (has_bit bits (63 - taken)) (has old.right i)) →
     ((i : ℕ) → has new.left i ≡ cond (u && eqb i row) (has_bit bits (63 - one)) (has old.left i)) →
     AreDrawn v cw x first k 1 old new
-row-drawn {x = x} {k = k} row n taken one bits t u r p q m o l1 l2 next right left = record {
-  drawn = search (arith, eqb-same, after-plus, here-drawn);
-  kept = search (arith, there-kept);
+row-drawn {x = x} {k = k} row n taken one bits t u r p q m o l1 l2 next right left = search (arith, nat_tests, after-plus, there-kept)
+
+-- a bit that is unset where another bit is set
+pub cleared : (p q : Bool) → not (is_same p (p && q)) ≡ (p && not q)
+cleared p q = grind (arith, nat_tests)
+
+-- ---- rows that are drawn at once
+
+-- another row keeps its colour
+run-kept : (top i n : ℕ) (old new bit set : Bool) → new ≡ (old || leb top i && set) → set ≡ (ltb (i - top) n && bit) → (top ≤ i → i < top + n → ⊥) → new ≡ old
+run-kept top i n old new bit set e f out = grind (arith, nat_tests)
+
+-- rows of a strip are drawn at once, if all their modules are in the region and light
+pub run-drawn : {v : ℕ} {cw : List ℕ} {x : Strip} {first : ℕ} {old new : Columns} (k n bits : ℕ)
+    → k + n ≤ side_of v → n ≤ 32 → AreWhole v x k n → AreLightRows (side_of v) x k n old
+    → ((i : ℕ) → has new.right i ≡ (has old.right i || leb (top_row (side_of v) x k n) i && (ltb (i - top_row (side_of v) x k n) n && has_bit bits (63 - 2 * rank_in n x.upward (i - top_row (side_of v) x k n)))))
+    → ((i : ℕ) → has new.left i ≡ (has old.left i || leb (top_row (side_of v) x k n) i && (ltb (i - top_row (side_of v) x k n) n && has_bit bits (62 - 2 * rank_in n x.upward (i - top_row (side_of v) x k n)))))
+    → AreNext cw (number_at v x first k) bits → AreDrawn v cw x first k n old new
+run-drawn {v} {cw} {x} {first} {old} {new} k n bits room few whole light right left next = record {
+  drawn = λ j a b.
+      let s = side_of v in let top = top_row s x k n in
+      let m = j - k in let f : k + m ≡ j = omega arith in
+      let w = run-row x s k n m room (omega arith) in let i = rank_in n x.upward m in
+      let back : top + i - top ≡ i = omega arith in let six : 62 - 2 * m ≡ 63 - (2 * m + 1) = omega arith in
+      let dark = light j a b in let here = whole j a b in
+      let number : number_at v x first j ≡ number_at v x first k + 2 * m = ap (number_at v x first) (sym f) ∙ number-whole v x first k m (λ h c d. whole h c (omega arith)) in
+      grind (arith, nat_tests, codeword_bit);
+  kept = λ i apart.
+      let s = side_of v in let top = top_row s x k n in
+      let out : top ≤ i → i < top + n → ⊥ = λ c d. let w = run-from x s k n i room c d in search arith in
+      search (arith, run-kept);
 }
+
+-- if no module of m rows is in the region, these rows take no bits
+pub number-none : (v : ℕ) (x : Strip) (first k m : ℕ) → ((j : ℕ) → k ≤ j → j < k + m → (is_in_region v
+    (row_of (side_of v) x j) x.right ≡ false) × (is_in_region v (row_of (side_of v) x j) (x.right - 1) ≡ false)) →
+    number_at v x first (k + m) ≡ number_at v x first k + 0
+number-none v x first k zero w = (let e : k + 0 ≡ k = omega arith in rw e (omega arith))
+number-none v x first k (suc m) w =
+    let e : k + suc m ≡ suc (k + m) = omega arith in let here = w (k + m) (omega arith) (omega arith) in
+    let before = number-none v x first k m (λ j a b. w j a (omega arith)) in rw (e, here.0, here.1) before

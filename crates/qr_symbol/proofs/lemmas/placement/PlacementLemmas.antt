@@ -1,18 +1,49 @@
 -- Drawing along the walk: every place that the walk has passed, or never reaches, has its final colour.
-use Rattle.{qr_bits.specs.Bits.codeword_bit, qr_matrix.specs.Grid.{Grid, square, colour, painted, transposed, IsSquare}}
+use Rattle.qr_bits.specs.Bits.{codeword_bit}
+use Rattle.qr_matrix.specs.Grid.{Grid, square, colour, painted, transposed, IsSquare}
 use Rattle.qr_layout.proofs.Facts.{Mem, order-has, order-mem, order-small, index-at, row-in, col-in, region-role, role-region}
-use Rattle.{qr_layout.specs.Format.{format_word_of, version_word_of}, std.proofs.lemmas.Bool.{cases_eq, false≢true}}
-use Rattle.qr_layout.specs.{Order.{IsOrder, in_region_of, index_of}, Region.is_in_region, Role.role_of}
-use Rattle.qr_layout.specs.{Strips.{both_of, rows_from}, Version.side_of, declared.level.Level.Level}
-use Rattle.qr_layout.specs.declared.{region.Place.Place, role.Role.{Role, TheVariants.Region}, strips.Strip.Strip}
+use Rattle.qr_layout.specs.Format.{format_word_of, version_word_of}
+use Rattle.std.proofs.lemmas.Bool.{cases_eq, false≢true}
+use Rattle.qr_layout.specs.Order.{IsOrder, in_region_of, index_of}
+use Rattle.qr_layout.specs.Region.{is_in_region}
+use Rattle.qr_layout.specs.Role.{role_of}
+use Rattle.qr_layout.specs.Strips.{both_of, rows_from, places_of}
+use Rattle.qr_layout.specs.Version.{side_of}
+use Rattle.qr_layout.specs.declared.level.Level.{Level}
+use Rattle.qr_layout.specs.declared.region.Place.{Place}
+use Rattle.qr_layout.specs.declared.role.Role.{Role}
+use Rattle.qr_layout.specs.declared.role.Role.TheVariants.{Region}
+use Rattle.qr_layout.specs.declared.strips.Strip.{Strip}
 use Rattle.qr_matrix.proofs.Facts.{same-place, square-same, colour-square, colour-painted-here, colour-painted-there, colour-transposed}
-use Rattle.qr_symbol.proofs.lemmas.placement.KeptPlaceLemmas.{kept-append, kept-in, kept-out}
-use Rattle.qr_symbol.proofs.lemmas.spans.SpanLemmas.{row-small}
-use Rattle.qr_symbol.specs.{Mask.{inverts, inverted}, Symbol.{colour_by, colour_of, grid_of}}
+use Rattle.qr_symbol.proofs.lemmas.placement.ColumnLemmas.{row-small}
+use Rattle.qr_symbol.specs.Mask.{inverts, inverted}
+use Rattle.qr_symbol.specs.Symbol.{colour_by, colour_of, grid_of}
 use Rattle.qr_symbol.specs.Steps.Patterns.{fixed_colour, format_or, paint_of, symmetric_format}
 use Rattle.qr_symbol.specs.Steps.Placement.{placed_colour, number_after, number_at, IsStripDrawn, masked_colour, masked_grid, region_grid, plain_grid}
 use Rattle.qr_symbol.specs.Steps.Spans.{row_of}
 use Rattle.std.proofs.Common.{◌≡◌, ℕ, zero, suc, ◌+◌, ◌-◌, ◌⊎◌, ◌<◌, ◌≤◌, Bool, true, false, cond, ◌&&◌, List, [], ◌∷◌, ◌++◌, length, length-append, refl, sym, ◌∙◌, ap, inl, inr, subst, append_assoc, append-nil, arith}
+
+-- a place in the region is kept
+pub kept-in : (v : ℕ) (m : Place) (ms : List Place) → is_in_region v m.row m.col ≡ true → in_region_of v (m ∷ ms) ≡ m ∷ in_region_of v ms
+kept-in v m ms e = ap (λ z. cond z (m ∷ in_region_of v ms) (in_region_of v ms)) e
+
+-- a place outside the region is not kept
+pub kept-out : (v : ℕ) (m : Place) (ms : List Place) → is_in_region v m.row m.col ≡ false → in_region_of v (m ∷ ms) ≡ in_region_of v ms
+kept-out v m ms e = ap (λ z. cond z (m ∷ in_region_of v ms) (in_region_of v ms)) e
+
+-- the kept places of two joined lists are those of the first list, followed by those of the second
+pub kept-append : (v : ℕ) (xs ys : List Place) → in_region_of v (xs ++ ys) ≡ in_region_of v xs ++ in_region_of v ys
+kept-append v [] ys = refl
+kept-append v (m ∷ xs) ys = ap (λ (z : List Place). cond (is_in_region v m.row m.col) (m ∷ z) z) (kept-append v xs ys) ∙ front _ m (in_region_of v xs) _
+  where
+    front : (t : Bool) (m : Place) (xs ys : List Place) → cond t (m ∷ (xs ++ ys)) (xs ++ ys) ≡ cond t (m ∷ xs) xs ++ ys
+    front true m xs ys = refl
+    front _ m xs ys = refl
+
+-- the places of a list of strips with one strip more
+pub places-push : (s : ℕ) (xs : List Strip) (x : Strip) → places_of s (xs ++ x ∷ []) ≡ places_of s xs ++ both_of (rows_from s x 0 s)
+places-push s [] x = append-nil (both_of (rows_from s x 0 s))
+places-push s (y ∷ ys) x = ap (λ (z : List Place). both_of (rows_from s y 0 s) ++ z) (places-push s ys x) ∙ sym (append_assoc _ (places_of s ys) _)
 
 -- the module in a row and a column
 abbrev pub at : ℕ → ℕ → Place

@@ -1,9 +1,10 @@
 -- Spans of a strip that are drawn one after the other.
 use Rattle.std.proofs.Common.{◌≡◌, ℕ, ◌+◌, ◌-◌, ◌*◌, ◌/◌, ◌^◌, ◌<◌, ◌≤◌, true, false, leb, ltb, ◌&&◌, ◌||◌, List, refl, sym, ◌∙◌, ap, arith}
-use Rattle.qr_layout.specs.{Region.is_in_region, Version.side_of, declared.strips.Strip.Strip}
+use Rattle.qr_layout.specs.{Version.side_of, declared.strips.Strip.Strip}
 use Rattle.qr_matrix.specs.BitRow.{has, has_bit}
-use Rattle.qr_symbol.proofs.lemmas.placement.{ColumnLemmas.{number-whole, row-drawn, row-number, rows-drawn}, LightLemmas.{number-none, run-drawn}}
-use Rattle.qr_symbol.proofs.lemmas.{spans.SpanLemmas.{row-small, rows-apart}, words.BitLemmas.highest-set}
+use Rattle.qr_symbol.proofs.lemmas.placement.ColumnLemmas.{number-whole, row-drawn, row-number, rows-drawn, number-none, run-drawn}
+use Rattle.qr_symbol.proofs.lemmas.placement.ColumnLemmas.{row-small, rows-apart}
+use Rattle.qr_symbol.proofs.lemmas.words.BitLemmas.{highest-set}
 use Rattle.qr_symbol.specs.declared.spans.Columns.{Columns}
 use Rattle.qr_symbol.specs.Steps.Placement.{number_at, AreDrawn, AreLight, AreLightRows, AreWhole, IsRegion}
 use Rattle.qr_symbol.specs.Steps.Spans.{row_of, top_row, AreOutside, AreWholeRows}
@@ -25,35 +26,21 @@ pub record AreDrawnTo (v : ℕ) (cw : List ℕ) (x : Strip) (first k number : �
 -- one span more
 pub span-added : {v : ℕ} {cw : List ℕ} {x : Strip} {first k n number after : ℕ} {p old new : Columns} (end : ℕ) → end ≡ k + n → end ≤ side_of v
     → AreDrawnTo v cw x first k number p old → IsSpanDrawn v cw x first k n number after old new → AreDrawnTo v cw x first end after p new
-span-added {v} {x = x} {first = first} end e room d w = record {
-  few = omega (arith, d.few, w.few);
-  next = w.next ∙ ap (number_at v x first) (sym e);
-  drawn = rows-drawn d.drawn w.drawn (omega arith) e (omega arith);
-}
+span-added {v} {x = x} {first = first} end e room d w = search (arith, rows-drawn)
 
 -- ---- what is known before
 
 -- rows of which both bits of the region are set are in the region
 whole-rows : (v : ℕ) (x : Strip) (k n : ℕ) (region : Columns) → k + n ≤ side_of v → IsRegion v x.right region → AreWholeRows (side_of v) x k n region → AreWhole v x k n
-whole-rows v x k n region room is w j l m = let r = is (row_of (side_of v) x j) (row-small x (side_of v) j (omega arith)).0 in
-    let t = w j l m in (sym r.0 ∙ t.0, sym r.1 ∙ t.1)
+whole-rows v x k n region room is w j l m = search (arith, row-small)
 
 -- they are light
 light-rows : (v : ℕ) (x : Strip) (k n : ℕ) (region y : Columns) → k + n ≤ side_of v → AreLight (side_of v) x k region y → AreWholeRows (side_of v) x k n region → AreLightRows (side_of v) x k n y
-light-rows v x k n region y room light w j l m = let a = light j l (omega arith) in let t = w j l m in (
-  ap (λ z. z && has y.right (row_of (side_of v) x j)) (sym t.0) ∙ a.0,
-  ap (λ z. z && has y.left (row_of (side_of v) x j)) (sym t.1) ∙ a.1,
-)
+light-rows v x k n region y room light w j l m = search arith
 
 -- after the first k rows were drawn, the rows from there on are as light as before
 pub light-later : {v : ℕ} {cw : List ℕ} {x : Strip} {first k : ℕ} {p q : Columns} (region : Columns) → AreLight (side_of v) x 0 region p → AreDrawn v cw x first 0 k p q → AreLight (side_of v) x k region q
-light-later {v} {x = x} region l d = λ rank a b.
-    let row = row_of (side_of v) x rank in
-    let same = d.kept row (λ j c e w. rows-apart x (side_of v) rank j b (omega arith) (sym w)) in
-    let before = l rank (omega arith) b in (
-      ap (λ z. has region.right row && z) same.0 ∙ before.0,
-      ap (λ z. has region.left row && z) same.1 ∙ before.1,
-    )
+light-later {v} {x = x} region l d = search (arith, rows-apart)
 
 -- ---- the four spans
 
@@ -85,7 +72,7 @@ module _ {v : ℕ} {cw : List ℕ} {x : Strip} {first : ℕ} {old new : Columns}
       let at = is row (omega (arith, (row-small x (side_of v) k room).0)) in
       let g : number_at v x first k ≡ number + 0 = omega arith in record {
         few = omega arith;
-        next = sym (row-number v x first k number 0 1 1 row true false r (sym t ∙ at.0) (sym u ∙ at.1) g refl refl);
+        next = search (arith, row-number);
         drawn = row-drawn row number 0 1 bits true false r (sym t ∙ at.0) (sym u ∙ at.1) g refl (omega arith) (omega arith) next right left;
       }
 
@@ -99,7 +86,7 @@ module _ {v : ℕ} {cw : List ℕ} {x : Strip} {first : ℕ} {old new : Columns}
       let at = is row (omega (arith, (row-small x (side_of v) k room).0)) in
       let g : number_at v x first k ≡ number + 0 = omega arith in record {
         few = omega arith;
-        next = sym (row-number v x first k number 0 0 1 row false true r (sym t ∙ at.0) (sym u ∙ at.1) g refl refl);
+        next = search (arith, row-number);
         drawn = row-drawn row number 0 0 bits false true r (sym t ∙ at.0) (sym u ∙ at.1) g refl (omega arith) (omega arith) next right left;
       }
 
@@ -107,10 +94,4 @@ module _ {v : ℕ} {cw : List ℕ} {x : Strip} {first : ℕ} {old new : Columns}
 pub outside-drawn : {v : ℕ} {cw : List ℕ} {x : Strip} {first : ℕ} {old : Columns} (region : Columns) (k n number : ℕ)
     → k + n ≤ side_of v → IsRegion v x.right region → AreOutside (side_of v) x k n region
     → number ≡ number_at v x first k → IsSpanDrawn v cw x first k n number number old old
-outside-drawn {v} {cw} {x} {first} {old} region k n number room is out f =
-    let none : (j : ℕ) → k ≤ j → j < k + n → (is_in_region v (row_of (side_of v) x j) x.right ≡ false) × (is_in_region v (row_of (side_of v) x j) (x.right - 1) ≡ false) =
-    λ j l m. let r = is (row_of (side_of v) x j) (row-small x (side_of v) j (omega arith)).0 in let t = out j l m in (sym r.0 ∙ t.0, sym r.1 ∙ t.1) in record {
-      few = omega arith;
-      next = omega (arith, number-none v x first k n none);
-      drawn = record { drawn = λ j a b. let t = none j a b in rw (t.0, t.1) (refl, refl); kept = λ row apart. (refl, refl) };
-    }
+outside-drawn {v} {cw} {x} {first} {old} region k n number room is out f = search (arith, row-small, number-none)

@@ -1,12 +1,12 @@
 -- The format information of a square is that of at most one level and mask.
 use borrow.Author.Tests.{ltb-true}
-use Rattle.{qr_layout.proofs.Facts.{below, below-at, format-first}, std.specs.{Int.bit_at, Prelude.bit_xor}}
+use Rattle.{qr_layout.proofs.Facts.{below, below-at, format-first}, std.specs.{Prelude.bit_xor}}
 use Rattle.qr_layout.specs.Format.{word_remainder, format_with, five_bits, level_bits, format_word_of}
-use Rattle.qr_layout.specs.{Format.first_place, Version.side_of, declared.level.Level.{Level, TheVariants.{L, M, Q, H}}}
+use Rattle.qr_layout.specs.{Format.first_place, declared.level.Level.{Level, TheVariants.{L, M, Q, H}}}
 use Rattle.qr_matrix.{proofs.Facts.colour-square, specs.{BitRow.has_bit, Grid.Grid}}
-use Rattle.qr_symbol.specs.{Reading.IsFormat, Symbol.{colour_by, colour_of, grid_of}}
-use Rattle.std.proofs.Common.{◌≡◌, ℕ, ◌/◌, ◌^◌, ◌<◌, ◌≤◌, Bool, true, eqb, ltb, nat_eq, List, refl, sym, ◌∙◌, ap, inl, inr, arith}
-use Rattle.std.proofs.lemmas.{Bool.{cases_lt, eqb-true, Decides.nat_tests}, Nat.Bits.{same_from_bits_below, bit_at-lt}}
+use Rattle.qr_symbol.specs.{Reading.IsFormat, Symbol.{colour_of, grid_of}}
+use Rattle.std.proofs.Common.{◌≡◌, ℕ, ◌/◌, ◌^◌, ◌<◌, ◌≤◌, Bool, true, eqb, ltb, List, refl, sym, ◌∙◌, ap, arith}
+use Rattle.std.proofs.lemmas.{Bool.{eqb-true, Decides.nat_tests}, Nat.Bits.{same_from_bits_below, bit_at-lt}}
 
 -- the test that the word of format information contains its five data bits
 gives-back : ℕ → Bool
@@ -49,33 +49,20 @@ back : (l : Level) (mask : ℕ) → mask < 8 → bit_xor (format_word_of l mask)
 unfolding format_word_of gives-back
 back l mask h = let s = level-small l in eqb-true _ _ (below-at 32 gives-back all-give-back _ (omega arith))
 
--- two bits are equal if their tests agree
-same-bit : (a b : ℕ) → a < 2 → b < 2 → nat_eq a 1 ≡ nat_eq b 1 → a ≡ b
-same-bit a b l m e = grind (arith, nat_tests)
-
 -- a square has the format information of at most one level and mask
 pub format-one : (g : Grid) (l k : Level) (m n : ℕ) → IsFormat g l m → IsFormat g k n → (l ≡ k) × (m ≡ n)
 unfolding has_bit
 format-one g l k m n h j =
     let a = format_word_of l m in let b = format_word_of k n in
     let p = h.in_range in let q = j.in_range in
-    let five : five_bits l m ≡ five_bits k n = sym (back l m p) ∙ (ap (λ (z : ℕ). bit_xor z 0x5412 / 1024) (same_from_bits_below 15 a b (short l m p) (short k n q) (λ i r. same-bit (bit_at a i) (bit_at b i) (bit_at-lt a i) (bit_at-lt b i) (sym (h.bits i r) ∙ j.bits i r))) ∙ back k n q) in
+    let five : five_bits l m ≡ five_bits k n = sym (back l m p) ∙ (ap (λ (z : ℕ). bit_xor z 0x5412 / 1024) (same_from_bits_below 15 a b (short l m p) (short k n q) (search (arith, nat_tests, bit_at-lt))) ∙ back k n q) in
     (level-one l k (omega arith), omega arith)
 
 -- the places of the first copy are in the first 15 rows
 first-row : (i : ℕ) → i < 15 → (first_place i).row < 15
-first-row i l = elim (cases_lt i 6) [ inl k ↦ grind (arith, nat_tests) | inr k ↦ grind (arith, nat_tests) ]
-
--- the places of the first copy are in the first 15 columns
-first-col : (i : ℕ) → i < 15 → (first_place i).col < 15
-first-col i l = elim (cases_lt i 8) [ inl k ↦ grind (arith, nat_tests) | inr k ↦ grind (arith, nat_tests) ]
+first-row i l = search arith
 
 -- a drawn symbol has the format information of its level and mask
 pub format-read : (v : ℕ) (l : Level) (mask : ℕ) (cw : List ℕ) → 1 ≤ v → v ≤ 40 → mask < 8 → IsFormat (grid_of v l mask cw) l mask
 unfolding colour_of
-format-read v l mask cw p q h = record {
-  in_range = h;
-  bits = λ i r.
-      let a = first-row i r in let b = first-col i r in
-      colour-square (side_of v) (colour_of v l mask cw) (first_place i).row (first_place i).col (omega arith) (omega arith) ∙ ap (colour_by v l mask cw (first_place i).row (first_place i).col) (format-first v i p q r);
-}
+format-read v l mask cw p q h = grind (arith, first-row, colour-square, format-first)

@@ -6,26 +6,26 @@ use Rattle.{qr_bits.specs.declared.modes.Rule.Rule, qr_layout.specs.declared.{bl
 use Rattle.{qr_matrix.specs.Grid.Grid, qr_symbol.proofs.lemmas.interleaving.MessageLemmas.final-whole}
 use Rattle.qr_symbol.proofs.lemmas.reading.FormatLemmas.{format-one, format-read}
 use Rattle.qr_symbol.proofs.lemmas.reading.ReadLemmas.{message-read, message-one}
-use Rattle.qr_symbol.specs.{Encoding.IsSymbolAt, Interleaving.{start_of, data_sizes, check_at, IsFinalMessage}}
+use Rattle.qr_symbol.specs.{Encoding.IsSymbolAt, Interleaving.{check_at, IsFinalMessage}}
 use Rattle.{qr_symbol.specs.Reading.{interpreted_content, IsFormat, IsMessage, IsReading}, std.specs.{List.All, Prelude.Option}}
-use Rattle.std.proofs.Common.{◌≡◌, ℕ, ◌+◌, ◌<◌, ◌≤◌, List, length, get_or, Ok, sym, ap, subst, ◌∙◌, inl, inr, arith}
-use Rattle.std.proofs.{Math.ListN.get_or-eq_default, lemmas.{Bool.cases_lt, List.Elements.{All-append, All-map}}}
+use Rattle.std.proofs.Common.{◌≡◌, ℕ, ◌<◌, ◌≤◌, List, get_or, Ok, sym, ap, subst, ◌∙◌, arith}
+use Rattle.std.proofs.{Math.ListN.get_or-eq_default, lemmas.{List.Elements.{All-append, All-map}}}
 
 -- an item of a list of bytes, or 0 after its end, is a byte
 byte-at : (xs : List ℕ) (k : ℕ) → All (λ x. x < 256) xs → get_or xs k 0 < 256
-byte-at xs k a = elim (cases_lt k (length xs)) [ inl l ↦ a k 0 l | inr l ↦ (let e = get_or-eq_default xs 0 {n = k} l in omega arith) ]
+byte-at xs k a = search (arith, get_or-eq_default)
 
 -- the final sequence of a message of bytes consists of bytes
 final-bytes : (b : Blocks) (d cw : List ℕ) → All (λ x. x < 256) d → IsFinalMessage b d cw → All (λ x. x < 256) cw
 final-bytes b d cw a h = subst (All (λ x. x < 256)) (sym h.whole) (All-append (λ x. x < 256) _ _
-    (All-map (λ x. x < 256) _ _ (λ k t l. let u = get_or _ k t in byte-at d (start_of (data_sizes b) u.block + u.index) a))
+    (search (arith, All-map, byte-at))
     (All-map (λ x. x < 256) (check_at h.corrections) h.check_positions (λ k t l.
     let u = get_or _ k t in byte-at _ _ (h.each u.block (omega arith)).bytes)))
 
 -- the symbol of an input contains its message
 pub symbol-holds : (v : ℕ) (l : Level) (b : Rule) (how : Interpretation) (x : List ℕ) (h : Option Header) (mask : ℕ) (g : Grid) → 1 ≤ v → v ≤ 40 → (s : IsSymbolAt v l b how x h mask g) → IsMessage v l mask g s.message
 symbol-holds v l b how x h mask g p q s =
-    subst (λ (z : Grid). IsMessage v l mask z s.message) (sym s.drawn) (message-read v l _ _ _ p q (final-whole v l _ _ p q s.interleaved) (final-bytes _ _ _ s.written.bytes s.interleaved) (length-data v l _ _ h _ _ s.written) s.interleaved)
+    subst (λ (z : Grid). IsMessage v l mask z s.message) (sym s.drawn) (search (arith, message-read, final-whole, final-bytes, length-data))
 
 -- a symbol has the format information of its level and mask
 pub symbol-format : (v : ℕ) (l : Level) (b : Rule) (how : Interpretation) (x : List ℕ) (h : Option Header) (mask : ℕ) (g : Grid) → 1 ≤ v → v ≤ 40 → IsSymbolAt v l b how x h mask g → IsFormat g l mask
@@ -44,7 +44,7 @@ symbol-read v l b how x h mask g p q w s = record {
   level = l;
   mask = mask;
   message = s.message;
-  sized = record { least = p; most = q; side = ap (λ (z : Grid). z.side) s.drawn };
+  sized = search arith;
   format = symbol-format v l b how x h _ g p q s;
   holds = symbol-holds v l b how x h _ g p q s;
   parsed = symbol-parsed v l b how x h mask g w s;

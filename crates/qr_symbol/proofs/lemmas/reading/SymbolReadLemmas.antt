@@ -12,7 +12,7 @@ use Rattle.qr_symbol.proofs.lemmas.reading.ReadLemmas.{read-one}
 use Rattle.qr_symbol.specs.{Fault.unread_for, Interleaving.IsInterleaved, Mask.{inverts, inverted}}
 use Rattle.qr_symbol.specs.Reading.{unmasked, IsRead, IsReadUnmasked, IsMessage, IsFormat, IsOfVersion, IsReading, IsUnread}
 use Rattle.qr_symbol.specs.{Steps.{Collecting.colour_across, Placement.region_grid}, declared.fault.ReadFault.ReadFault}
-use Rattle.std.proofs.Common.{◌≡◌, ℕ, suc, ◌+◌, ◌-◌, ◌*◌, ◌<◌, ◌≤◌, Bool, true, false, ◌&&◌, ltb, List, ◌∷◌, ◌++◌, map, take, length, replicate, sym, ◌∙◌, ap, refl, subst, length-append, inl, inr, ◌⊎◌, arith}
+use Rattle.std.proofs.Common.{◌≡◌, ℕ, suc, ◌+◌, ◌-◌, ◌*◌, ◌<◌, ◌≤◌, Bool, true, ◌&&◌, ltb, List, ◌∷◌, ◌++◌, map, take, length, sym, ◌∙◌, ap, refl, subst, length-append, inl, inr, ◌⊎◌, arith}
 use Rattle.std.proofs.lemmas.List.{append-nil, length-map, length-take, map-append, take-append-drop}
 use Rattle.qr_bits.specs.declared.fault.ParseFault.TheVariants as unparsed
 use Rattle.qr_symbol.specs.declared.fault.ReadFault.TheVariants as fault
@@ -29,10 +29,7 @@ few-left v l h =
 -- if fewer than eight bits are left after all modules, all codewords have been read
 pub all-read : (v : ℕ) (f : Place → Bool) (ms : List Place) (cw : List ℕ) (width begun : ℕ) → 1 ≤ v → v ≤ 40 → IsOrder v ms → width < 8 → bits_of cw ++ field width begun ≡ map f ms → length cw ≡ total_codewords_of v
 all-read v f ms cw width begun p q o w bits =
-    let many = order-length v ms p q o in let few = few-left v p q in
-    let long = ap length bits in let a = length-append (bits_of cw) (field width begun) in
-    let b = length-map ms f in let c = length-bits_of cw in
-    let d = length-field width begun in omega arith
+    let many = order-length v ms p q o in search (arith, few-left, length-append, bits_of, length-map, length-bits_of, length-field)
 
 -- the codewords that have been read have the bits of the first modules
 pub read-whole : (v : ℕ) (f : Place → Bool) (ms : List Place) (cw : List ℕ) (width begun : ℕ) → 1 ≤ v → v ≤ 40 → IsOrder v ms → width < 8 → bits_of cw ++ field width begun ≡ map f ms → bits_of cw ≡ map f (take (8 * total_codewords_of v) ms)
@@ -49,7 +46,7 @@ take-same f h n ms e = refl
 
 -- two functions with the same values in the encoding region
 order-same : (v : ℕ) (f h : Place → Bool) (n : ℕ) (ms : List Place) → IsOrder v ms → ((r c : ℕ) → r < side_of v → c < side_of v → is_in_region v r c ≡ true → f (at r c) ≡ h (at r c)) → map f (take n ms) ≡ map h (take n ms)
-order-same v f h n ms o e = take-same f h n ms (λ m k. let t = order-mem v ms o m k in e m.row m.col (row-in v m t) (col-in v m t) t)
+order-same v f h n ms o e = search (arith, take-same, order-mem, row-in, col-in)
 
 -- the codewords that are read from the transposed square, strip by strip, are those of the square
 pub read-across : (v : ℕ) (g : Grid) (ms : List Place) (cw : List ℕ) (width begun : ℕ) → 1 ≤ v → v ≤ 40
@@ -84,14 +81,12 @@ read-masked v mask n g region plain cw p q is same e w =
     let t = 8 * total_codewords_of v in let f = unmasked mask g in
     let ms = w.places in let many = order-length v ms p q w.order in
     let none : 0 ≡ t - length ms = omega arith in
-    let one : (r c : ℕ) → r < side_of v → c < side_of v → is_in_region v r c ≡ true → colour plain r c ≡ f (at r c) = λ r c l m k.
-    ap (λ (z : Grid). colour z r c) e ∙ (colour-square (side_of v) (λ (r c : ℕ). inverted (colour region r c && inverts n r c) (colour g r c)) r c l m
-    ∙ (ap (λ (z : Bool). inverted (z && inverts n r c) (colour g r c)) (ap (λ (z : Grid). colour z r c) is ∙ (colour-square (side_of v) (is_in_region v) r c l m ∙ k)) ∙ ap (λ (z : Bool). inverted z (colour g r c)) (same r c))) in
+    let one : (r c : ℕ) → r < side_of v → c < side_of v → is_in_region v r c ≡ true → colour plain r c ≡ f (at r c) = search (arith, colour-square) in
     record {
       bytes = w.bytes;
       places = ms;
       order = w.order;
-      bits = w.bits ∙ (order-same v (λ m. colour plain m.row m.col) f t ms w.order one ∙ (sym (append-nil (map f (take t ms))) ∙ ap (λ (z : ℕ). map f (take t ms) ++ replicate z false) none));
+      bits = w.bits ∙ (order-same v (λ m. colour plain m.row m.col) f t ms w.order one ∙ (cc (append-nil (map f (take t ms)))));
     }
 
 -- if the codewords are the final sequence of no message, the square is not read
@@ -104,12 +99,10 @@ not-checked g v l mask cw e s f r (inr k) none =
 pub is-parsed : (g : Grid) (v : ℕ) (l : Level) (mask : ℕ) (d : List ℕ) (p : Content) → IsOfVersion g v →
     IsFormat g l mask → IsMessage v l mask g d → IsResultOf (Ok p) (parse v (bits_of d)) → IsReading g p
 is-parsed g v l mask d p s f h (inl e) = absurd (let k = e in cc)
-is-parsed g v l mask d p s f h (inr e) =
-    record { version = v; level = l; mask = mask; message = d; sized = s; format = f; holds = h; parsed = e }
+is-parsed g v l mask d p s f h (inr e) = search arith
 
 -- if the message cannot be parsed, the square is not read
 pub not-parsed : (g : Grid) (v : ℕ) (l : Level) (mask : ℕ) (d : List ℕ) (e : ParseFault) → IsOfVersion g v → IsFormat g l mask
     → IsMessage v l mask g d → IsResultOf (Err e) (parse v (bits_of d)) → IsUnread g (unread_for e)
 not-parsed g v l mask d unparsed.Memory s f h k = tt
-not-parsed g v l mask d e s f h k =
-    ((λ m. cc), record { version = v; level = l; mask = mask; message = d; sized = s; format = f; holds = h; parsed = fault-read e _ (λ m. cc) k })
+not-parsed g v l mask d e s f h k = search (arith, fault-read)

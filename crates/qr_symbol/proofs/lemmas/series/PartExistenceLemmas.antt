@@ -1,13 +1,21 @@
--- Every input has parts: it is decidable whether a prefix fits, so there is a longest one.
+-- Every input has parts: it is decidable whether a prefix fits, so there is a longest one. Inputs that are too long have no series.
 use Rattle.qr_bits.proofs.Facts.{CoversInTurn, assignment-length, empty-fits, from-turn, in-turn}
-use Rattle.{qr_bits.specs.Padding.room_of, qr_symbol.{proofs.lemmas.series.PartLemmas.one-fits, specs.Series.AreParts}}
+use Rattle.qr_bits.specs.Padding.{room_of}
+use Rattle.qr_symbol.proofs.lemmas.series.PartLemmas.{one-fits, needs-parts, parts-long}
+use Rattle.qr_symbol.specs.Series.{AreParts, HasNoSeries, NeedsParts}
 use Rattle.qr_bits.specs.Segmentation.{bits, runs_of, Covers, IsAssignment, HasFit, IsLongestFit}
-use Rattle.qr_bits.specs.declared.modes.{Mode.{Mode, TheVariants.{Numeric, Alphanumeric, Byte, Kanji}}, Rule.Rule}
+use Rattle.qr_bits.specs.declared.modes.Mode.{Mode}
+use Rattle.qr_bits.specs.declared.modes.Mode.TheVariants.{Numeric, Alphanumeric, Byte, Kanji}
+use Rattle.qr_bits.specs.declared.modes.Rule.{Rule}
 use Rattle.qr_bits.specs.declared.interpretation.Interpretation.{Interpretation}
-use Rattle.qr_bits.specs.Interpretation.{characters_in, doubled}
-use Rattle.{qr_bits.specs.declared.segment.Segment.Segment, qr_layout.specs.declared.level.Level.Level}
-use Rattle.std.proofs.Common.{◌≡◌, ℕ, zero, suc, ◌<◌, ◌≤◌, ◌⊎◌, Bool, true, false, List, [], ◌∷◌, length, take, drop, refl, subst, inl, inr, length-drop, arith}
-use Rattle.std.{proofs.lemmas.Bool.cases_lt, specs.Prelude.IsTrue}
+use Rattle.qr_bits.specs.Interpretation.{characters_in, doubled, MayWrite}
+use Rattle.qr_bits.specs.declared.segment.Segment.{Segment}
+use Rattle.qr_layout.specs.declared.level.Level.{Level}
+use Rattle.std.proofs.Common.{◌≡◌, ℕ, zero, suc, ◌<◌, ◌≤◌, ◌⊎◌, Bool, true, false, List, [], ◌∷◌, length, take, drop, refl, subst, inl, inr, length-drop, arith, ◌*◌}
+use Rattle.std.proofs.lemmas.Bool.{cases_lt}
+use Rattle.std.specs.Prelude.{IsTrue}
+use Rattle.qr_bits.specs.Modes.{may_use}
+use Rattle.qr_symbol.proofs.lemmas.version_choice.FitLemmas.{version-short}
 
 -- a fact is decided if it holds or does not hold
 abbrev Decided : Type 0 → Type 0
@@ -81,7 +89,7 @@ fits-or-not how v r xs n =
     elim (some-modes (length xs) (λ ms. IsAssignment how r xs ms × (bits v (runs_of (doubled how xs ms)) ≤ n)) (λ ms. both (IsAssignment how r xs ms) (bits v _ ≤ n)
     (both _ _ (true-or-not _) (covers-or-not (characters_in how xs ms) _)) (most-or-not _ n))) [
       | inl p ↦ inl (p.0, p.1.0, p.1.1)
-      | inr q ↦ inr (λ fit. q fit.0 (assignment-length how r xs fit.0 fit.1) (fit.1, fit.2))
+      | inr q ↦ search (arith, assignment-length)
     ]
 
 -- if no prefix longer than k fits, there is a longest prefix of at most k bytes that fits
@@ -124,3 +132,15 @@ parts-to (suc most) v l r how (b ∷ bs) p q h =
 
 pub parts-there : (v : ℕ) (l : Level) (r : Rule) (how : Interpretation) (x : List ℕ) → 1 ≤ v → v ≤ 40 → (parts : List (List ℕ)) × AreParts v l r how x parts
 parts-there v l r how x p q = parts-to (length x) v l r how x p q (omega arith)
+
+-- an input of more than 16 times 7,089 bytes has no series
+pub long-refused : (x : List ℕ) (l : Level) (b : Rule) (how : Interpretation) (v : ℕ) → 1 ≤ v → v ≤ 40 → 7089 * 16 < length x → HasNoSeries v l b how x
+long-refused x l b how v i j long = record {
+  too_long = λ fits. let short = version-short v l b how x i j fits in omega arith;
+  too_many = search (arith, parts-long);
+}
+
+-- without kanji mode, an input that has no series needs more than 16 parts
+pub none-shorter : (x : List ℕ) (l : Level) (b : Rule) (how : Interpretation) (v : ℕ) → 1 ≤ v → v ≤ 40
+    → MayWrite how x → may_use b Kanji ≡ false → HasNoSeries v l b how x → NeedsParts v l b how x 17
+none-shorter x l b how v i j may plain none qs cut = let parts = parts-there v l b how x i j in search (arith, needs-parts)

@@ -71,7 +71,7 @@ longest-cut v l b how xs m n p q long h =
       fits = search (arith, take-less);
       longest = λ k i fit.
           let short = part-short v l b how (take k xs) p q fit in let same = length-take k xs in
-          h.longest k (omega arith) (subst (λ (ys : List ℕ). HasFit how v b ys room) (sym (take-less k m xs (omega arith))) fit);
+          h.longest k (omega arith) (search (arith, take-less));
     }
 
 -- ---- lengths of parts

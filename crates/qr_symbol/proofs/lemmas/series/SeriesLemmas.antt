@@ -4,7 +4,8 @@ use Rattle.qr_bits.specs.Interpretation.{MayWrite}
 use Rattle.qr_symbol.proofs.lemmas.version_choice.FitLemmas.{version-short}
 use Rattle.qr_bits.{proofs.Facts.{empty-fits, least-meant, may_write-drop, may_write-take}, specs.{Header.parity_of, Parsing.Content}}
 use Rattle.{qr_bits.specs.declared.{header.Header.Header, modes.Rule.Rule}, qr_layout.specs.declared.level.Level.Level}
-use Rattle.{qr_matrix.specs.Grid.Grid, qr_symbol.proofs.lemmas.encoding.SymbolLemmas.symbol-at-one}
+use Rattle.qr_matrix.specs.Grid.{Grid}
+use Rattle.qr_symbol.proofs.lemmas.encoding.SymbolMakingLemmas.{symbol-at-one}
 use Rattle.qr_symbol.proofs.lemmas.{encoding.SymbolMakingLemmas.symbol-fits, reading.RoundTripLemmas.symbol-read}
 use Rattle.qr_symbol.proofs.lemmas.series.PartLemmas.{parts-are, length-parts, parts-one, parts-some, parts-long}
 use Rattle.qr_symbol.specs.{Joining.{AreInterpreted, AreReadBy, bytes_of_all, HaveHeaders, IsJoined}, Reading.{interpreted_content, IsInterpreted, IsReading}}
@@ -65,7 +66,7 @@ symbols-read v l b how last parity k x (p ∷ ps) [] i j w cut h = absurd h
 symbols-read v l b how last parity k x (p ∷ ps) (s ∷ ss) i j w cut h =
     let rest = symbols-read v l b how _ _ (k + 1) _ ps ss i j (may_write-drop how cut.0 x w) cut.4 h.1 in
     let made = h.0.made in
-    let may : MayWrite how p = subst (λ (ys : List ℕ). MayWrite how ys) (sym cut.3) (may_write-take how cut.0 x w) in record {
+    let may : MayWrite how p = search (arith, may_write-take) in record {
       contents = (interpreted_content how (Some (record { position = k; last = last; parity = parity })) made.segments p) ∷ rest.contents;
       read = search (arith, symbol-read);
       headers = (refl, rest.headers);
@@ -92,7 +93,7 @@ split-joined x l b how v ss i j w h =
     let last : length h.parts - 1 ≡ length r.contents - 1 = ap (λ (n : ℕ). n - 1) (sym r.many) in record {
       contents = r.contents;
       read = r.read;
-      together = inr ((let some = parts-some v l b how x _ h.split (not-empty x l b how v h.too_long) in omega arith), (subst (λ (ys : List ℕ). HaveHeaders (length r.contents - 1) (parity_of ys) 0 r.contents) (sym r.bytes) (subst (λ (n : ℕ). HaveHeaders n (parity_of x) 0 r.contents) last r.headers)));
+      together = inr ((let some = parts-some v l b how x _ h.split (not-empty x l b how v h.too_long) in omega arith), (search arith));
       joined = sym r.bytes;
     }
   where
@@ -126,7 +127,7 @@ parts-interpreted v l b how last parity k x [] [] i j w cut h = All-nil (HasInte
 parts-interpreted v l b how last parity k x [] (s ∷ ss) i j w cut h = absurd h
 parts-interpreted v l b how last parity k x (p ∷ ps) [] i j w cut h = absurd h
 parts-interpreted v l b how last parity k x (p ∷ ps) (s ∷ ss) i j w cut h =
-    let may : MayWrite how p = subst (λ (ys : List ℕ). MayWrite how ys) (sym cut.3) (may_write-take how cut.0 x w) in
+    let may : MayWrite how p = search (arith, may_write-take) in
     All-cons (HasInterpretation how) s.matrix (squares_of ss) (symbol-interpreted v l b how p _ s.mask s.matrix i j may h.0.made)
     (parts-interpreted v l b how last parity (k + 1) (drop cut.0 x) ps ss i j (may_write-drop how cut.0 x w) cut.4 h.1)
 
@@ -135,7 +136,7 @@ pub series-interpreted : (x : List ℕ) (l : Level) (b : Rule) (how : Interpreta
 series-interpreted x l b how v ss i j w (inl h) =
     subst (λ (ts : List Symbol). AreInterpreted how (squares_of ts)) (sym h.alone)
     (All-cons (HasInterpretation how) h.symbol.matrix [] (symbol-interpreted v l b how x None h.symbol.mask h.symbol.matrix i j w h.made.made) (All-nil (HasInterpretation how)))
-series-interpreted x l b how v ss i j w (inr h) = parts-interpreted v l b how _ _ 0 x h.parts ss i j w h.split h.made
+series-interpreted x l b how v ss i j w (inr h) = search (arith, parts-interpreted)
 
 -- ---- long inputs
 

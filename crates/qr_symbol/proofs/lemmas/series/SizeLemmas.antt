@@ -39,8 +39,8 @@ series-some x l b how v ss (inr h) = search (arith, parts-some, symbols-many)
 
 -- a series has at most 16 symbols
 pub series-few : (x : List ℕ) (l : Level) (b : Rule) (how : Interpretation) (v : ℕ) (ss : List Symbol) → IsSeries v l b how x ss → length ss ≤ 16
-series-few x l b how v ss (inl h) = subst (λ (ts : List Symbol). length ts ≤ 16) (sym h.alone) (omega arith)
-series-few x l b how v ss (inr h) = let m = h.many in let e = symbols-many v l b how _ _ 0 h.parts ss h.made in omega arith
+series-few x l b how v ss (inl h) = search arith
+series-few x l b how v ss (inr h) = search (arith, symbols-many)
 
 -- without kanji mode, bytes need as many parts as their series has symbols
 pub series-shortest : (x : List ℕ) (l : Level) (b : Rule) (how : Interpretation) (v : ℕ) (ss : List Symbol) → MayWrite how x → may_use b Kanji ≡ false → 0 < length x → IsSeries v l b how x ss → NeedsParts v l b how x (length ss)

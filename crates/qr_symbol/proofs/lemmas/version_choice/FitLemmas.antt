@@ -5,7 +5,7 @@ use Rattle.qr_bits.specs.Segmentation.{bits, IsLeastSegmentation}
 use Rattle.qr_bits.specs.declared.interpretation.Interpretation.{Interpretation}
 use Rattle.qr_bits.specs.declared.{modes.{Mode.Mode, Rule.Rule}, segment.Segment.Segment}
 use Rattle.{qr_layout.specs.declared.level.Level.Level, qr_symbol.specs.VersionChoice.{FitsVersion, IsVersion}}
-use Rattle.std.proofs.{Common.{◌≡◌, ℕ, ◌+◌, ◌-◌, ◌<◌, ◌≤◌, inl, inr, List, [], ◌∷◌, length, refl, sym, arith}, lemmas.Bool.cases_lt}
+use Rattle.std.proofs.{Common.{◌≡◌, ℕ, ◌+◌, ◌<◌, ◌≤◌, inl, inr, List, [], ◌∷◌, length, refl, arith}, lemmas.Bool.cases_lt}
 
 -- Segments have the same number of bits in versions of the same widths.
 bits-same : (u v : ℕ) → ((m : Mode) → count_width u m ≡ count_width v m) → (segs : List Segment) → bits u segs ≡ bits v segs
@@ -28,10 +28,7 @@ pub fits-bits : (u v : ℕ) (l : Level) (rule : Rule) (how : Interpretation) (xs
     → (FitsVersion v l rule how xs → interpretation_bits how + bits u segs ≤ capacity_of v l)
     × (interpretation_bits how + bits u segs ≤ capacity_of v l → FitsVersion v l rule how xs)
 fits-bits u v l rule how xs ys segs p q same h =
-    let same_bits = bits-same v u same segs in
-    let fits = (least_fits how v rule xs ys segs (segmentation-same u v rule how xs ys segs (λ m. sym (same m)) h)).1 (capacity_of v l - interpretation_bits how) in
-    let room = capacity-least v l p q in let most = interpretation-most how in
-    (λ fit. omega (arith, fits.0 fit), λ few. fits.1 (omega arith))
+    search (arith, bits-same, least_fits, segmentation-same, capacity-least, interpretation-most)
 
 -- Bytes that fit a version are at most 7,089.
 pub version-short : (v : ℕ) (l : Level) (rule : Rule) (how : Interpretation) (xs : List ℕ) → 1 ≤ v → v ≤ 40 → FitsVersion v l rule how xs → length xs ≤ 7089
@@ -68,6 +65,6 @@ pub version-found : (xs ys : List ℕ) (l : Level) (least : ℕ) (rule : Rule) (
 version-found xs ys l least rule how u v segs p a b c below same h full room = record {
   least = omega arith;
   most = c;
-  fits = (fits-bits u v l _ how xs ys _ (omega arith) c (same v b (omega arith)) h).1 room;
+  fits = search (arith, fits-bits);
   first = none-fits xs ys l _ _ how u v _ p (omega arith) below (λ w i j. same w i (omega arith)) h full;
 }

@@ -2,7 +2,7 @@
 use mathlib.Core.Bool.{beq}
 use Rattle.{qr_bits.specs.Bits.codeword_bit, qr_matrix.proofs.Facts.{has_bit-or, has_bit-shr, low-bits, shl-bit, unset-above}}
 use Rattle.{qr_matrix.specs.BitRow.has_bit, qr_symbol.specs.Mask.inverted}
-use Rattle.std.proofs.Common.{◌≡◌, ℕ, zero, suc, ◌+◌, ◌-◌, ◌*◌, ◌/◌, ◌%◌, ◌^◌, ◌<◌, ◌≤◌, Bool, true, false, not, cond, nat_eq, leb, ◌&&◌, ◌||◌, List, get_or, refl, ap, ◌∙◌, inl, inr, bit_or, arith}
+use Rattle.std.proofs.Common.{◌≡◌, ℕ, zero, suc, ◌+◌, ◌-◌, ◌*◌, ◌/◌, ◌%◌, ◌^◌, ◌<◌, ◌≤◌, Bool, true, false, not, cond, nat_eq, leb, ◌&&◌, ◌||◌, List, get_or, ap, ◌∙◌, inl, inr, bit_or, arith}
 use Rattle.std.proofs.{Math.Pow.pow_mono, lemmas.Bool.{cases_lt, Decides.nat_tests}}
 use Rattle.std.proofs.lemmas.Nat.{pow-add, Bits.{bit_at_above, bit_at_cat_low, bit_at_cat_high}}
 
@@ -35,17 +35,11 @@ highest-bit n (suc k) small = has_bit-shr n 63 (suc k) ∙ (unset-above n 64 (su
     none : (t : Bool) → false ≡ (nat_eq (suc k) 0 && t)
     none t = grind (arith, nat_tests)
 
--- it is set in a column from its row on, where the column was light
-module-set : (row i : ℕ) (here old new bit set : Bool) → here ≡ false → (i ≡ row → old ≡ here)
-    → set ≡ (nat_eq (i - row) 0 && bit) → new ≡ (old || leb row i && set) → new ≡ cond (nat_eq i row) bit old
-module-set row i here old new bit set dark same e f = grind (arith, nat_tests)
-
 -- it becomes the colour of its row
 pub highest-set : (bits row : ℕ) (old new : ℕ → Bool) → bits < 2 ^ 64 → old row ≡ false
     → ((i : ℕ) → new i ≡ (old i || leb row i && has_bit (bits / 2 ^ 63) (i - row)))
     → (i : ℕ) → new i ≡ cond (nat_eq i row) (has_bit bits 63) (old i)
-highest-set bits row old new small light set i =
-    module-set row i (old row) (old i) (new i) (has_bit bits 63) (has_bit (bits / 2 ^ 63) (i - row)) light (λ e. ap old e) (highest-bit bits (i - row) small) (set i)
+highest-set bits row old new small light set i = grind (arith, nat_tests, highest-bit)
 
 -- it is in the word of its row
 pub highest-within : (bits row k : ℕ) → bits < 2 ^ 64 → 64 ≤ row % 64 + k → has_bit (bits / 2 ^ 63) k ≡ false
@@ -70,7 +64,7 @@ codewords-room n w l m = let h : 8 * n ≤ 56 = omega arith in let k : 2 ^ (8 * 
 -- a bit of one codeword
 codeword-at : (cw : List ℕ) (p b d : ℕ) → b ≡ get_or cw p 0 → d < 8 → has_bit b (7 - d) ≡ codeword_bit cw (8 * p + d)
 unfolding has_bit
-codeword-at cw p b d is l = let e : (8 * p + d) / 8 ≡ p = omega arith in let f : (8 * p + d) % 8 ≡ d = omega arith in rw (e, f, is) refl
+codeword-at cw p b d is l = search arith
 
 -- the bits from bit s on of a word of codewords and of the codeword after it
 pub next-bit : (cw : List ℕ) (p s w b k : ℕ) → s < 8 → k < 64 → b ≡ get_or cw (p + 8) 0 → b < 256
@@ -84,15 +78,14 @@ next-bit cw p s w b k few l is small held =
       | inl m ↦
           let t : leb s i ≡ true = grind (arith, nat_tests) in
           let e : i - s ≡ 63 - (k + s) = omega arith in
-          let f : 8 * p + (k + s) ≡ 8 * p + s + k = omega arith in
           let none = unset-above b 8 (i + (8 - s)) small (omega arith) in
-          rw (t, none) (or-false (has_bit w (i - s)) ∙ (ap (has_bit w) e ∙ (held (k + s) m ∙ ap (codeword_bit cw) f)))
+          search (arith, codeword_bit)
       | inr m ↦
           let t : leb s i ≡ false = grind (arith, nat_tests) in
           let d = k + s - 64 in
           let e : i + (8 - s) ≡ 7 - d = omega arith in
           let f : 8 * (p + 8) + d ≡ 8 * p + s + k = omega arith in
-          rw (t, e) (codeword-at cw (p + 8) b d is (omega arith) ∙ ap (codeword_bit cw) f)
+          search (arith, codeword-at, codeword_bit)
     ]))
   where
     or-false : (t : Bool) → (t || false) ≡ t

@@ -1,10 +1,9 @@
 -- Further bits after the bits of a number, and the codewords that they fill.
-use Rattle.std.proofs.Common.{◌≡◌, ℕ, zero, suc, ◌+◌, ◌-◌, ◌*◌, ◌/◌, ◌%◌, ◌^◌, ◌<◌, ◌≤◌, ◌==◌, Bool, true, false, cond, not, ◌||◌, None, Some, List, [], ◌∷◌, ◌++◌, take, refl, sym, ◌∙◌, ap, append_assoc, append-nil, arith}
-use Rattle.std.proofs.{lemmas.{Bool.Decides.nat_tests, List.Elements.{All-append, All-take}, Nat.{pow-add, pow_pos, shr-shr, shr_split}}, Math.Nat.{div-div-eq-div-mul, mod-eq_of_lt, mod-lt, mul-div_cancel, pow-le-pow_right, pow-suc}}
+use Rattle.std.proofs.Common.{◌≡◌, ℕ, zero, suc, ◌+◌, ◌-◌, ◌*◌, ◌/◌, ◌%◌, ◌^◌, ◌<◌, ◌≤◌, Bool, true, false, cond, not, ◌||◌, None, Some, List, ◌++◌, take, refl, sym, ◌∙◌, ap, append_assoc, arith}
+use Rattle.std.proofs.{lemmas.{List.Elements.{All-append, All-take}, Nat.{pow-add, pow_pos, shr-shr, shr_split}}, Math.Nat.{div-div-eq-div-mul, mod-eq_of_lt, mod-lt, mul-div_cancel, pow-le-pow_right, pow-suc}}
 use Rattle.std.specs.{Int.{byte_at, bytes_high_first, to_be_bytes, w64}, List.All}
-use Rattle.qr_bits.{proofs.Facts.field-more, specs.Bits.{bits_of, field}}
+use Rattle.qr_bits.{proofs.Facts.{bits_of-append, field-join, field-low}, specs.Bits.{bits_of, field}}
 use Rattle.qr_symbol.specs.Steps.Words.{Appends}
-use mir.Val.{bool_byte}
 
 -- ---- numbers
 
@@ -15,8 +14,7 @@ joined-below w (suc c) r b h l =
     let two : 2 ^ suc c ≡ 2 * 2 ^ c = omega (arith, pow-suc 2 c) in
     let whole : r * 2 ^ suc c ≡ 2 * (r * 2 ^ c) = ap (λ (z : ℕ). r * z) two ∙ omega arith in
     let e : w + suc c ≡ suc (w + c) = omega arith in
-    let more : 2 ^ suc (w + c) ≡ 2 * 2 ^ (w + c) = omega (arith, pow-suc 2 (w + c)) in
-    search (arith, joined-below w c r (b / 2) h (omega (arith, two, l)))
+    search (arith, pow-suc, joined-below w c r (b / 2) h (omega (arith, two, l)))
 
 -- the same, for at most k bits
 pub joined-small : (w c r b k : ℕ) → r < 2 ^ w → b < 2 ^ c → w + c ≤ k → r * 2 ^ c + b < 2 ^ k
@@ -28,40 +26,9 @@ joined-whole w c r h l m = mod-eq_of_lt (omega (arith, joined-small w c r 0 63 h
 
 -- ---- bits
 
-odd-bit : (r : ℕ) → r % 2 ≡ bool_byte (r % 2 == 1)
-odd-bit r = grind (arith, nat_tests)
-
--- the bits of a number, followed by further bits, are those of both
-field-join : (a b q r : ℕ) → r < 2 ^ b → field (a + b) (q * 2 ^ b + r) ≡ field a q ++ field b r
-unfolding field
-field-join a zero q r h = search (arith, append-nil)
-field-join a (suc b) q r h =
-    let two : 2 ^ suc b ≡ 2 * 2 ^ b = omega (arith, pow-suc 2 b) in
-    let whole : q * 2 ^ suc b ≡ 2 * (q * 2 ^ b) = ap (λ (z : ℕ). q * z) two ∙ omega arith in
-    let e : a + suc b ≡ a + b + 1 = omega arith in
-    let one : suc b ≡ b + 1 = omega arith in
-    let n : q * 2 ^ suc b + r ≡ 2 * (q * 2 ^ b + r / 2) + r % 2 = omega (arith, whole) in
-    let m : r ≡ 2 * (r / 2) + r % 2 = omega arith in
-    let small : r / 2 < 2 ^ b = omega (arith, two, h) in
-    let bit = r % 2 == 1 in
-    ap (λ z. field z (q * 2 ^ suc b + r)) e ∙ (ap (λ z. field (a + b + 1) z) n ∙ (field-more [] (a + b) (q * 2 ^ b + r / 2) (r % 2) bit (odd-bit r)
-    ∙ (ap (λ z. z ++ bit ∷ []) (field-join a b q (r / 2) small) ∙ (append_assoc (field a q) (field b (r / 2)) (bit ∷ [])
-    ∙ ap (λ z. field a q ++ z) (sym (ap (λ z. field z r) one ∙ (ap (λ z. field (b + 1) z) m ∙ field-more [] b (r / 2) (r % 2) bit (odd-bit r))))))))
-
 -- the bits of a number are those before its last b bits, followed by these
 field-cut : (a b n : ℕ) → field (a + b) n ≡ field a (n / 2 ^ b) ++ field b (n % 2 ^ b)
 field-cut a b n = ap (λ z. field (a + b) z) (sym (shr_split n b)) ∙ field-join a b (n / 2 ^ b) (n % 2 ^ b) (mod-lt n (pow_pos b))
-
--- b bits of a number are those of its last b bits
-field-low : (b n : ℕ) → field b n ≡ field b (n % 2 ^ b)
-unfolding field
-field-low b n = let e : 0 + b ≡ b = omega arith in ap (λ z. field z n) (sym e) ∙ field-cut 0 b n
-
--- bits of bytes after bytes
-bits-append : (xs ys : List ℕ) → bits_of (xs ++ ys) ≡ bits_of xs ++ bits_of ys
-unfolding bits_of
-bits-append [] ys = refl
-bits-append (x ∷ xs) ys = search (arith, append_assoc, bits-append xs ys)
 
 -- ---- the bytes of a word
 
@@ -70,7 +37,7 @@ pow-mul : (k : ℕ) → 256 ^ k ≡ 2 ^ (8 * k)
 pow-mul zero = refl
 pow-mul (suc k) =
     let f : 8 * suc k ≡ 8 + 8 * k = omega arith in
-    pow-suc 256 k ∙ (ap (λ z. z * 256) (pow-mul k) ∙ (omega (arith, pow-add 2 8 (8 * k)) ∙ ap (λ z. 2 ^ z) (sym f)))
+    search (arith, pow-suc, pow-add, pow-mul k)
 
 byte-is : (i v : ℕ) → byte_at i v ≡ v / 256 ^ i % 256
 byte-is zero v = omega arith
@@ -90,10 +57,7 @@ first-bytes (suc n) k v =
     let e : suc n + k ≡ suc (n + k) = omega arith in
     let f : 8 * suc n ≡ 8 + 8 * n = omega arith in
     let g : k + n ≡ n + k = omega arith in
-    let pow : 2 ^ (8 * n) ≡ 256 ^ n = sym (pow-mul n) in
-    let high : y / 2 ^ (8 * n) ≡ v / 256 ^ (n + k) =
-    ap (λ z. y / z) pow ∙ (div-div-eq-div-mul v (256 ^ k) (256 ^ n) ∙ (ap (λ z. v / z) (sym (pow-add 256 k n)) ∙ ap (λ z. v / 256 ^ z) g)) in
-    cc (byte-is (n + k) v, field-low 8 (v / 256 ^ (n + k)), first-bytes n k v, field-low (8 * n) y, field-cut 8 (8 * n) y)
+    cc (pow-mul n, div-div-eq-div-mul v (256 ^ k) (256 ^ n), pow-add 256 k n, byte-is (n + k) v, field-low 8 (v / 256 ^ (n + k)), first-bytes n k v, field-low (8 * n) y, field-cut 8 (8 * n) y)
 
 -- a number of w bits that is shifted to the upper end of a word
 shifted-whole : (w x : ℕ) → x < 2 ^ w → w ≤ 64 → x * 2 ^ (64 - w) % 18446744073709551616 ≡ x * 2 ^ (64 - w)
@@ -120,11 +84,11 @@ codewords-joined xs w c r b h l m =
     let x = r * 2 ^ c + b % 2 ^ c in
     let new = take ((w + c) / 8) (to_be_bytes w64 (x * 2 ^ (64 - (w + c)) % 18446744073709551616)) in
     let left = field ((w + c) % 8) (x % 2 ^ ((w + c) % 8)) in
-    ap (λ z. z ++ left) (bits-append xs new)
+    ap (λ z. z ++ left) (bits_of-append xs new)
     ∙ (append_assoc (bits_of xs) (bits_of new) left
     ∙ (ap (λ z. bits_of xs ++ z) (first-codewords (w + c) x (joined-below w c r (b % 2 ^ c) h low) (omega arith) ∙ field-join w c r (b % 2 ^ c) low)
     ∙ (sym (append_assoc (bits_of xs) (field w r) (field c (b % 2 ^ c)))
-    ∙ ap (λ z. (bits_of xs ++ field w r) ++ z) (sym (field-low c b)))))
+    ∙ ap (λ z. (bits_of xs ++ field w r) ++ z) (field-low c b))))
 
 -- these codewords are bytes
 pub codewords-small : (ok : Bool) (xs ys bytes : List ℕ) (n v : ℕ) → bytes ≡ to_be_bytes w64 v → ys ≡ cond ok (xs ++ take n bytes) xs → All (λ x. x < 256) xs → All (λ x. x < 256) ys

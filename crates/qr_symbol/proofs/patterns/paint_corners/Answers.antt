@@ -1,4 +1,4 @@
-use Rattle.std.proofs.Common.{◌≡◌, ℕ, ◌-◌, cond, ap, sym, ◌∙◌, refl, arith}
+use Rattle.std.proofs.Common.{rules, ◌≡◌, ℕ, ◌-◌, cond, ap, sym, ◌∙◌, refl, arith}
 use Rattle.qr_layout.specs.{Region.is_corner, Role.role_of, Version.side_of}
 use Rattle.qr_matrix.{proofs.Facts.square-same, specs.Grid.Grid, specs.Grid.colour}
 use Rattle.qr_symbol.specs.Steps.Patterns.{format_or, paint_of, IsOver}
@@ -31,8 +31,7 @@ pub paint_finder-requires-3-clause-square : goal.paint_finder-requires-3-clause-
 paint_finder-requires-3-clause-square c = (c.paint_finder-2.ensures c.args.format).square
 
 pub set-requires : goal.set-requires
-set-requires c =
-    let e = three-side (goal.at.set-requires c).After-paint_finder-3 in record { row_in = omega arith; col_in = omega arith }
+set-requires c = search (rules, three-side)
 
 pub set-requires-2 : goal.set-requires-2
 set-requires-2 c =
@@ -55,7 +54,7 @@ all-begun c =
     over-twice _ p5 (over-place p _ _ _ 8 _ (over-side p5) (dark-painted v f (omega arith) (omega arith) ∙ ap (λ (n : ℕ). p (n - 8) 8) (sym c.side-side.ensures.value)) c.set-3.ensures) (λ _ _ _ _. refl)
 
 pub draw_format-requires : goal.draw_format-requires
-draw_format-requires c = (all-begun (goal.at.draw_format-requires c).After-set-3).square
+draw_format-requires c = search (rules, all-begun)
 
 pub returns : goal.returns
 returns c =

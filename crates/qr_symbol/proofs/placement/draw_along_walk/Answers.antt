@@ -1,3 +1,4 @@
+use Rattle.std.proofs.Common.{rules}
 use Rattle.{std.proofs.Common.{sym, subst, arith}, qr_layout.specs.Order.IsOrder}
 use Rattle.qr_symbol.proofs.lemmas.placement.WalkLemmas.{walked-start, walked-in, walked-step, walked-small, walked-end}
 use Rattle.qr_symbol.proofs.placement.draw_along_walk.Goals as goal
@@ -25,4 +26,4 @@ loop-module-preserved c = record {
 }
 
 pub returns : goal.returns
-returns c = walked-end _ _ _ _ _ _ _ _ c.in-None.ensures.steps.0 c.loop-module.invariant.walked
+returns c = search (rules, walked-end)

@@ -1,8 +1,13 @@
 use Rattle.qr_layout.{proofs.Facts.Inside, specs.Order.{IsOrder, in_region_of}}
 use Rattle.qr_layout.specs.{Strips.places_of, Version.side_of, declared.strips.Strip.Strip}
-use Rattle.{qr_matrix.specs.Grid.transposed, qr_symbol.proofs.lemmas.placement.KeptPlaceLemmas.places-push}
-use Rattle.qr_symbol.proofs.lemmas.placement.PlacementLemmas.{IsPlaced, placed-start, placed-strip, placed-small, placed-end, square-transposed}
-use Rattle.std.{proofs.{Common.{List, sym, subst, arith}, lemmas.List.Elements.{All-head, All-tail}}, specs.List.All}
+use Rattle.qr_matrix.specs.{BitRow.has, Grid.{Grid, transposed, with_row}}
+use Rattle.qr_symbol.proofs.lemmas.placement.AcrossLemmas.{region-across, strip-drawn}
+use Rattle.qr_symbol.proofs.lemmas.placement.PlacementLemmas.{places-push}
+use Rattle.qr_symbol.proofs.lemmas.placement.ColumnLemmas.{cleared}
+use Rattle.qr_symbol.proofs.placement.draw_codewords.Goals.{then-upward, else-upward, After-columns_of-columns}
+use Rattle.qr_symbol.specs.{Steps.Placement.{number_at, AreDrawn, IsRegion}, declared.spans.Columns.Columns}
+use Rattle.qr_symbol.proofs.lemmas.placement.PlacementLemmas.{placed-start, placed-strip, placed-small, placed-end, square-transposed}
+use Rattle.std.{proofs.{Common.{rules, ◌≡◌, ℕ, ◌-◌, Bool, List, ap, ◌∙◌, sym, subst, arith}, lemmas.List.Elements.{All-head, All-tail}}, specs.List.All}
 use Rattle.qr_symbol.proofs.placement.draw_codewords.Goals as goal
 
 pub loop-strip-init : goal.loop-strip-init
@@ -16,16 +21,28 @@ loop-strip-init c =
       placed = placed-start v _ _ _ (square-transposed _ _ c.requires.square) (subst (λ (xs : List Strip). IsOrder v (in_region_of v (places_of (side_of v) xs))) e c.all_strips-strip-items.ensures.order);
     }
 
-pub draw_strip-number-requires : goal.draw_strip-number-requires
-draw_strip-number-requires c =
-    let i = c.loop-strip.invariant in
-    let inside = All-head (Inside c.args.version) _ _ (rw c.in-Some.ensures.steps at i.inside) in record {
-      square = i.square;
-      region = c.requires.region;
-      left_in = inside.0;
-      right_in = inside.1;
-      few = placed-small _ _ _ _ _ _ _ (omega arith) (omega arith) i.placed;
-    }
+-- the strip is in the square
+inside : (c : After-columns_of-columns) → Inside c.args.version c.in-Some.strip
+inside c = All-head (Inside c.args.version) _ _ (rw c.in-Some.ensures.steps at c.loop-strip.invariant.inside)
+
+-- exactly the bits of the region are set in the columns of its square
+is-region : (c : After-columns_of-columns) → IsRegion c.args.version c.in-Some.strip.right c.columns_of-within.result
+is-region c row l = let i = inside c in (
+  c.columns_of-within.ensures.right row ∙ region-across _ _ row _ c.requires.region l i.1,
+  c.columns_of-within.ensures.left row ∙ region-across _ _ row _ c.requires.region l (omega (arith, i.1)),
+)
+
+pub draw_columns-number-requires-clause-region : goal.draw_columns-number-requires-clause-region
+draw_columns-number-requires-clause-region c = is-region (goal.at.draw_columns-number-requires-clause-region c).After-columns_of-columns
+
+pub draw_columns-number-requires-else-upward-clause-region : goal.draw_columns-number-requires-else-upward-clause-region
+draw_columns-number-requires-else-upward-clause-region c = is-region (goal.at.draw_columns-number-requires-else-upward-clause-region c).After-columns_of-columns
+
+pub draw_columns-number-requires-clause-few : goal.draw_columns-number-requires-clause-few
+draw_columns-number-requires-clause-few c = placed-small _ _ _ _ _ _ _ (omega arith) (omega arith) c.loop-strip.invariant.placed
+
+pub draw_columns-number-requires-else-upward-clause-few : goal.draw_columns-number-requires-else-upward-clause-few
+draw_columns-number-requires-else-upward-clause-few c = placed-small _ _ _ _ _ _ _ (omega arith) (omega arith) c.loop-strip.invariant.placed
 
 pub loop-strip-preserved : goal.loop-strip-preserved
 loop-strip-preserved c =
@@ -33,16 +50,30 @@ loop-strip-preserved c =
     let i = c.loop-strip.invariant in let x = c.in-Some.strip in
     let xs = c.loop-strip.yielded in let cw = c.args.codewords.now in
     let g0 = transposed _ in let n = c.loop-strip.number in
-    let now = rw c.in-Some.ensures.steps at i.placed in record {
+    let now = rw c.in-Some.ensures.steps at i.placed in
+    let before = (goal.at.loop-strip-preserved c).After-columns_of-columns in
+    let in-square = inside before in let region = is-region before in
+    let g = c.loop-strip.across in let taken = c.columns_of-columns in
+    let old : Columns = record { right = c.bitxor-columns.result; left = c.bitxor-columns-in-loop-strip.result } in
+    let is-drawn = λ (next : ℕ) (new : Columns) (up : Bool). (next ≡ number_at v (record { right = x.right; upward = up }) n s) × AreDrawn v cw (record { right = x.right; upward = up }) n 0 s old new in
+    let drawn : (c.if-upward.number ≡ number_at v x n s) × AreDrawn v cw x n 0 s old c.if-upward.columns = elim c.if-upward.branch [
+      | then-upward w ↦ (let e = w.draw_columns-number.ensures in rw (w.columns-is, w.number-is) (subst (is-drawn w.draw_columns-number.result w.draw_columns-number.new.columns) (sym w.if-upward.true) (e.number, e.drawn)))
+      | else-upward w ↦ (let e = w.draw_columns-number-else-upward.ensures in rw (w.columns-is, w.number-is) (subst (is-drawn w.draw_columns-number-else-upward.result w.draw_columns-number-else-upward.new.columns) (sym w.if-upward.false) (e.number, e.drawn)))
+    ] in
+    let strip = strip-drawn v cw x n c.if-upward.number g c.set_bit_row-in-loop-strip.new.self old c.if-upward.columns i.square in-square.0 in-square.1
+    (c.set_bit_row-in-loop-strip.ensures ∙ ap (λ (z : Grid). with_row z (x.right - 1) (has c.if-upward.columns.left)) c.set_bit_row.ensures)
+    (λ row l. rw (← (region row l).0, ← (region row l).1, ← taken.ensures.right row, ← taken.ensures.left row) (
+      cc (c.bitxor-columns.ensures row, c.bitand.ensures row, cleared (has taken.result.right row) (has c.columns_of-within.result.right row)),
+      cc (c.bitxor-columns-in-loop-strip.ensures row, c.bitand-in-loop-strip.ensures row, cleared (has taken.result.left row) (has c.columns_of-within.result.left row)),
+    ))
+    drawn.0 drawn.1 in
+    record {
       can_next = tt;
       is_finite = tt;
       inside = All-tail (Inside v) x c.next.new.self (subst (All (Inside v)) c.in-Some.ensures.steps i.inside);
-      square = c.draw_strip-number.ensures.square;
-      placed = rw (places-push s xs x) (placed-strip v cw g0 _ _ x _ _ n _ i.square now c.draw_strip-number.ensures);
+      square = strip.square;
+      placed = rw (places-push s xs x) (placed-strip v cw g0 _ _ x _ _ n _ i.square now strip);
     }
 
 pub returns-clause-placed : goal.returns-clause-placed
-returns-clause-placed c =
-    let v = c.args.version in
-    let s = side_of v in placed-end v _ _ _ _ _
-    (subst (λ (xs : List Strip). IsPlaced v c.args.codewords.now (transposed c.args.across.now) (places_of s c.loop-strip.yielded) (places_of s xs) c.loop-strip.number (transposed c.loop-strip.across)) c.in-None.ensures.steps.0 c.loop-strip.invariant.placed)
+returns-clause-placed c = search (rules, placed-end)

@@ -1,13 +1,14 @@
-use Rattle.{std.proofs.Common.{◌≡◌, ◌+◌, ◌≤◌, refl, arith}, qr_layout.specs.Version.side_of}
+use Rattle.std.proofs.Common.{rules}
+use Rattle.{std.proofs.Common.{◌≡◌, ◌+◌, ◌-◌, ◌≤◌, ◌&&◌, ◌||◌, leb, ap, ◌∙◌, refl, arith}, qr_layout.specs.Version.side_of, qr_matrix.specs.BitRow.has}
 use Rattle.qr_symbol.proofs.lemmas.placement.SpanDrawnLemmas.{both-drawn, left-drawn, light-later, outside-drawn, right-drawn, span-added}
 use Rattle.qr_symbol.proofs.lemmas.words.BitLemmas.{highest-within}
 use Rattle.qr_symbol.proofs.placement.draw_columns.Goals as goal
 
-pub set_bits-requires-clause-fits : goal.set_bits-requires-clause-fits
-set_bits-requires-clause-fits c = λ k l. highest-within c.bits_at-bit.result _ k (omega (arith, c.bits_at-bit.type_inv)) l
+pub set_bits-requires-in-Right-clause-fits : goal.set_bits-requires-in-Right-clause-fits
+set_bits-requires-in-Right-clause-fits c = search (rules, highest-within)
 
 pub set_bits-requires-in-Left-clause-fits : goal.set_bits-requires-in-Left-clause-fits
-set_bits-requires-in-Left-clause-fits c = λ k l. highest-within c.bits_at-bit-in-Left.result _ k (omega (arith, c.bits_at-bit-in-Left.type_inv)) l
+set_bits-requires-in-Left-clause-fits c = search (rules, highest-within)
 
 pub loop-span-preserved-in-Both : goal.loop-span-preserved-in-Both
 loop-span-preserved-in-Both c =
@@ -18,7 +19,9 @@ loop-span-preserved-in-Both c =
       can_next = next;
       is_finite = tt;
       strip = same;
-      drawn = rw c.from.ensures (span-added _ end room i.drawn (both-drawn c.args.region.now _ c.in-Both.count c.in-Both.top _ _ (omega (arith, end, room)) is.2.2 c.requires.region (light-later c.args.region.now c.requires.light i.drawn.drawn) is.2.5 is.2.3 i.drawn.next c.bits_at-bits.ensures c.draw_rows.ensures.right c.draw_rows.ensures.left));
+      drawn = rw c.from.ensures (span-added _ end room i.drawn (both-drawn c.args.region.now _ c.in-Both.count c.in-Both.top _ _ (omega (arith, end, room)) is.2.2 c.requires.region (light-later c.args.region.now c.requires.light i.drawn.drawn) is.2.5 is.2.3 i.drawn.next c.bits_at-bits.ensures
+          (λ j. c.set_bits.ensures j ∙ ap (λ z. has c.loop-span.columns.right j || leb c.in-Both.top j && z) (c.split-right.ensures.right (j - c.in-Both.top)))
+          (λ j. c.set_bits-in-Both.ensures j ∙ ap (λ z. has c.loop-span.columns.left j || leb c.in-Both.top j && z) (c.split-right.ensures.left (j - c.in-Both.top)))));
     }
 
 pub loop-span-preserved-in-Right : goal.loop-span-preserved-in-Right
@@ -30,7 +33,7 @@ loop-span-preserved-in-Right c =
       can_next = next;
       is_finite = tt;
       strip = same;
-      drawn = span-added _ end room i.drawn (right-drawn c.args.region.now _ c.in-Right.row _ _ (omega (arith, end, room)) c.requires.region (light-later c.args.region.now c.requires.light i.drawn.drawn) (omega (arith, c.bits_at-bit.type_inv)) is.2.1 i.drawn.next c.bits_at-bit.ensures is.2.2 is.2.3 c.set_bits.ensures (λ j. refl));
+      drawn = span-added _ end room i.drawn (right-drawn c.args.region.now _ c.in-Right.row _ _ (omega (arith, end, room)) c.requires.region (light-later c.args.region.now c.requires.light i.drawn.drawn) (omega (arith, c.bits_at-bit.type_inv)) is.2.1 i.drawn.next c.bits_at-bit.ensures is.2.2 is.2.3 c.set_bits-in-Right.ensures (λ j. refl));
     }
 
 pub loop-span-preserved-in-Left : goal.loop-span-preserved-in-Left

@@ -1,29 +1,21 @@
-use Rattle.qr_matrix.specs.Grid.{Grid, colour, square, IsSquare}
+use Rattle.qr_matrix.specs.Grid.{Grid, colour, square}
 use Rattle.qr_symbol.proofs.lemmas.{placement.PlacementLemmas.square-is, reading.SymbolReadLemmas.read-masked}
 use Rattle.qr_symbol.specs.{Mask.inverts, Mask.inverted, Reading.IsRead}
-use Rattle.std.proofs.Common.{◌≡◌, ℕ, ◌≤◌, false, inl, inr, min, ◌&&◌, eqb, refl, sym, ap, subst, ◌∙◌, arith}
-use Rattle.std.proofs.lemmas.{Bool.{cases_lt, Decides.nat_tests}, Result.{IfOk-from_err, IfOk-weaker}}
+use Rattle.std.proofs.Common.{rules, ◌≡◌, ℕ, ◌≤◌, min, ◌&&◌, ap, ◌∙◌, arith}
+use Rattle.std.proofs.lemmas.{Result.{IfOk-from_err, IfOk-weaker}}
 use Rattle.qr_symbol.proofs.reading.read_codewords.Goals as goal
 
 -- each number from 7 on is the mask pattern 7
 seven-on : (mask r c : ℕ) → 7 ≤ mask → inverts 7 r c ≡ inverts mask r c
 unfolding inverts
-seven-on mask r c l =
-    let e0 : eqb mask 0 ≡ false = grind (arith, nat_tests) in let e1 : eqb mask 1 ≡ false = grind (arith, nat_tests) in
-    let e2 : eqb mask 2 ≡ false = grind (arith, nat_tests) in let e3 : eqb mask 3 ≡ false = grind (arith, nat_tests) in
-    let e4 : eqb mask 4 ≡ false = grind (arith, nat_tests) in let e5 : eqb mask 5 ≡ false = grind (arith, nat_tests) in
-    let e6 : eqb mask 6 ≡ false = grind (arith, nat_tests) in rw (e0, e1, e2, e3, e4, e5, e6) refl
+seven-on mask r c l = search rules
 
 -- so a mask above 7 can be taken as 7
 capped : (mask r c : ℕ) → inverts (min mask 7) r c ≡ inverts mask r c
-capped mask r c = elim (cases_lt mask 7) [
-  | inl l ↦ ap (λ m. inverts m r c) (omega arith)
-  | inr l ↦ ap (λ m. inverts m r c) (omega arith) ∙ seven-on mask r c l
-]
+capped mask r c = search (rules, seven-on)
 
 pub set_masked-requires-clause-square : goal.set_masked-requires-clause-square
-set_masked-requires-clause-square c = let e = c.in_ok-plain.ensures in
-    subst (λ s. IsSquare s c.in_ok-plain.plain) (sym (ap (λ (g : Grid). g.side) e)) (square-is c.side.result (λ _ _. false) c.in_ok-plain.plain e)
+set_masked-requires-clause-square c = search (rules, square-is)
 
 pub returns-clause-read : goal.returns-clause-read
 returns-clause-read c =
@@ -36,8 +28,4 @@ returns-clause-read c =
     (λ i k. ap (λ m. inverts m i k) c.min-mask.ensures ∙ capped c.args.mask i k) drawn h) c.read_plain.ensures.read
 
 pub returns-in_err-region : goal.returns-in_err-region
-returns-in_err-region c = let e = c.from_residual.ensures.0 in record { read = IfOk-from_err _ _ e; many = IfOk-from_err _ _ e }
-
-pub returns-in_err-plain : goal.returns-in_err-plain
-returns-in_err-plain c =
-    let e = c.from_residual-in_err-plain.ensures.0 in record { read = IfOk-from_err _ _ e; many = IfOk-from_err _ _ e }
+returns-in_err-region c = search (rules, IfOk-from_err)

@@ -1,10 +1,10 @@
-use Rattle.std.proofs.Common.{sym, ◌∙◌}
+use Rattle.std.proofs.Common.{rules, ◌∙◌}
 use Rattle.qr_symbol.{proofs.reading.read_symbol.Goals.In-Some, specs.Reading.IsOfVersion}
 use Rattle.qr_symbol.proofs.reading.read_symbol.Goals as goal
 
 -- the version that was found
 of-version : (c : In-Some) → IsOfVersion c.args.matrix.now c.in-Some.version
-of-version c = record { least = c.in-Some.ensures.0; most = c.in-Some.ensures.1; side = sym c.side.ensures.value ∙ c.in-Some.ensures.2 }
+of-version c = search rules
 
 pub returns-in_default-clause-read : goal.returns-in_default-clause-read
 returns-in_default-clause-read c = λ v s. c.in_default.ensures v s.least s.most (c.side.ensures.value ∙ s.side)

@@ -1,3 +1,4 @@
+use Rattle.std.proofs.Common.{rules}
 use Rattle.{qr_layout.proofs.Facts.laws-of, qr_symbol.proofs.lemmas.reading.SymbolReadLemmas.{is-parsed, not-checked, not-parsed}}
 use Rattle.qr_symbol.specs.{Reading.{IsRead, IsMessage}, declared.fault.ReadFault.ReadFault}
 use Rattle.std.proofs.{Common.{length, Err, sym, ◌∙◌, ap, subst, arith}, lemmas.Result.err_from_is_err_and}
@@ -18,12 +19,7 @@ parse-requires c = let most = (laws-of c.args.level c.args.version (omega arith)
 
 -- the message that was deinterleaved is that of the square
 held : (c : After-deref-2) → IsMessage c.args.version c.args.level c.args.mask c.args.matrix.now c.deref-2.result.now
-held c = rw c.deref-2.ensures.value (record {
-  codewords = c.deref.result.now;
-  read = rw c.deref.ensures.value c.in_ok-codewords.ensures.read;
-  many = c.in_ok-message.ensures.many;
-  interleaved = c.in_ok-message.ensures.read;
-})
+held c = search rules
 
 pub returns-in_err-parse : goal.returns-in_err-parse
 returns-in_err-parse c =

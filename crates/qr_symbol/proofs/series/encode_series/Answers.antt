@@ -1,11 +1,15 @@
-use Rattle.std.proofs.Common.{◌≡◌, ◌≢◌, ◌≤◌, ◌↔◌, ◌⊎◌, ◌∷◌, ◌++◌, [], inl, inr, false, ℕ, List, length, Result, Err, Vec, Global, refl, sym, ap, ◌∙◌, arith, rules}
+use Rattle.std.proofs.lemmas.Grind.{common_steps}
+use Rattle.std.proofs.Common.{◌≡◌, ◌≢◌, ◌≤◌, ◌↔◌, ◌⊎◌, ◌∷◌, ◌++◌, [], inl, inr, false, ℕ, List, length, Result, Err, Vec, Global, sym, ap, ◌∙◌, arith, rules}
 use Rattle.std.proofs.{Math.Nat.pos_of_ne-zero, lemmas.{Bool.{eqb-false, eqb-true}, List.nil_from_length, Option.{MatchOption-at_none, MatchOption-at_some}}}
 use Rattle.std.proofs.lemmas.Result.{err_from_is_err_and, IfOk-weaker, MatchResult-at_err, MatchResult-weaker}
 use Rattle.std.specs.Prelude.{IfOk, IfErr, MatchResult}
 use Rattle.qr_bits.specs.{Interpretation.MayWrite, Modes.may_use, declared.interpretation.Interpretation.Interpretation, declared.modes.{Mode.TheVariants.Kanji, Rule.Rule}}
 use Rattle.qr_layout.specs.declared.level.Level.{Level}
 use Rattle.qr_symbol.proofs.lemmas.fault.ExactLemmas.{empty-has-series, empty-many, not-empty, too-many-exactly}
-use Rattle.qr_symbol.proofs.lemmas.series.{LongLemmas.none-shorter, PartLemmas.lengths-some, SeriesLemmas.{lone-series, series-interpreted, series-joined, split-series}, SizeLemmas.series-shortest}
+use Rattle.qr_symbol.proofs.lemmas.series.PartExistenceLemmas.{none-shorter}
+use Rattle.qr_symbol.proofs.lemmas.series.PartLemmas.{lengths-some}
+use Rattle.qr_symbol.proofs.lemmas.series.SeriesLemmas.{lone-series, series-interpreted, series-joined, split-series}
+use Rattle.qr_symbol.proofs.lemmas.series.SizeLemmas.{series-shortest}
 use Rattle.qr_symbol.specs.{Joining.{AreInterpreted, IsJoined}, Series.{squares_of, HasNoSeries, IsSeries, NeedsParts}}
 use Rattle.qr_symbol.specs.declared.{fault.EncodeFault.EncodeFault, symbol.Symbol.Symbol}
 use Rattle.qr_symbol.specs.declared.fault.EncodeFault.TheVariants as fault
@@ -42,20 +46,10 @@ told v l b how x r least most written long is =
     }
 
 pub returns-then-is_empty : goal.returns-then-is_empty
-returns-then-is_empty c =
-    let none = nil_from_length c.args.input.now (eqb-true (length _) 0 (sym c.is_empty.ensures ∙ c.if-is_empty.true)) in record {
-      series = tt;
-      joined = tt;
-      interpreted = tt;
-      shortest = tt;
-      empty = (λ _. none, λ _. refl);
-      too_many = (λ e. absurd (empty-many e), λ w. absurd (empty-has-series _ _ _ _ _ none w.1));
-      no_shorter = λ e. absurd (empty-many e);
-      fault = inl refl;
-    }
+returns-then-is_empty c = grind (arith, common_steps, nil_from_length, eqb-true, empty-many, empty-has-series)
 
 pub returns-in_err-symbol : goal.returns-in_err-symbol
-returns-in_err-symbol c = told _ _ _ _ _ c.from_residual.result (omega arith) (omega arith) c.requires.written (eqb-false _ 0 (sym c.is_empty.ensures ∙ c.if-is_empty.false)) (search rules)
+returns-in_err-symbol c = grind (arith, common_steps, eqb-false)
 
 pub returns-in_err-push : goal.returns-in_err-push
 returns-in_err-push c = told _ _ _ _ _ c.from_residual-in_err-push.result (omega arith) (omega arith) c.requires.written (eqb-false _ 0 (sym c.is_empty.ensures ∙ c.if-is_empty.false)) (search rules)
@@ -66,11 +60,10 @@ returns-in-Some c = told _ _ _ _ _ _ (omega arith) (omega arith) c.requires.writ
     (c.in_ok-push.ensures.items ∙ ap (λ (ss : List Symbol). ss ++ c.in-Some.symbol ∷ []) c.new-symbols.ensures.items))
 
 pub symbols_on-requires-clause-some : goal.symbols_on-requires-clause-some
-symbols_on-requires-clause-some c =
-    rw c.as_slice.ensures.value (lengths-some _ _ _ _ _ _ c.in_ok-lengths.ensures (pos_of_ne-zero (eqb-false _ 0 (sym c.is_empty.ensures ∙ c.if-is_empty.false))))
+symbols_on-requires-clause-some c = search (rules, pos_of_ne-zero, eqb-false, lengths-some)
 
 pub symbols_on-requires-clause-parts : goal.symbols_on-requires-clause-parts
-symbols_on-requires-clause-parts c = rw (c.in_ok-canvas.ensures.version, c.in_ok-canvas.ensures.level, c.as_slice.ensures.value) c.in_ok-lengths.ensures
+symbols_on-requires-clause-parts c = grind (arith, common_steps)
 
 pub returns-in_err-lengths : goal.returns-in_err-lengths
 returns-in_err-lengths c =

@@ -1,6 +1,6 @@
 use Rattle.qr_bits.{proofs.Facts.{may_write-drop, may_write-take}, specs.{Padding.room_of, Segmentation.IsLongestFit}}
 use Rattle.qr_symbol.proofs.lemmas.series.PartLemmas.{lengths-none, lengths-more, longest-cut, longest-some, parts-some, prefixes-more}
-use Rattle.std.proofs.Common.{◌+◌, ◌<◌, [], ◌∷◌, inr, length, refl, sym, ◌∙◌, length-append, arith}
+use Rattle.std.proofs.Common.{rules, ◌+◌, ◌<◌, [], ◌∷◌, inr, length, refl, sym, ◌∙◌, length-append, arith}
 use Rattle.std.proofs.lemmas.{Bool.{eqb-true, Decides.nat_tests}, List.{append-nil, nil_from_length, length-drop}}
 use Rattle.qr_symbol.proofs.series.part_lengths.Goals.{In_ok-len}
 use Rattle.qr_symbol.proofs.series.part_lengths.Goals as goal
@@ -13,7 +13,7 @@ next c =
     let cut = longest-cut _ _ _ _ _ _ _ (omega arith) (omega arith) (omega arith) c.in_ok-len.ensures in (longest-some _ _ _ _ _ _ (omega arith) (omega arith) some cut, cut)
 
 pub longest_fit-requires-clause-written : goal.longest_fit-requires-clause-written
-longest_fit-requires-clause-written c = may_write-take c.args.interpretation c.min.result c.loop-rest.rest.now c.loop-rest.invariant.may
+longest_fit-requires-clause-written c = search (rules, may_write-take)
 
 pub returns-then-is_full : goal.returns-then-is_full
 returns-then-is_full c = inr (

@@ -1,3 +1,4 @@
+use Rattle.std.proofs.lemmas.Grind.{common_steps}
 use Rattle.std.proofs.Common.{◌≡◌, get_or, [], ◌∷◌, drop, length, ◌∙◌, ap, length-append, arith}
 use Rattle.std.proofs.lemmas.{List.{append-nil, drop_all, length-drop}, Result.err_from_is_err_and}
 use Rattle.qr_bits.proofs.Facts.{may_write-drop, may_write-take}
@@ -9,7 +10,7 @@ pub split_at-requires : goal.split_at-requires
 split_at-requires c = let next = lengths-at _ _ _ _ _ _ _ c.loop-len-test.true c.loop-len.invariant.rest in next.0.inside
 
 pub segments-requires-clause-written : goal.segments-requires-clause-written
-segments-requires-clause-written c = rw c.split_at.ensures.front (may_write-take c.args.interpretation _ _ c.loop-len.invariant.may)
+segments-requires-clause-written c = grind (arith, common_steps, may_write-take)
 
 pub symbol_on-requires-clause-room : goal.symbol_on-requires-clause-room
 symbol_on-requires-clause-room c =
@@ -43,10 +44,7 @@ returns c =
     let all = c.loop-len.invariant.made [] (rw none (symbols-none _ _ _ _ _ _ _ _)) in rw append-nil at all
 
 pub returns-in_err-symbol : goal.returns-in_err-symbol
-returns-in_err-symbol c =
-    let p = err_from_is_err_and c.from_residual-in_err-symbol.result c.from_residual-in_err-symbol.ensures.1 in
-    rw (p.1, p.2) c.in_err-symbol.ensures.made
+returns-in_err-symbol c = grind (arith, common_steps, err_from_is_err_and)
 
 pub returns-in_err-push : goal.returns-in_err-push
-returns-in_err-push c =
-    let p = err_from_is_err_and c.from_residual-in_err-push.result c.from_residual-in_err-push.ensures.1 in rw p.1 p.2
+returns-in_err-push c = grind (arith, common_steps, err_from_is_err_and)

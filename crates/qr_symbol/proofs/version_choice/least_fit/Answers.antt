@@ -1,15 +1,20 @@
-use Rattle.std.proofs.Common.{◌≡◌, ◌≤◌, Option, inl, inr, length, refl, sym, subst, ◌∙◌, ◌+◌, arith}
+use Rattle.std.proofs.lemmas.Grind.{common_steps}
+use Rattle.std.proofs.Common.{rules, ◌≡◌, ◌≤◌, Option, Some, ℕ, inl, inr, length, refl, sym, ap, ◌∙◌, ◌+◌, arith}
 use Rattle.{std.{proofs.lemmas.{Bool.{cases_lt, eqb-false, eqb-true}, List.nil_from_length, Result.err_from_is_err_and}, specs.Option.SomeIff}, qr_layout.specs.declared.version.Version.Version}
 use Rattle.qr_symbol.proofs.lemmas.fault.ExactLemmas.{empty-has-version, empty-long, empty-short, exactly, long-has-no-version, refused-some}
-use Rattle.qr_bits.{proofs.Facts.{least-most, least_fits}}
-use Rattle.qr_symbol.proofs.lemmas.version_choice.FitLemmas.{FitNone, segmentation-same, version-found, none-fits}
+use Rattle.qr_bits.{proofs.Facts.{least-most, least_fits}, specs.{Interpretation.interpretation_bits, Padding.capacity_of, Segmentation.bits}}
+use Rattle.qr_symbol.proofs.lemmas.version_choice.FitLemmas.{FitNone, HaveSameWidths, LackRoom, segmentation-same, version-found, none-fits}
+use Rattle.qr_symbol.specs.VersionChoice.{IsVersion}
 use Rattle.qr_symbol.proofs.version_choice.least_fit.Goals as goal
-use Rattle.qr_symbol.proofs.version_choice.least_fit.Goals.{In-Some-new}
+use Rattle.qr_symbol.proofs.version_choice.least_fit.Goals.{in-1-to-9, in-10-to-26, in_default, in_default-2, else-loop-number-test, then-loop-number-test+else-bits-capacity+else-number-last, After-segments, After-new-in-loop-last, Then-bits-capacity}
 
-pub loop-segmented-init : goal.loop-segmented-init
-loop-segmented-init c =
-    let found = subst (λ (o : Option Version). SomeIff o ((1 ≤ c.max.result) × (c.max.result ≤ 40)) c.max.result) c.unwrap-first.ensures c.new.ensures in
-    let e : c.unwrap-first.result ≡ c.max.result = found.1 in
+-- a version that is made of a number has this number
+is-number : {o : Option Version} {v n : ℕ} → o ≡ Some v → SomeIff o ((1 ≤ n) × (n ≤ 40)) n → v ≡ n
+is-number {n = n} e h = search rules
+
+pub loop-last-init : goal.loop-last-init
+loop-last-init c =
+    let e = is-number c.unwrap-first.ensures c.new.ensures in
     let least = c.number.ensures.least in record {
       from = omega arith;
       none = λ v a b fits. c.first_for-start.ensures.none v (omega arith) (omega arith) fits;
@@ -23,15 +28,7 @@ needed_bits-bits-requires c = let is = c.in_ok-segmented.ensures.ok in record {
 
 pub returns-then-is_empty : goal.returns-then-is_empty
 returns-then-is_empty c =
-    let none = nil_from_length c.args.input.now (eqb-true (length _) 0 (sym c.is_empty.ensures ∙ c.if-is_empty.true)) in record {
-      fit = tt;
-      refused = record {
-        empty = (λ _. none, λ _. refl);
-        too_long = (λ e. absurd (empty-long e), λ w. absurd (empty-has-version _ _ _ _ _ (omega arith) none w.1));
-        long = λ l. absurd (empty-short _ none l);
-        fault = inl refl;
-      };
-    }
+    grind (arith, common_steps, nil_from_length, eqb-true, empty-long, empty-has-version, empty-short)
 
 pub returns-then-input-gt-SYMBOL_BYTES_MAX : goal.returns-then-input-gt-SYMBOL_BYTES_MAX
 returns-then-input-gt-SYMBOL_BYTES_MAX c = let long = c.if-input-gt-SYMBOL_BYTES_MAX.true in record {
@@ -45,53 +42,78 @@ returns-then-input-gt-SYMBOL_BYTES_MAX c = let long = c.if-input-gt-SYMBOL_BYTES
 }
 
 pub returns-in_err-segmented-clause-refused : goal.returns-in_err-segmented-clause-refused
-returns-in_err-segmented-clause-refused c =
-    let p = err_from_is_err_and c.from_residual.result c.from_residual.ensures.1 in
-    rw (p.1, p.2, c.in_err-segmented.ensures.err) (refused-some _ _ _ _ _ _ (eqb-false (length _) 0 (sym c.is_empty.ensures ∙ c.if-is_empty.false)) c.if-input-gt-SYMBOL_BYTES_MAX.false (inl refl))
+returns-in_err-segmented-clause-refused c = grind (arith, common_steps, err_from_is_err_and, refused-some, eqb-false)
 
-pub returns-in-Some-clause-fit : goal.returns-in-Some-clause-fit
-returns-in-Some-clause-fit c =
-    let found = c.in-Some.ensures in
-    let same = c.last_of_width-last.ensures.same in record {
-      version = version-found _ _ _ _ _ _ c.loop-segmented.first c.in-Some.version _ (omega arith) c.loop-segmented.invariant.from found.0 (omega arith) c.loop-segmented.invariant.none
-          (λ w i j. same w i (omega arith)) c.in_ok-segmented.ensures.ok (λ w i j. let less = found.3 w i j in omega (arith, c.needed_bits-bits.ensures)) (omega (arith, c.needed_bits-bits.ensures));
-      chosen = segmentation-same _ _ _ _ _ _ _ (λ m. sym (same _ found.0 found.1 m)) c.in_ok-segmented.ensures.ok;
+-- `last` is the last of a range of versions in which the counts have the same widths
+ranged : (c : After-segments) → (c.loop-last.first ≤ c.if-number-lt1.last) × (c.if-number-lt1.last ≤ 40) × HaveSameWidths c.loop-last.first (c.if-number-lt1.last + 1)
+ranged c = let e = c.number-in-loop-last.ensures in elim c.if-number-lt1.branch [
+  | in-1-to-9 w ↦ rw w.last-is (omega (arith, w.in-1-to-9, e.value), omega arith, λ v k l m. search rules)
+  | in-10-to-26 w ↦ rw w.last-is (omega (arith, w.in-10-to-26, e.value), omega arith, λ v k l m. search rules)
+  | in_default w ↦ rw w.last-is (omega (arith, e.most, e.value), omega arith, λ v k l m. search rules)
+  | in_default-2 w ↦ rw w.last-is (omega (arith, e.most, e.value), omega arith, λ v k l m. search rules)
+]
+
+-- all versions of the range have too little room
+full : (c : After-new-in-loop-last) → LackRoom c.loop-last.first (c.if-number-lt1.last + 1) c.args.level (interpretation_bits c.args.interpretation + bits c.loop-last.first c.in_ok-segmented.segmented.segments.items)
+full c v a b =
+    let n = c.needed_bits-bits.ensures in let e = c.number-number.ensures.value in let before = c.loop-number.invariant in
+    elim c.loop-number-test.branch [
+      | else-loop-number-test w ↦ omega (arith, n, before v (omega (arith, e)) (omega (arith, w.loop-number-test.false)))
+      | then-loop-number-test+else-bits-capacity+else-number-last w ↦ elim (cases_lt v c.loop-number.number) [
+        | inl k ↦ omega (arith, n, before v (omega (arith, e)) k)
+        | inr k ↦ (let is = is-number w.unwrap-version.ensures w.new-in-loop-number.ensures in let same : w.unwrap-version.result ≡ v = search rules in
+            omega (arith, n, w.if-bits-capacity.false, w.capacity.ensures.value ∙ ap (λ z. capacity_of z c.args.level) same))
+      ]
+    ]
+
+-- the input fits no version of the range
+none : (c : After-new-in-loop-last) → FitNone c.args.smallest (c.if-number-lt1.last + 1) c.args.level c.args.rule c.args.interpretation c.args.input.now
+none c v a b =
+    let range = ranged (goal.at.After-new-in-loop-last c).After-segments in
+    none-fits c.args.input.now _ c.args.level c.args.smallest c.args.rule c.args.interpretation c.loop-last.first (c.if-number-lt1.last + 1) _ (omega arith) (omega (arith, range.1)) c.loop-last.invariant.none
+    range.2 c.in_ok-segmented.ensures.ok (full c) v a b
+
+-- the version that has room is the least that the input fits
+least : (c : Then-bits-capacity) → IsVersion c.args.smallest c.args.level c.args.rule c.args.interpretation c.args.input.now c.unwrap-version.result
+least c =
+    let is = is-number c.unwrap-version.ensures c.new-in-loop-number.ensures in
+    let range = ranged (goal.at.Then-bits-capacity c).After-segments in let e = c.number-number.ensures.value in
+    version-found _ _ _ _ _ _ c.loop-last.first c.unwrap-version.result _ (omega arith) c.loop-last.invariant.from (omega (arith, is, e, c.loop-number.auto.number)) (omega arith) c.loop-last.invariant.none
+    (λ w i j. range.2 w i (omega (arith, is, c.loop-number-test.true))) c.in_ok-segmented.ensures.ok
+    (λ w i j. let less = c.loop-number.invariant w (omega (arith, e)) (omega (arith, is)) in omega (arith, c.needed_bits-bits.ensures))
+    (omega (arith, c.needed_bits-bits.ensures, c.if-bits-capacity.true, c.capacity.ensures.value))
+
+pub returns-then-bits-capacity-clause-fit : goal.returns-then-bits-capacity-clause-fit
+returns-then-bits-capacity-clause-fit c =
+    let is = least (goal.at.returns-then-bits-capacity-clause-fit c).Then-bits-capacity in
+    let e = is-number c.unwrap-version.ensures c.new-in-loop-number.ensures in
+    let range = ranged (goal.at.returns-then-bits-capacity-clause-fit c).After-segments in record {
+      version = is;
+      chosen = segmentation-same _ _ _ _ _ _ _ (λ m. sym (range.2 c.unwrap-version.result (omega (arith, e, c.number-number.ensures.value, c.loop-number.auto.number)) (omega (arith, e, c.loop-number-test.true)) m)) c.in_ok-segmented.ensures.ok;
     }
 
-pub returns-in-Some-clause-refused : goal.returns-in-Some-clause-refused
-returns-in-Some-clause-refused c =
-    let found = c.in-Some.ensures in
-    let is = version-found _ _ _ _ _ _ c.loop-segmented.first c.in-Some.version _ (omega arith) c.loop-segmented.invariant.from found.0 (omega arith) c.loop-segmented.invariant.none
-    (λ w i j. c.last_of_width-last.ensures.same w i (omega arith)) c.in_ok-segmented.ensures.ok (λ w i j. let less = found.3 w i j in omega (arith, c.needed_bits-bits.ensures)) (omega (arith, c.needed_bits-bits.ensures)) in
+pub returns-then-bits-capacity-clause-refused : goal.returns-then-bits-capacity-clause-refused
+returns-then-bits-capacity-clause-refused c =
+    let is = least (goal.at.returns-then-bits-capacity-clause-refused c).Then-bits-capacity in
     refused-some _ _ _ _ _ _ (eqb-false (length _) 0 (sym c.is_empty.ensures ∙ c.if-is_empty.false)) c.if-input-gt-SYMBOL_BYTES_MAX.false (λ none. none _ is.least is.most is.fits)
 
 pub returns-in-None-clause-refused : goal.returns-in-None-clause-refused
 returns-in-None-clause-refused c =
-    let last = c.last_of_width-last.result in
     refused-some _ _ _ _ _ _ (eqb-false (length _) 0 (sym c.is_empty.ensures ∙ c.if-is_empty.false)) c.if-input-gt-SYMBOL_BYTES_MAX.false (inr (
       refl,
       λ v a b.
-          none-fits c.args.input.now _ c.args.level c.args.smallest c.args.rule c.args.interpretation c.loop-segmented.first (last + 1) _ (omega arith) (omega arith) c.loop-segmented.invariant.none
-          (λ w i j. c.last_of_width-last.ensures.same w i (omega arith)) c.in_ok-segmented.ensures.ok
-          (λ w i j. let less = c.in_default.ensures w i (omega arith) in omega (arith, c.needed_bits-bits.ensures)) v a
-          (elim (cases_lt v (last + 1)) [ inl i ↦ i | inr i ↦ absurd (c.in-None.ensures (omega arith, omega arith)) ]),
+          none (goal.at.returns-in-None-clause-refused c).After-new-in-loop-last v a
+          (elim (cases_lt v (c.if-number-lt1.last + 1)) [ inl i ↦ i | inr i ↦ absurd (c.in-None.ensures (omega arith, omega arith)) ]),
     ))
 
--- the input fits no version before the next range
-none : (c : In-Some-new) → FitNone c.args.smallest c.in-Some-new.next c.args.level c.args.rule c.args.interpretation c.args.input.now
-none c v a b =
-    none-fits c.args.input.now _ c.args.level c.args.smallest c.args.rule c.args.interpretation c.loop-segmented.first (c.last_of_width-last.result + 1) _ (omega arith) (omega arith) c.loop-segmented.invariant.none
-    (λ w i j. c.last_of_width-last.ensures.same w i (omega arith)) c.in_ok-segmented.ensures.ok
-    (λ w i j. let less = c.in_default.ensures w i (omega arith) in omega (arith, c.needed_bits-bits.ensures)) v a (omega arith)
-
-pub loop-segmented-preserved : goal.loop-segmented-preserved
-loop-segmented-preserved c = record {
-  from = let start = c.loop-segmented.invariant.from in omega (arith, c.last_of_width-last.ensures.least);
-  none = none (goal.at.loop-segmented-preserved c).In-Some-new;
+pub loop-last-preserved : goal.loop-last-preserved
+loop-last-preserved c = record {
+  from = let start = c.loop-last.invariant.from in omega (arith, (ranged (goal.at.loop-last-preserved c).After-segments).0);
+  none = λ v a b. none (goal.at.loop-last-preserved c).After-new-in-loop-last v a (omega arith);
 }
 
-pub loop-segmented-preserved-in-Some-new : goal.loop-segmented-preserved-in-Some-new
-loop-segmented-preserved-in-Some-new c = record {
-  from = let start = c.loop-segmented.invariant.from in omega (arith, c.last_of_width-last.ensures.least);
-  none = none (goal.at.loop-segmented-preserved-in-Some-new c).In-Some-new;
+pub loop-last-preserved-in-Some : goal.loop-last-preserved-in-Some
+loop-last-preserved-in-Some c = record {
+  from = let start = c.loop-last.invariant.from in omega (arith, (ranged (goal.at.loop-last-preserved-in-Some c).After-segments).0);
+  none = λ v a b. none (goal.at.loop-last-preserved-in-Some c).After-new-in-loop-last v a (omega arith);
 }

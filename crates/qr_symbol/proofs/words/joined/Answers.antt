@@ -1,12 +1,6 @@
 use Rattle.{std.proofs.Common.{◌≡◌, ◌+◌, ◌-◌, ◌*◌, cond, ap, sym, ◌∙◌, arith}, qr_matrix.{proofs.Facts.has_bit-shr, specs.BitRow.has_bit}}
 use Rattle.qr_symbol.proofs.words.joined.Goals as goal
 
-pub returns-then-upward : goal.returns-then-upward
-returns-then-upward c = record {
-  right = λ j l. let n = c.args.count in c.interleaved.ensures.odd (n - 1 - j) (omega arith) ∙ ap (λ z. has_bit c.args.right (cond z (n - 1 - j) j)) (sym c.if-upward.true);
-  left = λ j l. let n = c.args.count in c.interleaved.ensures.even (n - 1 - j) (omega arith) ∙ ap (λ z. has_bit c.args.left (cond z (n - 1 - j) j)) (sym c.if-upward.true);
-}
-
 pub returns-else-upward : goal.returns-else-upward
 returns-else-upward c = record {
   right = λ j l.

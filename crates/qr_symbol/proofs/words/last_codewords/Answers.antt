@@ -1,4 +1,4 @@
-use Rattle.{std.proofs.Common.{ap, sym, ◌∙◌, arith}, qr_matrix.specs.BitRow.has_bit}
+use Rattle.{std.proofs.Common.{rules, ◌≡◌, ◌+◌, get_or, arith}}
 use Rattle.qr_symbol.proofs.lemmas.words.BitLemmas.{codewords-more, codewords-fits, codewords-room}
 use Rattle.qr_symbol.proofs.words.last_codewords.Goals as goal
 
@@ -9,10 +9,10 @@ pub overflow_add-bits : goal.overflow_add-bits
 overflow_add-bits c = omega (arith, codewords-room _ _ (omega arith) c.loop-next.invariant.small)
 
 pub loop-next-preserved : goal.loop-next-preserved
-loop-next-preserved c = let i = c.loop-next.invariant in record {
+loop-next-preserved c = let i = c.loop-next.invariant in let next : c.from.result ≡ get_or c.args.codewords.now (c.args.first + c.loop-next.next) 0 = search rules in record {
   small = codewords-fits _ _ _ i.small (omega arith);
-  held = codewords-more _ _ _ _ _ (c.from.ensures ∙ c.codeword_at.ensures) (omega arith) i.held;
+  held = codewords-more _ _ _ _ _ next (omega arith) i.held;
 }
 
 pub returns : goal.returns
-returns c = λ k l. ap (has_bit _) (sym (omega arith)) ∙ c.loop-next.invariant.held k (omega arith)
+returns c = search rules

@@ -1,17 +1,12 @@
 use Rattle.qr_layout.specs.{Format.format_word_of, Role.role_of, Version.side_of}
-use Rattle.qr_matrix.{proofs.Facts.{square-same, colour-square}, specs.Grid.{Grid, square, colour, IsSquare}}
+use Rattle.qr_matrix.{proofs.Facts.{square-same, colour-square}, specs.Grid.{Grid, square, colour}}
 use Rattle.qr_symbol.proofs.lemmas.placement.PlacementLemmas.{square-is}
 use Rattle.qr_symbol.specs.{Mask.{inverts, inverted}, Steps.{Patterns.format_or, Placement.masked_colour}}
-use Rattle.std.proofs.Common.{◌≡◌, ℕ, ◌&&◌, ◌∙◌, ap, sym, subst}
+use Rattle.std.proofs.Common.{rules, ◌≡◌, ℕ, ◌&&◌, ◌∙◌, ap}
 use Rattle.qr_symbol.proofs.canvas.Canvas.draw_masked.Goals as goal
 
-pub set_masked-requires-clause-square : goal.set_masked-requires-clause-square
-set_masked-requires-clause-square c =
-    subst (λ s. IsSquare s c.args.matrix.now) (sym (ap (λ (g : Grid). g.side) c.requires.square)) c.requires.square
-
 pub draw_format-requires : goal.draw_format-requires
-draw_format-requires c = let f = λ (r k : ℕ). inverted (colour _ r k && inverts c.args.mask r k) (colour _ r k) in
-    square-is _ f _ (c.set_masked.ensures ∙ ap (λ s. square s f) (ap (λ (g : Grid). g.side) c.requires.square))
+draw_format-requires c = search (rules, square-is)
 
 pub returns : goal.returns
 unfolding masked_colour

@@ -1,10 +1,10 @@
-use Rattle.{qr_layout.specs.Version.side_of, qr_matrix.specs.Grid.light, std.proofs.Common.{false, ◌∙◌, ap}}
+use Rattle.{std.proofs.Common.{rules}}
 use Rattle.qr_symbol.proofs.lemmas.{canvas.CanvasLemmas.patterns-start, placement.PlacementLemmas.square-is}
 use Rattle.std.proofs.lemmas.Result.{IfOk-from_err}
 use Rattle.qr_symbol.proofs.canvas.Canvas.new.Goals as goal
 
 pub draw_fixed-requires : goal.draw_fixed-requires
-draw_fixed-requires c = square-is (side_of _) (λ _ _. false) c.in_ok-plain.plain (c.in_ok-plain.ensures ∙ ap light c.side.ensures.value)
+draw_fixed-requires c = search (rules, square-is)
 
 pub invariant_of-result : goal.invariant_of-result
 invariant_of-result c = record {
@@ -13,8 +13,4 @@ invariant_of-result c = record {
 }
 
 pub returns-in_err-region : goal.returns-in_err-region
-returns-in_err-region c = let e = c.from_residual.ensures.0 in record { version = IfOk-from_err _ _ e; level = IfOk-from_err _ _ e }
-
-pub returns-in_err-plain : goal.returns-in_err-plain
-returns-in_err-plain c =
-    let e = c.from_residual-in_err-plain.ensures.0 in record { version = IfOk-from_err _ _ e; level = IfOk-from_err _ _ e }
+returns-in_err-region c = search (rules, IfOk-from_err)

@@ -1,13 +1,14 @@
+use Rattle.std.proofs.Common.{rules}
 use Rattle.qr_bits.{proofs.Facts.power-fits}
 use Rattle.qr_symbol.proofs.lemmas.words.JoinLemmas.{push-made, pushed, codewords-joined, codewords-small, joined-small, joined-whole}
-use Rattle.std.proofs.{Common.{◌≡◌, ◌+◌, ◌*◌, ◌%◌, ◌^◌, arith, refl}, Math.Nat.mod-lt, lemmas.Nat.pow_pos}
+use Rattle.std.proofs.{Common.{◌≡◌, ◌+◌, ◌*◌, ◌%◌, ◌^◌, arith}, Math.Nat.mod-lt, lemmas.Nat.pow_pos}
 use Rattle.qr_symbol.proofs.words.Collector.push_bits.Goals.{After-from}
 use Rattle.qr_symbol.proofs.words.Collector.push_bits.Goals as goal
 
 -- the bits before and the new ones, as a number
 whole : (c : After-from) → c.from.result * 2 ^ c.args.count % 18446744073709551616 + c.args.bits % (1 * 2 ^ c.args.count % 18446744073709551616)
     ≡ c.self.inside.rest * 2 ^ c.args.count + c.args.bits % 2 ^ c.args.count
-whole c = rw (c.from.ensures, power-fits c.args.count 56 18446744073709551616 c.requires.few (omega arith), joined-whole c.self.inside.width c.args.count c.self.inside.rest c.self.invariant.1 c.self.invariant.0 c.requires.few) refl
+whole c = search (rules, power-fits, joined-whole)
 
 pub overflow_add-all : goal.overflow_add-all
 overflow_add-all c =

@@ -1,6 +1,6 @@
 use Rattle.{qr_layout.specs.Version.side_of, qr_matrix.specs.Grid.{one_of, IsSquare}}
 use Rattle.{qr_symbol.proofs.lemmas.patterns.FormatDrawingLemmas.FormatDown, std.proofs.Common.{Bool, cond}}
-use Rattle.qr_symbol.proofs.patterns.draw_both_down.Given as goal
+use Rattle.qr_symbol.proofs.patterns.draw_both_formats.Given as goal
 
 abbrev pub invariant-loop-bit : goal.invariant-loop-bit
 invariant-loop-bit l = record {

@@ -1,2 +1,0 @@
--- The rows of a strip and their indices.
-pub mod SpanLemmas

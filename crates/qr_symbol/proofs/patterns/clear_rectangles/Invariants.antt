@@ -1,9 +1,0 @@
-use Rattle.{qr_layout.specs.{Rectangles.is_in_rectangle, Version.side_of}, qr_matrix.specs.Grid.colour}
-use Rattle.{qr_symbol.specs.Steps.Patterns.IsOver, std.{proofs.Common.{take, false}, specs.List.list_any}}
-use Rattle.qr_symbol.proofs.patterns.clear_rectangles.Given as goal
-
-abbrev pub invariant-loop-rectangle : goal.invariant-loop-rectangle
-invariant-loop-rectangle l = record {
-  so_far : IsOver (side_of l.fn.version) (λ r c. list_any (is_in_rectangle r c) (take l.rectangle-index l.rectangles)) (λ _ _.
-      false) (colour l.fn.matrix) l.matrix;
-}
