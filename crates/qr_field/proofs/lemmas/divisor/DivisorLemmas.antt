@@ -1,6 +1,6 @@
 -- The multiples of a divisor, and the division by them.
-use Rattle.std.proofs.Common.{◌≡◌, ◌≢◌, ℕ, ◌+◌, ◌*◌, ◌/◌, ◌%◌, ◌^◌, ◌<◌, ◌≤◌, List, [], ◌∷◌, ◌++◌, length, take, drop, get_or, set, refl, sym, ap, ◌∙◌, subst, inl, inr, arith, bit_xor, lit<}
-use Rattle.std.proofs.lemmas.{Bool.cases_lt, Nat.{xor_comm, xor_of_8}, List.Elements.{All-drop, All-push, All-head, All-tail}}
+use Rattle.std.proofs.Common.{◌≡◌, ℕ, ◌+◌, ◌*◌, ◌/◌, ◌%◌, ◌^◌, ◌<◌, ◌≤◌, List, [], ◌∷◌, ◌++◌, length, take, drop, get_or, set, refl, sym, ap, ◌∙◌, arith, bit_xor, lit<}
+use Rattle.std.proofs.lemmas.{Nat.{xor_comm, xor_of_8}, List.Elements.{All-drop, All-push, All-head, All-tail}}
 use Rattle.std.proofs.lemmas.List.{get_or-replicate, get_or-set_same, get_or-set_other, length-map, length-set, length-replicate}
 use Rattle.std.{proofs.Math.Nat.{pow-le-pow_right}, specs.List.All}
 use lib.ListN.{replicate}
@@ -33,9 +33,7 @@ scaled-one (x ∷ g) h = cc (product-of_one x (All-head IsByte x g h), scaled-on
 -- a multiple of a multiple that is packed
 packed-scaled : (a b : ℕ) (g : List ℕ) (v : ℕ) → a < 256 → b < 256 → length g ≤ 32 → All IsByte g →
     v ≡ packed (scaled b g) → packed (scaled a (unpacked 32 v)) ≡ packed (scaled (product a b) g)
-packed-scaled a b g v l m n h e =
-    let count : length (scaled b g) ≤ 32 = omega (arith, length-map g (product b)) in
-    cc (e, scaled-unpacked a 32 (scaled b g) l count (bytes-scaled b g m), scaled-scaled a b g l m h)
+packed-scaled a b g v l m n h e = search (arith, length-map, scaled-unpacked, bytes-scaled, scaled-scaled)
 
 -- twice a multiple that is packed
 pub packed-double : (b : ℕ) (g : List ℕ) (v : ℕ) → b < 128 → length g ≤ 32 → All IsByte g →
@@ -60,7 +58,7 @@ packed-sixteen g a b c d e n h is ib ic id ie =
 
 -- a power of 2 below 16
 pub power-small : (i : ℕ) → i < 4 → 2 ^ i ≤ 8
-power-small i l = let e : 2 ^ i ≤ 2 ^ 3 = pow-le-pow_right {n = 2} (lit< tt) {i = i} {j = 3} (omega arith) in e
+power-small i l = search (arith, pow-le-pow_right)
 
 -- the multiple by 0 alone
 pub multiples-start : (g : List ℕ) → All IsByte g → HasMultiples g 0 1 (replicate 16 zero_register)
@@ -69,7 +67,7 @@ multiples-start g a =
       many = length-replicate 16 zero_register;
       each = λ f l.
           let e : f * 2 ^ 0 ≡ 0 = omega arith in
-          cc (e, get_or-replicate 16 f zero_register zero_register (omega arith), packed-none g a);
+          search (arith, get_or-replicate, packed-none);
     }
 
 -- one multiple more
@@ -89,30 +87,12 @@ multiples-more g rows i r row by_bit li l sum by h =
     let bl : bit < 256 = omega (arith, small) in
     let is : value_of row ≡ packed (scaled (bit + r) g) =
     cc (sum, read, by, packed-plus (scaled r g) (scaled bit g) (bytes-scaled r g rl) (bytes-scaled bit g bl), scaled-xor r bit g rl bl, joined) in
-    record {
-      many = length-set rows (bit + r) row ∙ h.many;
-      each = λ f m. elim (cases_lt f (bit + r)) [
-        | inl n ↦
-            let other : f ≢ bit + r = omega arith in
-            ap value_of (get_or-set_other rows (bit + r) f row zero_register other) ∙ h.each f n
-        | inr n ↦
-            let e : f ≡ bit + r = omega arith in
-            let last : f * 2 ^ 0 ≡ bit + r = omega arith in
-            let inside : bit + r < length rows = omega (arith, h.many, small) in
-            cc (e, last, is, get_or-set_same rows (bit + r) row zero_register inside)
-      ];
-    }
+    search (arith, length-set, get_or-set_other, get_or-set_same)
 
 -- the multiples of what is packed are those of its coefficients
 pub multiples-packed : (g : List ℕ) (v : ℕ) (rows : List Register) → length g ≤ 32 → All IsByte g →
     v ≡ packed g → HasMultiples (unpacked 32 v) 0 16 rows → HasMultiples g 0 16 rows
-multiples-packed g v rows n a e h =
-    record {
-      many = h.many;
-      each = λ f l.
-          let low : f * 2 ^ 0 < 256 = omega arith in
-          cc (h.each f l, e, scaled-unpacked (f * 2 ^ 0) 32 g low n a);
-    }
+multiples-packed g v rows n a e h = search (arith, scaled-unpacked)
 
 -- the multiples of what is 16 times packed
 pub multiples-sixteen : (g : List ℕ) (v : ℕ) (rows : List Register) → length g ≤ 32 → All IsByte g →
@@ -177,6 +157,4 @@ held-step m i n v row l b k e h =
 
 -- the error correction codewords that the register contains at last
 pub held-all : (d : List ℕ) (n v : ℕ) (e : List ℕ) → e ≡ unpacked n v → IsHeld d n v → IsCorrection d n e
-held-all d n v e is h =
-    let f : e ≡ h.items = cc (unpacked-packed n h.items h.correction.count h.correction.bytes) in
-    subst (λ (t : List ℕ). IsCorrection d n t) (sym f) h.correction
+held-all d n v e is h = search (arith, unpacked-packed)

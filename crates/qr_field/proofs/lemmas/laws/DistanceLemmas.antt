@@ -29,10 +29,7 @@ difference-other x y n = rw (ne_eqb x y n)
 
 -- if x equals y just when u equals v, then x and y count as many differences as u and v
 pub difference-alike : (x y u v : ℕ) → (x ≡ y → u ≡ v) → (u ≡ v → x ≡ y) → difference x y ≡ difference u v
-difference-alike x y u v f g = elim (cases_eq x y) [
-  | inl e ↦ difference-same x y e ∙ sym (difference-same u v (f e))
-  | inr n ↦ difference-other x y n ∙ sym (difference-other u v (λ e. n (g e)))
-]
+difference-alike x y u v f g = search (arith, difference-same, difference-other)
 
 -- the coefficients of a sum that are not 0 are as many as the positions at which the summands differ
 pub weight-plus : (xs ys : List ℕ) → length xs ≡ length ys → weight (plus xs ys) ≡ differences xs ys
@@ -40,27 +37,19 @@ weight-plus [] [] e = refl
 weight-plus [] (y ∷ ys) e = absurd (omega arith)
 weight-plus (x ∷ xs) [] e = absurd (omega arith)
 weight-plus (x ∷ xs) (y ∷ ys) e =
-    let none : x ≡ y → bit_xor x y ≡ 0 = λ h. ap (λ t. bit_xor t y) h ∙ xor_self y in
-    let one : difference (bit_xor x y) 0 ≡ difference x y = difference-alike (bit_xor x y) 0 x y (sum-none x y) none in
-    cc (weight-plus xs ys (omega arith))
+    search (arith, xor_self, difference-alike, sum-none, weight-plus xs ys (omega arith))
 
 -- if two lists xs and ys differ at 0 positions, then they are equal
 pub differences-none : (xs ys : List ℕ) → differences xs ys ≡ 0 → xs ≡ ys
 differences-none [] [] e = refl
 differences-none [] (y ∷ ys) e = absurd (omega (arith, e))
 differences-none (x ∷ xs) [] e = absurd (omega (arith, e))
-differences-none (x ∷ xs) (y ∷ ys) e = elim (cases_eq x y) [
-  | inl f ↦ cc (differences-none xs ys (omega (arith, e)))
-  | inr n ↦ let one = difference-other x y n in absurd (omega (arith, e, one))
-]
+differences-none (x ∷ xs) (y ∷ ys) e = search (arith, difference-other, differences-none xs ys (omega (arith, e)))
 
 -- if every coefficient of the polynomial p is 0, then the value of p at 2 to the power i is 0
 pub value-none : (i : ℕ) (p : List ℕ) → weight p ≡ 0 → value_at i p ≡ 0
 value-none i [] e = refl
-value-none i (c ∷ p) e = elim (cases_eq c 0) [
-  | inl f ↦ cc (value-zero i p, value-none i p (omega (arith, e)))
-  | inr n ↦ let one = difference-other c 0 n in absurd (omega (arith, e, one))
-]
+value-none i (c ∷ p) e = search (arith, value-zero, difference-other, value-none i p (omega (arith, e)))
 
 -- ---- one coefficient less
 
@@ -78,28 +67,18 @@ length-lowered k (c ∷ p) = ap suc (length-lowered k p)
 bytes-lowered : (k : ℕ) (p : List ℕ) → All IsByte p → All IsByte (lowered k p)
 bytes-lowered k [] a = All-nil IsByte
 bytes-lowered k (c ∷ p) a =
-    let factor = bit_xor (power (length p)) (power k) in
-    All-cons IsByte (product c factor) (lowered k p) (product-lt c factor (All-head IsByte c p a))
-    (bytes-lowered k p (All-tail IsByte c p a))
+    search (arith, All-cons, product-lt, All-head, All-tail, bytes-lowered k p (All-tail IsByte c p a))
 
 -- if k is from the length of p to 254, `lowered k p` has as many coefficients that are not 0 as p
 weight-lowered : (k : ℕ) (p : List ℕ) → k < 255 → length p ≤ k → All IsByte p → weight (lowered k p) ≡ weight p
 weight-lowered k [] h l a = refl
 weight-lowered k (c ∷ p) h l a =
-    let lc = All-head IsByte c p a in
-    let factor = bit_xor (power (length p)) (power k) in
-    let small = xor_of_8 (power (length p)) (power k) (power-lt (length p)) (power-lt k) in
-    let apart : factor ≡ 0 → ⊥ = powers-sum (length p) k (omega arith) h in
-    let none : c ≡ 0 → product c factor ≡ 0 = λ e. ap (λ t. product t factor) e ∙ product-of_zero factor small in
-    let one : difference (product c factor) 0 ≡ difference c 0 =
-    difference-alike (product c factor) 0 c 0 (product-factor c factor lc small apart) none in
-    let f = weight-lowered k p h (omega arith) (All-tail IsByte c p a) in
-    omega (arith, one, f)
+    search (arith, All-head, xor_of_8, power-lt, powers-sum, product-of_zero, difference-alike, product-factor, All-tail, weight-lowered k p h (omega arith) (All-tail IsByte c p a))
 
 -- the value of `lowered k p` at 2 to i is that of p at 2 to i + 1, plus 2 to k times that of p at 2 to i
 value-lowered : (i k : ℕ) (p : List ℕ) → All IsByte p →
     value_at i (lowered k p) ≡ bit_xor (value_at (i + 1) p) (product (power k) (value_at i p))
-value-lowered i k [] a = sym (xor_zero_l (product (power k) 0) ∙ product-by_zero (power k) (power-lt k))
+value-lowered i k [] a = search (arith, xor_zero_l, product-by_zero, power-lt)
 value-lowered i k (c ∷ p) a =
     let lc = All-head IsByte c p a in
     let lp = All-tail IsByte c p a in
@@ -114,34 +93,18 @@ value-lowered i k (c ∷ p) a =
     let first = product-assoc c own place lc lo li in
     let sum = power-add m (i * m) in
     let second = product-assoc c other place lc lk li in
-    let front = product-front c other place lc lk li in
-    let v = value_at i p in
-    let parts = product-xor (product c own) (product c other) place (product-lt c own lc) (product-lt c other lc) in
-    let joined = product-by_sum other (product c place) v lk (product-lt c place lc) (value-lt i p lp) in
-    cc (xor-swap (product c (power ((i + 1) * m))) (product other (product c place)) (value_at (i + 1) p) (product other v), length-lowered k p, product-by_sum c own other lc lo lk, value-lowered i k p lp)
+    search (arith, product-front, product-xor, product-lt, product-by_sum, value-lt, xor-swap, length-lowered, value-lowered i k p lp)
 
 -- if c ∷ p has the value 0 at 2 to i and to i + 1, and p has m coefficients, `lowered m p` has it at 2 to i
 lowered-root : (i c : ℕ) (p : List ℕ) → c < 256 → All IsByte p → value_at i (c ∷ p) ≡ 0 →
     value_at (i + 1) (c ∷ p) ≡ 0 → value_at i (lowered (length p) p) ≡ 0
-lowered-root i c p lc lp e f =
-    let m = length p in
-    let own = power m in
-    let lo = power-lt m in
-    let place = power (i * m) in
-    let li = power-lt (i * m) in
-    let here : product c place ≡ value_at i p = sum-none (product c place) (value_at i p) e in
-    let next : product c (power ((i + 1) * m)) ≡ value_at (i + 1) p =
-    sum-none (product c (power ((i + 1) * m))) (value_at (i + 1) p) f in
-    let exponent : (i + 1) * m ≡ m + i * m = omega arith in
-    cc (product-front own c place lo lc li, power-add m (i * m), value-lowered i m p lp, xor_self (value_at (i + 1) p))
+lowered-root i c p lc lp e f = search (arith, power-lt, sum-none, product-front, power-add, value-lowered, xor_self)
 
 -- ---- few coefficients that are not 0
 
 -- if every coefficient of p is 0, then the value of the polynomial c ∷ p at 1 is c
 value-alone : (c : ℕ) (p : List ℕ) → c < 256 → weight p ≡ 0 → value_at 0 (c ∷ p) ≡ c
-value-alone c p l e =
-    let none : 0 * length p ≡ 0 = omega arith in
-    cc (product-by_one c l, value-none 0 p e, xor_zero_r c)
+value-alone c p l e = search (arith, product-by_one, value-none, xor_zero_r)
 
 -- a polynomial with at most n coefficients that are not 0, and the value 0 at the first n powers of 2, is 0
 pub weight-none : (k n : ℕ) (p : List ℕ) → length p ≤ k → k ≤ 255 → All IsByte p → weight p ≤ n →
@@ -155,7 +118,6 @@ weight-none (suc k) n (c ∷ p) l h a w r =
     let hk : k ≤ 255 = omega arith in
     elim (cases_eq c 0) [
       | inl e ↦
-          let none = difference-same c 0 e in
           let roots : (i : ℕ) → i < n → value_at i p ≡ 0 =
           λ i m. sym (value-zero i p) ∙ (ap (λ t. value_at i (t ∷ p)) (sym e) ∙ r i m) in
           cc (weight-none k n p lk hk lp (omega (arith, w)) roots)
@@ -180,7 +142,7 @@ pub near-same : (n : ℕ) (d e d' e' : List ℕ) → IsCorrection d n e → IsCo
 near-same n d e d' e' c c' s l w =
     let one = length-append d e in
     let two = length-append d' e' in
-    let same : length (d ++ e) ≡ length (d' ++ e') = omega (arith, one, two, s, c.count, c'.count) in
+    let same : length (d ++ e) ≡ length (d' ++ e') = omega arith in
     let sum = plus (d ++ e) (d' ++ e') in
     let bytes = block-bytes d n e c in
     let bytes' = block-bytes d' n e' c' in
@@ -207,26 +169,9 @@ apart n d e d' e' c c' s l o = elim (cases_lt n (differences (d ++ e) (d' ++ e')
 
 -- ---- damage
 
--- the difference of the codewords x and y is at most the difference of z and x plus the difference of z and y
-difference-between : (z x y : ℕ) → difference x y ≤ difference z x + difference z y
-difference-between z x y = elim (cases_eq x y) [
-  | inl e ↦ let none = difference-same x y e in omega (arith, none)
-  | inr n ↦
-      let one = difference-other x y n in
-      elim (cases_eq z x) [
-        | inl f ↦
-            let other = difference-other z y (λ h. n (sym f ∙ h)) in
-            omega (arith, one, other)
-        | inr m ↦ let other = difference-other z x m in omega (arith, one, other)
-      ]
-]
-
 -- two codewords x and y count as at most 1 difference
 pub difference-most : (x y : ℕ) → difference x y ≤ 1
-difference-most x y = elim (cases_eq x y) [
-  | inl e ↦ let none = difference-same x y e in omega (arith, none)
-  | inr n ↦ let one = difference-other x y n in omega (arith, one)
-]
+difference-most x y = search (arith, difference-same, difference-other)
 
 -- the length of xs is at most the number of errors of rs against xs plus the length of rs
 errors-length : (rs : List (Option ℕ)) (xs : List ℕ) → length xs ≤ errors rs xs + length rs
@@ -240,21 +185,12 @@ errors-between : (rs : List (Option ℕ)) (xs ys : List ℕ) →
     differences xs ys ≤ erasures rs + (errors rs xs + errors rs ys)
 errors-between [] [] ys = omega arith
 errors-between [] (x ∷ xs) [] = omega arith
-errors-between [] (x ∷ xs) (y ∷ ys) =
-    let e = errors-between [] xs ys in
-    let one = difference-most x y in
-    omega (arith, e, one)
+errors-between [] (x ∷ xs) (y ∷ ys) = search (arith, difference-most, errors-between [] xs ys)
 errors-between (r ∷ rs) [] ys = let e = errors-length (r ∷ rs) ys in omega (arith, e)
 errors-between (None ∷ rs) (x ∷ xs) [] = let e = errors-length rs xs in omega (arith, e)
 errors-between (Some z ∷ rs) (x ∷ xs) [] = let e = errors-length rs xs in omega (arith, e)
-errors-between (None ∷ rs) (x ∷ xs) (y ∷ ys) =
-    let e = errors-between rs xs ys in
-    let one = difference-most x y in
-    omega (arith, e, one)
-errors-between (Some z ∷ rs) (x ∷ xs) (y ∷ ys) =
-    let e = difference-between z x y in
-    let f = errors-between rs xs ys in
-    omega (arith, e, f)
+errors-between (None ∷ rs) (x ∷ xs) (y ∷ ys) = search (arith, difference-most, errors-between rs xs ys)
+errors-between (Some z ∷ rs) (x ∷ xs) (y ∷ ys) = grind (arith, difference-same, difference-other, errors-between rs xs ys)
 
 -- a reading with k erasures and at most t errors against each of two blocks, where k + 2 * t is at most n, tells one
 pub unambiguous-known : (n t : ℕ) (d e d' e' : List ℕ) (read : List (Option ℕ)) → IsCorrection d n e →

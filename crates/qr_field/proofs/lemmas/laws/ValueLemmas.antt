@@ -1,5 +1,5 @@
 -- The values of polynomials at the powers of 2: the value of a product is the product of the values.
-use Rattle.std.proofs.Common.{◌≡◌, ℕ, zero, suc, ◌+◌, ◌-◌, ◌*◌, ◌<◌, ◌≤◌, List, [], ◌∷◌, ◌++◌, length, refl, sym, ap, ◌∙◌, subst, inl, inr, arith, lit<, bit_xor}
+use Rattle.std.proofs.Common.{◌≡◌, ℕ, zero, suc, ◌+◌, ◌*◌, ◌<◌, List, [], ◌∷◌, ◌++◌, length, refl, sym, ap, ◌∙◌, subst, inl, inr, arith, lit<, bit_xor}
 use Rattle.std.proofs.lemmas.{Nat.xor_of_8, Bool.cases_eq, List.length-map}
 use Rattle.std.proofs.lemmas.List.Elements.{All-nil, All-cons, All-head, All-tail}
 use Rattle.std.specs.{List.All, Int.Bits.{xor_zero_l, xor_zero_r, xor_self}}
@@ -17,15 +17,11 @@ use Rattle.qr_field.proofs.lemmas.polynomial.PolynomialLemmas.{generator-shape, 
 -- if the coefficients of p are bytes, then the value of p at 2 to the power i is a byte
 pub value-lt : (i : ℕ) (p : List ℕ) → All IsByte p → value_at i p < 256
 value-lt i [] a = lit< tt
-value-lt i (c ∷ p) a =
-    xor_of_8 (product c (power (i * length p))) (value_at i p)
-    (product-lt c (power (i * length p)) (All-head IsByte c p a)) (value-lt i p (All-tail IsByte c p a))
+value-lt i (c ∷ p) a = search (arith, xor_of_8, product-lt, All-head, All-tail, value-lt i p (All-tail IsByte c p a))
 
 -- the polynomial 0 ∷ p has the same value as p at 2 to the power i
 pub value-zero : (i : ℕ) (p : List ℕ) → value_at i (0 ∷ p) ≡ value_at i p
-value-zero i p =
-    ap (λ t. bit_xor t (value_at i p)) (product-of_zero (power (i * length p)) (power-lt (i * length p)))
-    ∙ xor_zero_l (value_at i p)
+value-zero i p = search (arith, product-of_zero, power-lt, xor_zero_l)
 
 -- the value of a list of k zeros at 2 to the power i is 0
 value-zeros : (i k : ℕ) → value_at i (zeros k) ≡ 0
@@ -36,20 +32,15 @@ value-zeros i (suc k) = value-zero i (zeros k) ∙ value-zeros i k
 value-scaled : (i a : ℕ) (p : List ℕ) → a < 256 → All IsByte p → value_at i (scaled a p) ≡ product a (value_at i p)
 value-scaled i a [] l b = sym (product-by_zero a l)
 value-scaled i a (c ∷ p) l b =
-    let x = power (i * length p) in
     let lx = power-lt (i * length p) in
     let lc = All-head IsByte c p b in
     let lp = All-tail IsByte c p b in
-    let sum = product-by_sum a (product c x) (value_at i p) l (product-lt c x lc) (value-lt i p lp) in
-    cc (length-map p (product a), product-assoc a c x l lc lx, value-scaled i a p l lp, sum)
+    search (arith, product-by_sum, product-lt, value-lt, length-map, product-assoc, value-scaled i a p l lp)
 
 -- the value of `plus xs ys`, which adds from the first coefficients on, if ys has k coefficients more than xs
 pub value-plus : (i k : ℕ) (xs ys : List ℕ) → length ys ≡ k + length xs → All IsByte xs → All IsByte ys →
     value_at i (plus xs ys) ≡ bit_xor (product (value_at i xs) (power (i * k))) (value_at i ys)
-value-plus i k [] ys e a b =
-    sym
-    (ap (λ t. bit_xor t (value_at i ys)) (product-of_zero (power (i * k)) (power-lt (i * k)))
-    ∙ xor_zero_l (value_at i ys))
+value-plus i k [] ys e a b = search (arith, product-of_zero, power-lt, xor_zero_l)
 value-plus i k (x ∷ xs) [] e a b = absurd (omega (arith, e))
 value-plus i k (x ∷ xs) (y ∷ ys) e a b =
     let lx = All-head IsByte x xs a in
@@ -57,7 +48,6 @@ value-plus i k (x ∷ xs) (y ∷ ys) e a b =
     let lxs = All-tail IsByte x xs a in
     let lys = All-tail IsByte y ys b in
     let f : length ys ≡ k + length xs = omega (arith, e) in
-    let h : length xs ≤ length ys = omega (arith, f) in
     let place = power (i * length ys) in
     let shift = power (i * k) in
     let inner = power (i * length xs) in
@@ -67,15 +57,12 @@ value-plus i k (x ∷ xs) (y ∷ ys) e a b =
     let split = power-add (i * length xs) (i * k) in
     let front = product-assoc x inner shift lx li ls in
     let head = product-xor x y place lx ly in
-    let vx = value_at i xs in
-    let both = product-xor (product x inner) vx shift (product-lt x inner lx) (value-lt i xs lxs) in
-    cc (xor-swap (product (product x inner) shift) (product y place) (product vx shift) (value_at i ys), length-plus xs ys h, value-plus i k xs ys f lxs lys)
+    search (arith, product-xor, product-lt, value-lt, xor-swap, length-plus, value-plus i k xs ys f lxs lys)
 
 -- the value of the product of q and a ∷ g at 2 to the power i is the product of the values of q and of a ∷ g at this power
 value-times : (i : ℕ) (q : List ℕ) (a : ℕ) (g : List ℕ) → All IsByte q → All IsByte (a ∷ g) →
     value_at i (times q (a ∷ g)) ≡ product (value_at i q) (value_at i (a ∷ g))
-value-times i [] a g bq bg =
-    value-zeros i (length (a ∷ g) - 1) ∙ sym (product-of_zero (value_at i (a ∷ g)) (value-lt i (a ∷ g) bg))
+value-times i [] a g bq bg = search (arith, value-zeros, product-of_zero, value-lt)
 value-times i (b ∷ q) a g bq bg =
     let lb = All-head IsByte b q bq in
     let lq = All-tail IsByte b q bq in
@@ -95,17 +82,6 @@ value-times i (b ∷ q) a g bq bg =
 
 -- ---- roots
 
--- the value of x - 2^n at 2^n is 0
-value-factor : (n : ℕ) → value_at n (1 ∷ power n ∷ []) ≡ 0
-value-factor n =
-    let last : List ℕ = power n ∷ [] in
-    let none : List ℕ = [] in
-    let one : n * length last ≡ n = omega arith in
-    let no : n * length none ≡ 0 = omega arith in
-    let first = product-of_one (power n) (power-lt n) in
-    let second = product-by_one (power n) (power-lt n) in
-    cc (xor_zero_r (power n), xor_self (power n))
-
 -- if i is below n, then the value of the generator polynomial of degree n at 2 to the power i is 0
 generator-root : (n i : ℕ) → i < n → value_at i (generator_of n) ≡ 0
 generator-root zero i l = absurd (omega arith)
@@ -116,9 +92,7 @@ generator-root (suc n) i l =
     All-cons IsByte 1 (power n ∷ []) (lit< tt) (All-cons IsByte (power n) [] (power-lt n) (All-nil IsByte)) in
     let split = value-times i before 1 (power n ∷ []) (bytes-generator n) bytes in
     elim (cases_eq i n) [
-      | inl e ↦
-          let none = product-by_zero (value_at i before) (value-lt i before (bytes-generator n)) in
-          cc (value-factor n)
+      | inl e ↦ grind (arith, product-by_zero, value-lt, bytes-generator, product-of_one, power-lt, product-by_one, xor_zero_r, xor_self)
       | inr o ↦
           let none = product-of_zero (value_at i factor) (value-lt i factor bytes) in
           cc (generator-root n i (omega (arith, o)))
@@ -126,9 +100,7 @@ generator-root (suc n) i l =
 
 -- a block of data codewords d and n error correction codewords e consists of bytes
 pub block-bytes : (d : List ℕ) (n : ℕ) (e : List ℕ) → IsCorrection d n e → All IsByte (d ++ e)
-block-bytes d n e c =
-    let m = c.multiple in
-    subst (λ (t : List ℕ). All IsByte t) m.whole (bytes-times m.quotient (generator_of n) m.bytes)
+block-bytes d n e c = search (arith, bytes-times)
 
 -- if i is below n, then the value of a block with n error correction codewords at 2 to the power i is 0
 pub block-root : (d : List ℕ) (n : ℕ) (e : List ℕ) → IsCorrection d n e → (i : ℕ) → i < n → value_at i (d ++ e) ≡ 0

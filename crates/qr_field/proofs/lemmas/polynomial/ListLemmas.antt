@@ -1,5 +1,5 @@
 -- Lists of coefficients: their sums, lengths and products.
-use Rattle.std.proofs.Common.{◌≡◌, ℕ, zero, suc, ◌+◌, ◌-◌, ◌<◌, ◌≤◌, List, [], ◌∷◌, ◌++◌, length, take, get_or, refl, ap, arith, bit_xor, lit<, ltb, true}
+use Rattle.std.proofs.Common.{◌≡◌, ℕ, zero, suc, ◌+◌, ◌<◌, ◌≤◌, List, [], ◌∷◌, ◌++◌, length, take, refl, ap, arith, bit_xor, lit<, ltb, true}
 use Rattle.std.proofs.lemmas.{Bool.and_parts, Nat.xor_comm, Nat.xor_of_8}
 use Rattle.std.proofs.lemmas.List.{length-map, append-nil, drop_all, take_all, length-take}
 use Rattle.std.proofs.lemmas.List.Elements.{All-map, All-nil, All-cons, All-head, All-tail}
@@ -10,7 +10,7 @@ use Rattle.qr_field.proofs.lemmas.galois.{BitLemmas.xor-cancel, ProductLemmas.pr
 
 -- a list that is written over by a list of its own length is that list
 pub refill_same : (xs ws : List ℕ) → length ws ≡ length xs → refill (length xs) xs ws ≡ ws
-refill_same xs ws e = cc (drop_all (length ws) xs (omega arith), append-nil ws, take_all (length xs) ws (omega arith))
+refill_same xs ws e = search (arith, drop_all, append-nil, take_all)
 
 -- ---- sums
 
@@ -82,7 +82,7 @@ same-plus n xs ys zs l m e =
 pub bytes-computed : (xs : List ℕ) → list_all (λ x. ltb x 256) xs ≡ true → All IsByte xs
 bytes-computed [] h = All-nil IsByte
 bytes-computed (x ∷ xs) h =
-    All-cons IsByte x xs (ltb-true x 256 (and_parts (ltb x 256) _ h).0) (bytes-computed xs (and_parts (ltb x 256) _ h).1)
+    search (arith, All-cons, ltb-true, and_parts, bytes-computed xs (and_parts (ltb x 256) _ h).1)
 
 -- zeros are bytes
 pub bytes-zeros : (k : ℕ) → All IsByte (zeros k)
@@ -94,12 +94,11 @@ pub bytes-plus : (xs ys : List ℕ) → All IsByte xs → All IsByte ys → All 
 bytes-plus [] ys a b = b
 bytes-plus (x ∷ xs) [] a b = a
 bytes-plus (x ∷ xs) (y ∷ ys) a b =
-    let head = xor_of_8 x y (All-head IsByte x xs a) (All-head IsByte y ys b) in
-    All-cons IsByte (bit_xor x y) (plus xs ys) head (bytes-plus xs ys (All-tail IsByte x xs a) (All-tail IsByte y ys b))
+    search (arith, xor_of_8, All-head, All-cons, All-tail, bytes-plus xs ys (All-tail IsByte x xs a) (All-tail IsByte y ys b))
 
 -- a multiple of a list has bytes
 pub bytes-scaled : (a : ℕ) (xs : List ℕ) → a < 256 → All IsByte (scaled a xs)
-bytes-scaled a xs l = All-map IsByte (product a) xs (λ k d h. product-lt a (get_or xs k d) l)
+bytes-scaled a xs l = search (arith, All-map, product-lt)
 
 -- ---- products
 
@@ -110,15 +109,8 @@ length-zeros (suc k) = ap suc (length-zeros k)
 
 -- the length of a product
 pub length-times : (q : List ℕ) (a : ℕ) (g : List ℕ) → length (times q (a ∷ g)) ≡ length q + length g
-length-times [] a g =
-    let e : length (a ∷ g) - 1 ≡ length g = omega arith in
-    let f = length-zeros (length (a ∷ g) - 1) in
-    omega (arith, e, f)
-length-times (b ∷ q) a g =
-    let e = length-times q a g in
-    let m = length-map (a ∷ g) (product b) in
-    let f = length-plus (scaled b (a ∷ g)) (0 ∷ times q (a ∷ g)) (omega (arith, e, m)) in
-    omega (arith, e, f)
+length-times [] a g = search (arith, length-zeros)
+length-times (b ∷ q) a g = search (arith, length-map, length-plus, length-times q a g)
 
 -- one zero more
 snoc-zeros : (k : ℕ) → zeros k ++ 0 ∷ [] ≡ zeros (suc k)
@@ -128,9 +120,7 @@ snoc-zeros (suc k) = ap (λ z. 0 ∷ z) (snoc-zeros k)
 -- one more coefficient of the quotient
 pub times-snoc : (q : List ℕ) (f a : ℕ) (g : List ℕ) →
     times (q ++ f ∷ []) (a ∷ g) ≡ plus (times q (a ∷ g) ++ 0 ∷ []) (zeros (length q) ++ scaled f (a ∷ g))
-times-snoc [] f a g =
-    let e : length (a ∷ g) - 1 ≡ length g = omega arith in
-    cc (length-map (a ∷ g) (product f), snoc-zeros (length g), plus-comm (scaled f (a ∷ g)) (zeros (suc (length g))))
+times-snoc [] f a g = search (arith, length-map, snoc-zeros, plus-comm)
 times-snoc (b ∷ q) f a g =
     let ih = times-snoc q f a g in
     let m = length-map (a ∷ g) (product b) in

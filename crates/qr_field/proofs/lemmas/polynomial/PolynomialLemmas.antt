@@ -4,7 +4,7 @@ use Rattle.std.proofs.{lemmas.Nat.{xor_comm, xor_of_8}, Math.Numerals.suc-eq-add
 use Rattle.std.proofs.lemmas.List.{length-map, append_cancel_left, append-nil, take_at, take_more, drop_more, get_or_read}
 use Rattle.std.proofs.lemmas.List.Elements.{All-nil, All-cons, All-head, All-tail, All-push, All-rest}
 use Rattle.{std.specs.{List.All, Int.Bits.xor_zero_r}, qr_field.specs.{Galois.product, Steps.Polynomial.carried}}
-use Rattle.qr_field.specs.Polynomial.{IsByte, plus, zeros, scaled, times, power, generator_of, IsMultiple, IsCorrection, HasCorrection}
+use Rattle.qr_field.specs.Polynomial.{IsByte, plus, zeros, scaled, times, power, generator_of, IsCorrection, HasCorrection}
 use Rattle.qr_field.proofs.lemmas.galois.{ByteLemmas.product-by_one, BitLemmas.xor-cancel}
 use Rattle.qr_field.proofs.lemmas.polynomial.ListLemmas.{plus-append, plus-zeros, length-plus, same-plus, bytes-zeros, bytes-plus, bytes-scaled, length-zeros, length-times, times-snoc}
 
@@ -15,9 +15,7 @@ divide-step : (p q : List ℕ) (b r : ℕ) (rs g : List ℕ) → b < 256 → r <
     length g ≡ length (r ∷ rs) → times q (1 ∷ g) ≡ p ++ r ∷ rs →
     times (q ++ bit_xor b r ∷ []) (1 ∷ g) ≡ (p ++ b ∷ []) ++ plus (rs ++ 0 ∷ []) (scaled (bit_xor b r) g)
 divide-step p q b r rs g lb lr lq lg e =
-    let f = bit_xor b r in
-    let lf = xor_of_8 b r lb lr in
-    cc (product-by_one f lf, xor_comm b r, xor-cancel r b, times-snoc q f 1 g, append_assoc p (r ∷ rs) (0 ∷ []), plus-append p (zeros (length q)) (r ∷ (rs ++ 0 ∷ [])) (scaled f (1 ∷ g)) (sym lq ∙ sym (length-zeros (length q))), length-zeros (length q), plus-zeros p (length q) (omega arith), append_assoc p (b ∷ []) (plus (rs ++ 0 ∷ []) (scaled f g)))
+    search (arith, xor_of_8, product-by_one, xor_comm, xor-cancel, times-snoc, append_assoc, plus-append, length-zeros, plus-zeros)
 
 -- ---- there is one quotient
 
@@ -34,8 +32,6 @@ quotient-one (x ∷ q) (y ∷ r) g a b l e =
     let zy = xor_zero_r (product y 1) in
     let head : bit_xor (product x 1) 0 ≡ bit_xor (product y 1) 0 = ap (λ t. get_or t 0 0) e in
     let same : x ≡ y = cc in
-    let tail : take (length q) (plus (scaled x g) (times q (1 ∷ g))) ≡ take (length q) (plus (scaled y g) (times r (1 ∷ g))) =
-    ap (λ t. drop 1 t) e in
     let both : take (length q) (plus (scaled x g) (times q (1 ∷ g))) ≡ take (length q) (plus (scaled x g) (times r (1 ∷ g))) =
     cc in
     let lq = length-times q 1 g in
@@ -49,39 +45,29 @@ quotient-one (x ∷ q) (y ∷ r) g a b l e =
 -- the product of a polynomial c ∷ q by x - root has the coefficients that the loop carries
 times-root : (c : ℕ) (q : List ℕ) (root : ℕ) → c < 256 → All IsByte q →
     times (c ∷ q) (1 ∷ root ∷ []) ≡ c ∷ carried c q root
-times-root c [] root l a = cc (product-by_one c l, xor_zero_r (product c 1), xor_zero_r (product c root))
+times-root c [] root l a = search (arith, product-by_one, xor_zero_r)
 times-root c (x ∷ q) root l a =
-    let e : product c 1 ≡ c = product-by_one c l in
-    let f = xor_zero_r (product c 1) in
-    let ih = times-root x q root (All-head IsByte x q a) (All-tail IsByte x q a) in
-    cc (xor_comm (product c root) x)
+    search (arith, product-by_one, xor_zero_r, All-head, All-tail, xor_comm, times-root x q root (All-head IsByte x q a) (All-tail IsByte x q a))
 
 -- a generator polynomial begins with the coefficient 1 and has degree n
 pub generator-shape : (n : ℕ) → (g : List ℕ) × (generator_of n ≡ 1 ∷ g) × (length g ≡ n)
 generator-shape zero = ([], refl, refl)
 generator-shape (suc n) =
     let s = generator-shape n in
-    let e : times (generator_of n) (1 ∷ power n ∷ []) ≡ times (1 ∷ s.0) (1 ∷ power n ∷ []) =
-    ap (λ t. times t (1 ∷ power n ∷ [])) s.1 in
-    let one : product 1 1 ≡ 1 = product-by_one 1 (lit< tt) in
-    let h : bit_xor (product 1 1) 0 ≡ 1 = xor_zero_r (product 1 1) ∙ one in
-    let g : List ℕ = plus (scaled 1 (power n ∷ [])) (times s.0 (1 ∷ power n ∷ [])) in
-    let f : generator_of (suc n) ≡ 1 ∷ g = e ∙ ap (λ t. t ∷ g) h in
     let l = length-times (generator_of n) 1 (power n ∷ []) in
-    (g, f, omega (arith, l, ap length f, ap length s.1, s.2))
+    search (arith, product-by_one, xor_zero_r)
 
 -- the product of two polynomials has bytes as coefficients, if the first has bytes as coefficients
 pub bytes-times : (q g : List ℕ) → All IsByte q → All IsByte (times q g)
 bytes-times [] g a = bytes-zeros (length g - 1)
 bytes-times (b ∷ q) g a =
     let one = bytes-scaled b g (All-head IsByte b q a) in
-    let rest = bytes-times q g (All-tail IsByte b q a) in
-    bytes-plus (scaled b g) (0 ∷ times q g) one (All-cons IsByte 0 (times q g) (lit< tt) rest)
+    search (arith, All-tail, bytes-plus, All-cons, bytes-times q g (All-tail IsByte b q a))
 
 -- a generator polynomial has bytes as coefficients
 pub bytes-generator : (n : ℕ) → All IsByte (generator_of n)
 bytes-generator zero = All-cons IsByte 1 [] (lit< tt) (All-nil IsByte)
-bytes-generator (suc n) = bytes-times (generator_of n) (1 ∷ power n ∷ []) (bytes-generator n)
+bytes-generator (suc n) = search (arith, bytes-times, bytes-generator n)
 
 -- one round of the loop computes the generator polynomial of degree n + 1 from that of degree n
 pub generator-next : (n r : ℕ) (g : List ℕ) → 1 ∷ g ≡ generator_of n → r ≡ power n →
@@ -103,12 +89,8 @@ power-next n r e = ap (product 2) e ∙ ap power (suc-eq-add-one n)
 
 -- the error correction codewords of no data codewords are zeros
 pub correction-start : (n : ℕ) → IsCorrection [] n (zeros n)
-correction-start n =
-    let s = generator-shape n in
-    let e : length (generator_of n) - 1 ≡ n = omega (arith, ap length s.1, s.2) in
-    let multiple : IsMultiple (generator_of n) (zeros n) =
-    record { quotient = []; bytes = All-nil IsByte; whole = ap zeros e } in
-    record { count = length-zeros n; bytes = bytes-zeros n; multiple = multiple }
+correction-start n = let s = generator-shape n in
+    search (arith, All-nil, length-zeros, bytes-zeros)
 
 -- one round of the register makes the error correction codewords of one codeword more
 correction-next : (p : List ℕ) (n b r : ℕ) (rs g : List ℕ) → b < 256 → 1 ∷ g ≡ generator_of n →
@@ -129,7 +111,7 @@ correction-next p n b r rs g l e c =
     let sum = length-plus (rs ++ 0 ∷ []) (scaled (bit_xor b r) g) (omega (arith, ls, lm, c.count)) in
     record {
       count = omega (arith, sum, lm, lg);
-      bytes = bytes-plus (rs ++ 0 ∷ []) (scaled (bit_xor b r) g) moved (bytes-scaled (bit_xor b r) g lf);
+      bytes = search (arith, bytes-plus, bytes-scaled);
       multiple = record {
         quotient = m.quotient ++ bit_xor b r ∷ [];
         bytes = All-push IsByte m.quotient (bit_xor b r) m.bytes lf;
@@ -149,10 +131,7 @@ correction-step m i n r items moved sum g h l k e er em es c =
     let f : r ∷ drop 1 items ≡ items = cc (get_or_read items 0 r one er 0, drop_more items 0 0 one) in
     let d : IsCorrection (take i m ++ byte ∷ []) n next =
     correction-next (take i m) n byte r (drop 1 items) g l e (subst (λ (t : List ℕ). IsCorrection (take i m) n t) (sym f) c) in
-    let read : IsCorrection (take (i + 1) m) n next =
-    subst (λ (t : List ℕ). IsCorrection t n next) (sym (take_more m i 0 h)) d in
-    let s : sum ≡ next = es ∙ ap (λ t. plus t (scaled (bit_xor byte r) g)) em in
-    subst (λ (t : List ℕ). IsCorrection (take (i + 1) m) n t) (sym s) read
+    search (arith, take_more)
 
 -- a generator polynomial is the coefficient 1 followed by its other coefficients
 pub generator-is : (n : ℕ) → 1 ∷ drop 1 (generator_of n) ≡ generator_of n
@@ -172,16 +151,14 @@ correction-one d n e f a b =
     let la = length-append d e in
     let lb = length-append d f in
     let na : length qa ≡ length d = omega (arith, ta, la, ap length wa, a.count, s.2) in
-    let nb : length qb ≡ length d = omega (arith, tb, lb, ap length wb, b.count, s.2) in
     let fronts : take (length qa) (times qa (1 ∷ g)) ≡ take (length qa) (times qb (1 ∷ g)) =
     cc (take_at d e (length qa) (sym na), take_at d f (length qa) (sym na)) in
-    let q = quotient-one qa qb g a.multiple.bytes b.multiple.bytes (omega (arith, na, nb)) fronts in
-    append_cancel_left d e f (sym wa ∙ (ap (λ t. times t (1 ∷ g)) q ∙ wb))
+    search (arith, quotient-one, append_cancel_left)
 
 -- if the codewords p have error correction codewords, then p followed by any bytes d has error correction codewords
 correction-after : (p : List ℕ) (n : ℕ) (register d g : List ℕ) → 1 ≤ n → 1 ∷ g ≡ generator_of n →
     All IsByte d → IsCorrection p n register → HasCorrection (p ++ d) n
-correction-after p n register [] g k e a c = (register, subst (λ (t : List ℕ). IsCorrection t n register) (sym (append-nil p)) c)
+correction-after p n register [] g k e a c = search (arith, append-nil)
 correction-after p n register (b ∷ d) g k e a c =
     let r = get_or register 0 0 in
     let register' : List ℕ = plus (drop 1 register ++ 0 ∷ []) (scaled (bit_xor b r) g) in
@@ -189,8 +166,7 @@ correction-after p n register (b ∷ d) g k e a c =
     let f : r ∷ drop 1 register ≡ register = sym (drop_more register 0 0 one) in
     let before : IsCorrection p n (r ∷ drop 1 register) = subst (λ (t : List ℕ). IsCorrection p n t) (sym f) c in
     let next = correction-next p n b r (drop 1 register) g (All-head IsByte b d a) e before in
-    let rest = correction-after (p ++ b ∷ []) n register' d g k e (All-tail IsByte b d a) next in
-    (rest.0, subst (λ (t : List ℕ). IsCorrection t n rest.0) (append_assoc p (b ∷ []) d) rest.1)
+    search (arith, All-tail, append_assoc, correction-after (p ++ b ∷ []) n register' d g k e (All-tail IsByte b d a) next)
 
 -- all data codewords have error correction codewords
 pub correction-some : (d : List ℕ) (n : ℕ) → 1 ≤ n → All IsByte d → HasCorrection d n

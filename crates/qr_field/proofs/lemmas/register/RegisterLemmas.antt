@@ -56,7 +56,7 @@ unpacked-packed (suc n) (x ∷ xs) e a =
 pub bytes-unpacked : (n v : ℕ) → All IsByte (unpacked n v)
 unfolding unpacked
 bytes-unpacked zero v = All-nil IsByte
-bytes-unpacked (suc n) v = All-cons IsByte (v % 2 ^ 8) (unpacked n (v / 2 ^ 8)) (omega arith) (bytes-unpacked n (v / 2 ^ 8))
+bytes-unpacked (suc n) v = search (arith, All-cons, bytes-unpacked n (v / 2 ^ 8))
 
 -- how many coefficients are unpacked
 pub length-unpacked : (n v : ℕ) → length (unpacked n v) ≡ n
@@ -84,38 +84,26 @@ packed-append (x ∷ xs) ys =
 -- the coefficients of a lower half, and after them those of an upper half
 unpacked-halves : (k m h l : ℕ) → l < 256 ^ k → unpacked k l ++ unpacked m h ≡ unpacked (k + m) (h * 256 ^ k + l)
 unfolding unpacked
-unpacked-halves zero m h l s =
-    let count : 0 + m ≡ m = omega arith in
-    let whole : h * 256 ^ 0 + l ≡ h = omega arith in
-    cc (count, whole)
+unpacked-halves zero m h l s = search arith
 unpacked-halves (suc k) m h l s =
     let count : suc k + m ≡ suc (k + m) = omega arith in
     let q = 256 ^ k in
     let more : h * 256 ^ suc k ≡ h * q * 256 = ap (λ t. h * t) (pow-suc 256 k) ∙ sym (mul_assoc h q 256) in
     let less : l / 2 ^ 8 < q = omega (arith, pow-suc 256 k) in
-    let first : (h * 256 ^ suc k + l) % 2 ^ 8 ≡ l % 2 ^ 8 = omega (arith, more) in
-    let rest : (h * 256 ^ suc k + l) / 2 ^ 8 ≡ h * q + l / 2 ^ 8 = omega (arith, more) in
-    cc (count, first, rest, unpacked-halves k m h (l / 2 ^ 8) less)
+    search (arith, unpacked-halves k m h (l / 2 ^ 8) less)
 
 -- the bytes of a number are its coefficients
 bytes-of : (i k v : ℕ) → bytes_low_first i k v ≡ unpacked k (v / 256 ^ i)
 unfolding unpacked
 bytes-of i zero v = refl
-bytes-of i (suc k) v =
-    let more : v / 256 ^ suc i ≡ v / 256 ^ i / 2 ^ 8 =
-    ap (λ t. v / t) (pow-suc 256 i) ∙ sym (div-div-eq-div-mul v (256 ^ i) 256) in
-    cc (byte-is i v, more, bytes-of (suc i) k v)
-  where
-    byte-is : (i v : ℕ) → byte_at i v ≡ v / 256 ^ i % 2 ^ 8
-    byte-is zero v = omega arith
-    byte-is (suc i) v = refl
+bytes-of i (suc k) v = search (arith, pow-suc, div-div-eq-div-mul, bytes-of (suc i) k v)
 
 -- the first of some coefficients
 pub take-unpacked : (n k v : ℕ) → n ≤ k → take n (unpacked k v) ≡ unpacked n v
 unfolding unpacked
 take-unpacked zero k v l = refl
 take-unpacked (suc n) zero v l = absurd (omega arith)
-take-unpacked (suc n) (suc k) v l = ap (λ t. v % 2 ^ 8 ∷ t) (take-unpacked n k (v / 2 ^ 8) (omega arith))
+take-unpacked (suc n) (suc k) v l = cc (take-unpacked n k (v / 2 ^ 8) (omega arith))
 
 -- the bytes of a word
 pub word-bytes : (v : ℕ) → to_le_bytes w64 v ≡ unpacked 8 v
@@ -133,13 +121,7 @@ half-bytes v =
 pub joined-halves : (k h l : ℕ) (lower upper others : List ℕ) → l < 256 ^ k → lower ≡ unpacked k l → upper ≡ unpacked k h →
     length others ≡ k → put_mid k k (lower ++ others) upper ≡ unpacked (k + k) (h * 256 ^ k + l)
 joined-halves k h l lower upper others s el eu n =
-    let count : length lower ≡ k = ap length el ∙ length-unpacked k l in
-    let first : take k (lower ++ others) ≡ lower = take_at lower others k count in
-    let rest : drop k (drop k (lower ++ others)) ≡ [] =
-    drop_all k (drop k (lower ++ others)) (omega (arith, length-drop k (lower ++ others), length-append lower others, count, n)) in
-    let whole : put_mid k k (lower ++ others) upper ≡ lower ++ upper =
-    rw first (ap (λ t. lower ++ (upper ++ t)) rest ∙ ap (λ t. lower ++ t) (append-nil upper)) in
-    cc (whole, el, eu, unpacked-halves k k h l s)
+    search (arith, length-unpacked, take_at, drop_all, length-drop, length-append, append-nil, unpacked-halves)
 
 -- the coefficients of an upper half, packed after those of the lower half
 pub packed-halves : (k : ℕ) (bs : List ℕ) → k ≤ length bs →
@@ -188,7 +170,6 @@ doubled-packed (suc k) x =
     let r = x / 2 ^ 7 % 2 ^ 8 in
     let low = bit_and p (repeated k 127) in
     let top = bit_and (p / 2 ^ 7) (repeated k 1) in
-    let small : b < 256 = omega arith in
     let whole : x ≡ p * 2 ^ 8 + b = omega arith in
     let moved : x / 2 ^ 7 ≡ p / 2 ^ 7 * 2 ^ 8 + r = omega arith in
     let others : bit_and x (repeated (suc k) 127) ≡ low * 2 ^ 8 + b % 2 ^ 7 =
@@ -196,10 +177,8 @@ doubled-packed (suc k) x =
     let last : r % 2 ^ 1 ≡ b / 2 ^ 7 = omega arith in
     let highest : bit_and (x / 2 ^ 7) (repeated (suc k) 1) ≡ top * 2 ^ 8 + b / 2 ^ 7 =
     cc (moved, and_block 8 (p / 2 ^ 7) (repeated k 1) r 1 (omega arith) (omega arith), and_mask r 1) in
-    let l : (low * 2 ^ 8 + b % 2 ^ 7) * 2 ≡ low * 2 * 2 ^ 8 + b % 2 ^ 7 * 2 = omega arith in
-    let h : (top * 2 ^ 8 + b / 2 ^ 7) * 29 ≡ top * 29 * 2 ^ 8 + b / 2 ^ 7 * 29 = omega arith in
     let sum = xor_block 8 (low * 2) (top * 29) (b % 2 ^ 7 * 2) (b / 2 ^ 7 * 29) (omega arith) (omega arith) in
-    cc (others, highest, l, h, sum, product-of_two b small, doubled-packed k p)
+    search (arith, product-of_two, doubled-packed k p)
 
 -- doubled halves are halves of doubled coefficients
 pub doubled-halves : (k h l : ℕ) → l < 256 ^ k →
@@ -207,9 +186,7 @@ pub doubled-halves : (k h l : ℕ) → l < 256 ^ k →
     ≡ packed (scaled 2 (unpacked (k + k) (h * 256 ^ k + l)))
 doubled-halves k h l s =
     let whole : unpacked k l ++ unpacked k h ≡ unpacked (k + k) (h * 256 ^ k + l) = unpacked-halves k k h l s in
-    let count : length (scaled 2 (unpacked k l)) ≡ k = length-map (unpacked k l) (product 2) ∙ length-unpacked k l in
-    let sum = packed-append (scaled 2 (unpacked k l)) (scaled 2 (unpacked k h)) in
-    cc (sym whole, map-append (product 2) (unpacked k l) (unpacked k h), count, sum)
+    search (arith, length-map, length-unpacked, packed-append, map-append)
 
 -- coefficients that are packed and unpacked have the same multiples
 pub scaled-unpacked : (f n : ℕ) (xs : List ℕ) → f < 256 → length xs ≤ n → All IsByte xs →
@@ -219,18 +196,14 @@ scaled-unpacked f zero [] m l a = refl
 scaled-unpacked f zero (x ∷ xs) m l a = absurd (omega arith)
 scaled-unpacked f (suc n) [] m l a = cc (product-by_zero f m, scaled-unpacked f n [] m (omega arith) a)
 scaled-unpacked f (suc n) (x ∷ xs) m l a =
-    cc (mod_low (packed xs) 8 x (All-head IsByte x xs a), shr_high (packed xs) 8 x (All-head IsByte x xs a), scaled-unpacked f n xs m (omega arith) (All-tail IsByte x xs a))
+    search (arith, mod_low, All-head, shr_high, All-tail, scaled-unpacked f n xs m (omega arith) (All-tail IsByte x xs a))
 
 -- ---- bytes
 
 -- byte k + 1 is byte k of what is left without the lowest byte
 byte-next : (k n : ℕ) → byte_at (suc k) n ≡ byte_at k (n / 2 ^ 8)
 byte-next zero n = refl
-byte-next (suc k) n =
-    let q = 256 ^ suc k in
-    let more : n / 256 ^ suc (suc k) ≡ n / 256 / q =
-    ap (λ t. n / t) (pow-suc 256 (suc k) ∙ mul_comm q 256) ∙ sym (div-div-eq-div-mul n 256 q) in
-    ap (λ t. t % 256) more
+byte-next (suc k) n = search (arith, pow-suc, mul_comm, div-div-eq-div-mul)
 
 -- a byte of a sum
 pub byte-xor : (k a b : ℕ) → byte_at k (bit_xor a b) ≡ bit_xor (byte_at k a) (byte_at k b)
@@ -247,7 +220,7 @@ unpacked-at (suc n) (suc k) v l = unpacked-at n k (v / 2 ^ 8) (omega arith) ∙ 
 
 -- the bytes of a word as a list
 pub word-byte : (k v : ℕ) → k < 16 → get_or (to_le_bytes w128 v) k 0 ≡ byte_at k v
-word-byte k v l = ap (λ t. get_or t k 0) (half-bytes v) ∙ unpacked-at 16 k v l
+word-byte k v l = cc (half-bytes v, unpacked-at 16 k v l)
 
 -- if each byte of r is the double of that of v, the coefficients of r are those of v, doubled
 unpacked-doubled : (n v r : ℕ) → ((k : ℕ) → k < n → byte_at k r ≡ product 2 (byte_at k v)) → unpacked n r ≡ scaled 2 (unpacked n v)
@@ -258,7 +231,7 @@ unpacked-doubled (suc n) v r is =
 
 -- the doubled bytes of a half
 pub bytes-doubled : (v r : ℕ) → r < 2 ^ 128 → ((k : ℕ) → k < 16 → byte_at k r ≡ product 2 (byte_at k v)) → r ≡ packed (scaled 2 (unpacked 16 v))
-bytes-doubled v r small is = sym (packed-unpacked 16 r small) ∙ ap packed (unpacked-doubled 16 v r is)
+bytes-doubled v r small is = cc (packed-unpacked 16 r small, unpacked-doubled 16 v r is)
 
 -- the bytes of doubled coefficients
 pub byte-doubled : (k v r : ℕ) → k < 16 → r ≡ packed (scaled 2 (unpacked 16 v)) → byte_at k r ≡ product 2 (byte_at k v)
@@ -268,5 +241,4 @@ byte-doubled k v r l e =
     let same : unpacked 16 r ≡ doubled =
     ap (unpacked 16) e ∙ unpacked-packed 16 doubled count (bytes-scaled 2 (unpacked 16 v) (lit< tt)) in
     let inside : k < length (unpacked 16 v) = omega (arith, l, length-unpacked 16 v) in
-    sym (unpacked-at 16 k r l) ∙ (ap (λ t. get_or t k 0) same
-    ∙ (get_or-map (product 2) (unpacked 16 v) k 0 0 inside ∙ ap (product 2) (unpacked-at 16 k v l)))
+    cc (unpacked-at 16 k r l, get_or-map (product 2) (unpacked 16 v) k 0 0 inside, unpacked-at 16 k v l)

@@ -2,7 +2,7 @@
 use Rattle.qr_layout.proofs.lemmas.alignment.TableLemmas.{below, below-from}
 use Rattle.std.proofs.Common.{◌≡◌, ℕ, ◌+◌, ◌-◌, ◌<◌, ◌≤◌, Bool, true, false, not, ◌&&◌, ◌||◌, cond, ltb, leb, List, [], ◌∷◌, map, refl, sym, ap, ◌∙◌, inl, inr, ◌⊎◌, arith}
 use Rattle.std.proofs.lemmas.{Bool.Decides.nat_tests, List.Elements.{All-nil, All-cons, All-weaker}}
-use Rattle.std.proofs.lemmas.{Bool.cases_lt, Bool.and_parts, List.Folds.list_any-append}
+use Rattle.std.proofs.lemmas.{Bool.and_parts, List.Folds.list_any-append}
 use Rattle.std.specs.List.{All, list_all, list_any, flat_map}
 use Rattle.qr_layout.specs.Region.{is_corner, is_timing, is_version_information, is_alignment, ring_of, is_in_region}
 use Rattle.qr_layout.specs.{declared.rectangles.Rectangle.Rectangle, Rectangles.AreFixed, Rectangles.is_in_rectangle}
@@ -13,12 +13,12 @@ use Rattle.qr_layout.specs.Alignment.{centres_of, is_corner_pair, alignment_plac
 -- a test of the items of a flat map goes over the lists that it joins
 list_any-flat_map : {X Y : Type 0} (p : Y → Bool) (f : X → List Y) (xs : List X) → list_any p (flat_map f xs) ≡ list_any (λ x. list_any p (f x)) xs
 list_any-flat_map p f [] = refl
-list_any-flat_map p f (x ∷ xs) = list_any-append p (f x) (flat_map f xs) ∙ ap (λ b. list_any p (f x) || b) (list_any-flat_map p f xs)
+list_any-flat_map p f (x ∷ xs) = search (arith, list_any-append, list_any-flat_map p f xs)
 
 -- tests that agree on each item agree on the list
 pub list_any-same : {X : Type 0} (p q : X → Bool) → ((x : X) → p x ≡ q x) → (xs : List X) → list_any p xs ≡ list_any q xs
 list_any-same p q e [] = refl
-list_any-same p q e (x ∷ xs) = ap (λ b. b || list_any p xs) (e x) ∙ ap (λ b. q x || b) (list_any-same p q e xs)
+list_any-same p q e (x ∷ xs) = search (arith, list_any-same p q e xs)
 
 -- a fact that does not speak of the item may stand outside
 list_any-and : {X : Type 0} (a : Bool) (p : X → Bool) (xs : List X) → list_any (λ x. a && p x) xs ≡ (a && list_any p xs)
@@ -31,17 +31,9 @@ pub list_any-map : {X Y : Type 0} (p : Y → Bool) (f : X → Y) (xs : List X) �
 list_any-map p f [] = refl
 list_any-map p f (x ∷ xs) = ap (λ b. p (f x) || b) (list_any-map p f xs)
 
--- a test of a centre, or of none in a corner
-at-centre : (p : Place → Bool) (a b : ℕ) (t : Bool) → list_any p (cond t [] (record { row = a; col = b } ∷ [])) ≡ (not t && p (record { row = a; col = b }))
-at-centre p a b t = grind (arith, nat_tests)
-
 -- a test of the alignment patterns' centres goes over their rows and then their columns
 pub any-places : (p : Place → Bool) (s : ℕ) (cs : List ℕ) → list_any p (alignment_places s cs) ≡ list_any (λ a. list_any (λ b. not (is_corner_pair s a b) && p (record { row = a; col = b })) cs) cs
-any-places p s cs =
-    list_any-flat_map p (λ a. flat_map (λ b. cond (is_corner_pair s a b) [] (record { row = a; col = b } ∷ [])) cs) cs ∙
-    list_any-same _ _ (λ a.
-    list_any-flat_map p (λ b. cond (is_corner_pair s a b) [] (record { row = a; col = b } ∷ [])) cs ∙
-    list_any-same _ _ (λ b. at-centre p a b (is_corner_pair s a b)) cs) cs
+any-places p s cs = grind (arith, list_any-flat_map, list_any-same, nat_tests)
 
 -- a place near one centre, or near none where the centre is in a corner
 one : (r c a b : ℕ) (t : Bool) → (not t && leb (ring_of a b r c) 2) ≡ ((leb (a - 2) r && ltb r (a + 3)) && ((leb (b - 2) c && ltb c (b + 3)) && not t))
@@ -77,27 +69,12 @@ timing-is s r c h k = grind (arith, nat_tests)
 -- the copies of version information
 version-is : (v r c : ℕ) → is_version_information v r c ≡ list_any (is_in_rectangle r c) (cond (ltb v 7) []
     (record { top = 0; bottom = 6; left = side_of v - 11; right = side_of v - 8 } ∷ record { top = side_of v - 11; bottom = side_of v - 8; left = 0; right = 6 } ∷ []))
-version-is v r c = elim (cases_lt v 7) [
-  | inl k ↦ let t : ltb v 7 ≡ true = grind (arith, nat_tests) in let u : leb 7 v ≡ false = grind (arith, nat_tests) in rw (t, u) refl
-  | inr k ↦ let t : ltb v 7 ≡ false = grind (arith, nat_tests) in let u : leb 7 v ≡ true = grind (arith, nat_tests) in rw (t, u) (tests (side_of v))
-]
-  where
-    tests : (s : ℕ) → ((ltb r 6 && (leb (s - 11) c && ltb c (s - 8))) || (ltb c 6 && (leb (s - 11) r && ltb r (s - 8)))) ≡ list_any (is_in_rectangle r c) (record { top = 0; bottom = 6; left = s - 11; right = s - 8 } ∷ record { top = s - 11; bottom = s - 8; left = 0; right = 6 } ∷ [])
-    tests s = grind (arith, nat_tests)
+version-is v r c = search arith
 
 -- tests of the rectangles, by the parts that they cover
 by-parts : (a b d e f g x y z : Bool) → x ≡ (a || (b || (d || false))) → y ≡ (e || (f || false)) → z ≡ g
     → (a || (b || (d || (e || (f || g))))) ≡ ((x || y) || z)
 by-parts a b d e f g x y z h k l = grind (arith, nat_tests)
-
--- a place is in one of the rectangles if it is in a corner, on a timing pattern or in the version information
-fixed-places : (v r c : ℕ) → r < side_of v → c < side_of v
-    → list_any (is_in_rectangle r c) (fixed_list v) ≡ (is_corner (side_of v) r c || is_timing r c || is_version_information v r c)
-fixed-places v r c h k =
-    let s = side_of v in
-    let p = is_in_rectangle r c in
-    by-parts (p (record { top = 0; bottom = 9; left = 0; right = 9 })) (p (record { top = 0; bottom = 9; left = s - 8; right = s })) (p (record { top = s - 8; bottom = s; left = 0; right = 9 }))
-    _ _ _ _ _ _ (corners-are s r c h k) (timing-is s r c h k) (version-is v r c)
 
 -- a test of each item of a list, and what it means
 all-of : {X : Type 0} (p : X → Bool) (P : X → Type 0) → ((x : X) → p x ≡ true → P x) → (xs : List X) → list_all p xs ≡ true → All P xs
@@ -106,42 +83,24 @@ all-of p P f (x ∷ xs) h = All-cons P x xs (f x (and_parts (p x) _ h).0) (all-o
 
 -- ---- the rectangles are inside the symbol
 
--- the rectangle is inside a symbol of side s
-abbrev is_rectangle_inside : ℕ → Rectangle → Bool
-is_rectangle_inside s b = leb b.top b.bottom && leb b.bottom s && leb b.left b.right && leb b.right s
-
--- what the test of such a rectangle means
-rectangle-inside-is : (s : ℕ) (b : Rectangle) → is_rectangle_inside s b ≡ true → (b.top ≤ b.bottom) × (b.bottom ≤ s) × (b.left ≤ b.right) × (b.right ≤ s)
-rectangle-inside-is s b h = (grind (arith, nat_tests), grind (arith, nat_tests), grind (arith, nat_tests), grind (arith, nat_tests))
-
--- the rectangles of each version are inside, computed
-all-rectangles-inside : below 40 (λ k. list_all (is_rectangle_inside (side_of (k + 1))) (fixed_list (k + 1))) ≡ true
-all-rectangles-inside = refl
-
 -- the rectangles of a version are such as cover all but the alignment patterns
 pub fixed-are : (v : ℕ) → 1 ≤ v → v ≤ 40 → AreFixed v (fixed_list v)
-fixed-are v h k = record {
-  inside = all-of (is_rectangle_inside (side_of v)) _ (rectangle-inside-is (side_of v)) (fixed_list v) (below-from 40 1 (λ v. list_all (is_rectangle_inside (side_of v)) (fixed_list v)) all-rectangles-inside v h (omega arith));
-  places = fixed-places v;
-}
+fixed-are v h k = grind (arith, all-of, below-from, by-parts, corners-are, timing-is, version-is)
 
 -- such rectangles are inside the symbol
 pub fixed-inside : (v : ℕ) (bs : List Rectangle) → AreFixed v bs → All (IsInside (side_of v)) bs
-fixed-inside v bs a = All-weaker (λ b. (b.top ≤ b.bottom) × (b.bottom ≤ side_of v) × (b.left ≤ b.right) × (b.right ≤ side_of v)) (IsInside (side_of v)) (λ b h. record { rows = h.0; bottom = h.1; columns = h.2; right = h.3 }) bs a.inside
+fixed-inside v bs a = search (arith, All-weaker)
 
 -- the encoding region inside the square
 pub region-parts : (v r c : ℕ) → r < side_of v → c < side_of v
     → is_in_region v r c ≡ not (is_corner (side_of v) r c || is_timing r c || is_version_information v r c || is_alignment v r c)
 unfolding is_in_region
-region-parts v r c h k =
-    let p : ltb r (side_of v) ≡ true = grind (arith, nat_tests) in
-    let q : ltb c (side_of v) ≡ true = grind (arith, nat_tests) in
-    rw (p, q) refl
+region-parts v r c h k = search arith
 
 -- a place inside the square is in the encoding region if it is in none of such rectangles and in no alignment pattern
 pub region_outside : (v : ℕ) (bs : List Rectangle) → AreFixed v bs → (r c : ℕ) → r < side_of v →
     c < side_of v → is_in_region v r c ≡ not (list_any (is_in_rectangle r c) bs || is_alignment v r c)
-region_outside v bs a r c h k = region-parts v r c h k ∙ ap (λ b. not (b || is_alignment v r c)) (sym (a.places r c h k))
+region_outside v bs a r c h k = search (arith, region-parts)
 
 -- the same for the rectangles of a version, with the alignment patterns as rectangles too
 pub region-taken : (v r c : ℕ) → 1 ≤ v → v ≤ 40 → r < side_of v → c < side_of v → is_in_region v r c ≡ not (list_any (is_in_rectangle r c) (taken_rectangles v))
@@ -168,16 +127,12 @@ region-free v r c h k i j l = rw (region-parts v r c h k, i, j, l) refl
 
 -- the same by the tests of these parts
 pub region-none : (v r c s : ℕ) (e : Bool) → s ≡ side_of v → r < s → c < s → false ≡ is_corner s r c → false ≡ is_timing r c → false ≡ is_version_information v r c → e ≡ is_alignment v r c → not e ≡ is_in_region v r c
-region-none v r c s e y h k i j l m =
-    ap not m ∙ sym (region-free v r c (omega arith) (omega arith) (sym (i ∙ ap (λ z. is_corner z r c) y)) (sym j) (sym l))
+region-none v r c s e y h k i j l m = search (arith, region-free)
 
 -- a place in the corners, on a timing pattern or in the version information is not in the region
 region-hidden : (v r c : ℕ) → ((is_corner (side_of v) r c ≡ true) ⊎ ((is_timing r c ≡ true) ⊎ (is_version_information v r c ≡ true))) → false ≡ is_in_region v r c
 unfolding is_in_region
-region-hidden v r c h = hidden (ltb r (side_of v) && ltb c (side_of v)) (is_corner (side_of v) r c) (is_timing r c) (is_version_information v r c) (is_alignment v r c) h
-  where
-    hidden : (x a b d e : Bool) → ((a ≡ true) ⊎ ((b ≡ true) ⊎ (d ≡ true))) → false ≡ (x && not (((a || b) || d) || e))
-    hidden x a b d e h = grind (arith, nat_tests)
+region-hidden v r c h = search arith
 
 -- a place in the corners is not in the region
 pub region-corners : (v r c : ℕ) → is_corner (side_of v) r c ≡ true → false ≡ is_in_region v r c
@@ -199,7 +154,7 @@ is_inside s m = leb 2 m.row && leb (m.row + 3) s && leb 2 m.col && leb (m.col + 
 
 -- what the test of such a centre means
 inside-is : (s : ℕ) (m : Place) → is_inside s m ≡ true → IsCentreInside s m
-inside-is s m h = record { row_least = grind (arith, nat_tests); row_most = grind (arith, nat_tests); col_least = grind (arith, nat_tests); col_most = grind (arith, nat_tests) }
+inside-is s m h = search arith
 
 -- the squares of the alignment patterns are inside, in each version, computed
 all-inside : below 40 (λ k. list_all (is_inside (side_of (k + 1))) (alignment_places (side_of (k + 1)) (centres_of (k + 1)))) ≡ true

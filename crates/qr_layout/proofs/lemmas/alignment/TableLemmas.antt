@@ -1,5 +1,5 @@
 -- Tests computed at each number below a bound, and the table of the alignment centres.
-use Rattle.std.proofs.Common.{◌≡◌, ℕ, zero, suc, ◌+◌, ◌-◌, ◌/◌, ◌<◌, ◌≤◌, Bool, true, false, ◌&&◌, cond, eqb, leb, List, [], ◌∷◌, length, take, get_or, refl, sym, ap, ◌∙◌, subst, inl, inr, arith}
+use Rattle.std.proofs.Common.{◌≡◌, ℕ, zero, suc, ◌+◌, ◌-◌, ◌/◌, ◌<◌, ◌≤◌, Bool, true, false, ◌&&◌, cond, eqb, leb, List, [], ◌∷◌, length, take, get_or, refl, sym, ◌∙◌, subst, inl, inr, arith}
 use Rattle.std.proofs.lemmas.Bool.{cases_lt, and_parts, eqb-true}
 use borrow.Author.Tests.{leb-true}
 use Rattle.qr_layout.specs.{declared.alignment.TheConstants.CENTRES, Alignment.centres_of, Alignment.centre_table}
@@ -14,7 +14,7 @@ pub below-at : (n : ℕ) (p : ℕ → Bool) → below n p ≡ true → (k : ℕ)
 below-at zero p h k l = absurd (omega arith)
 below-at (suc n) p h k l = elim (cases_lt k n) [
   | inl m ↦ below-at n p (and_parts (p n) _ h).1 k m
-  | inr m ↦ let e : n ≡ k = omega arith in subst (λ (z : ℕ). p z ≡ true) e (and_parts (p n) _ h).0
+  | inr m ↦ search (arith, and_parts)
 ]
 
 -- the test at one of n numbers from a on
@@ -33,7 +33,7 @@ pub is_same-same : (xs ys : List ℕ) → is_same xs ys ≡ true → xs ≡ ys
 is_same-same [] [] h = refl
 is_same-same [] (y ∷ ys) h = cc
 is_same-same (x ∷ xs) [] h = cc
-is_same-same (x ∷ xs) (y ∷ ys) h = let e = eqb-true x y (and_parts _ (is_same xs ys) h).0 in let f = is_same-same xs ys (and_parts (eqb x y) _ h).1 in cc
+is_same-same (x ∷ xs) (y ∷ ys) h = search (arith, eqb-true, and_parts, is_same-same xs ys (and_parts (eqb x y) _ h).1)
 
 -- the two tables have the same centres for one version
 abbrev pub centres_agree : ℕ → Bool
@@ -46,7 +46,7 @@ all-agree = refl
 -- the centres of the version at an index
 centre-list-of : (i : ℕ) → centres_of (i + 1) ≡ get_or centre_table i []
 unfolding centres_of
-centre-list-of i = ap (λ k. get_or centre_table k []) (let e : i + 1 - 1 ≡ i = omega arith in e)
+centre-list-of i = search arith
 
 -- the centres that the code takes from its table are those of the definition
 pub centres-agree : (v i many : ℕ) → v ≤ 40 → i + 1 ≡ v → many ≡ cond (eqb i 0) 0 ((i + 1) / 7 + 2) → take many (get_or CENTRES i []) ≡ centres_of v

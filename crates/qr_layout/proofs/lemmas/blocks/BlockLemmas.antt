@@ -1,5 +1,5 @@
 -- Facts of the blocks that are computed for each version and level.
-use Rattle.std.proofs.Common.{◌≡◌, ℕ, ◌+◌, ◌-◌, ◌*◌, ◌/◌, ◌%◌, ◌<◌, ◌≤◌, Bool, true, ◌&&◌, ◌||◌, leb, refl, ap, arith}
+use Rattle.std.proofs.Common.{◌≡◌, ℕ, ◌+◌, ◌-◌, ◌*◌, ◌/◌, ◌%◌, ◌<◌, ◌≤◌, Bool, true, ◌&&◌, ◌||◌, leb, refl, arith}
 use Rattle.std.proofs.lemmas.{Bool.Decides.nat_tests, Nat.div-add-mod'}
 use borrow.Author.Tests.{leb-true}
 use Rattle.qr_layout.specs.{declared.level.Level.{Level, TheVariants.{L, M, Q, H}}, Version.total_codewords_of}
@@ -77,11 +77,11 @@ same-product a b c d e f = cc
 
 -- the product that the code computes is not above the total
 pub product-fits : (l : Level) (v t b n : ℕ) → 1 ≤ v → v ≤ 40 → t ≡ total_codewords_of v → b ≡ block_count_of v l → n ≡ correction_len_of v l → b * n ≤ t
-product-fits l v t b n h k et eb en = let f = (laws-of l v h k).fits in let e = same-product b n (block_count_of v l) (correction_len_of v l) eb en in omega (arith, f, e)
+product-fits l v t b n h k et eb en = search (arith, laws-of, same-product)
 
 -- the quotient that the code computes fits a byte
 pub quotient-fits : (l : Level) (v b d : ℕ) → 1 ≤ v → v ≤ 40 → b ≡ block_count_of v l → d ≡ data_codewords_of v l → d / b ≤ 122
-quotient-fits l v b d h k eb ed = let f = (laws-of l v h k).len in let e : d / b ≡ data_codewords_of v l / block_count_of v l = cc in omega (arith, f, e)
+quotient-fits l v b d h k eb ed = let f = (laws-of l v h k).len in search arith
 
 -- k + r parts, of which r parts are longer by one, have r more items
 cut : (k r q : ℕ) → k * q + r * (q + 1) ≡ q * (k + r) + r
@@ -97,24 +97,13 @@ blocks-sum b d p =
 -- data and error correction codewords make up the symbol
 blocks-total : (l : Level) (v r : ℕ) → 1 ≤ v → v ≤ 40 → r ≤ block_count_of v l → data_codewords_of v l + (block_count_of v l - r + r) * correction_len_of v l ≡ total_codewords_of v
 unfolding data_codewords_of
-blocks-total l v r h k lr =
-    let f = (laws-of l v h k).fits in
-    let g : block_count_of v l - r + r ≡ block_count_of v l = omega arith in
-    let e : (block_count_of v l - r + r) * correction_len_of v l ≡ block_count_of v l * correction_len_of v l = ap (λ t. t * correction_len_of v l) g in
-    omega (arith, f, e)
+blocks-total l v r h k lr = search (arith, laws-of)
 
 -- the blocks of each version and level together have its codewords
 pub blocks-sound : (l : Level) (v : ℕ) → 1 ≤ v → v ≤ 40 → AreWhole v l (blocks_of v l)
 blocks-sound l v h k =
     let f = laws-of l v h k in
-    record {
-      some = omega arith;
-      some_len = f.some_len;
-      correction_least = f.ec_least;
-      correction_most = f.ec_most;
-      data_whole = blocks-sum (block_count_of v l) (data_codewords_of v l) (omega arith);
-      total_whole = blocks-total l v (data_codewords_of v l % block_count_of v l) h k (omega arith);
-    }
+    search (arith, blocks-sum, blocks-total)
 
 -- no block has more than 153 codewords, computed
 longest-all : every (λ l v. leb (longest_of (blocks_of v l)) 153) ≡ true

@@ -1,5 +1,5 @@
 -- The places of the bits of the format and version information.
-use Rattle.std.proofs.Common.{◌≡◌, ℕ, zero, suc, ◌+◌, ◌-◌, ◌*◌, ◌<◌, ◌≤◌, Bool, true, false, ◌&&◌, ◌||◌, cond, eqb, ltb, leb, None, Some, refl, ap, ◌∙◌, subst, inl, inr, ◌⊎◌, arith}
+use Rattle.std.proofs.Common.{◌≡◌, ℕ, zero, suc, ◌+◌, ◌-◌, ◌*◌, ◌<◌, ◌≤◌, Bool, true, false, ◌&&◌, ◌||◌, cond, eqb, ltb, leb, None, Some, refl, ap, ◌∙◌, inl, inr, ◌⊎◌, arith}
 use Rattle.std.proofs.lemmas.Bool.{Decides.nat_tests, and_parts, cases_lt, cases_Bool}
 use Rattle.std.specs.List.{find, range_with_len}
 use Rattle.qr_layout.specs.{Version.side_of, Region.is_version_copy, Region.is_version_information}
@@ -9,10 +9,10 @@ use Rattle.qr_layout.specs.Format.{first_place, second_place, version_place, mir
 found-some : (n a : ℕ) (p : ℕ → Bool) (i : ℕ) → a ≤ i → i < a + n → p i ≡ true → ((j : ℕ) → a ≤ j → j < a + n → p j ≡ true → j ≡ i) → find p (range_with_len a n) ≡ Some i
 found-some zero a p i l k h f = absurd (omega arith)
 found-some (suc n) a p i l k h f = elim (cases_Bool (p a)) [
-  | inl e ↦ let g : a ≡ i = f a (omega arith) (omega arith) e in rw e (ap (λ k. Some k) g)
+  | inl e ↦ search arith
   | inr e ↦ elim (cases_lt a i) [
     | inl m ↦ rw e (found-some n (a + 1) p i (omega arith) (omega arith) h (λ j b d q. f j (omega arith) (omega arith) q))
-    | inr m ↦ let g : i ≡ a = omega arith in let q = subst (λ z. p z ≡ true) g h in cc
+    | inr m ↦ search arith
   ]
 ]
 
@@ -28,8 +28,8 @@ found-none (suc n) a p f = elim (cases_Bool (p a)) [
 found-at : (n a : ℕ) (p : ℕ → Bool) (i : ℕ) → find p (range_with_len a n) ≡ Some i → (i < a + n) × (p i ≡ true)
 found-at zero a p i h = cc
 found-at (suc n) a p i h = elim (cases_Bool (p a)) [
-  | inl e ↦ let k : a ≡ i = (let g = rw e at h in cc) in (omega arith, subst (λ z. p z ≡ true) k e)
-  | inr e ↦ let w = found-at n (a + 1) p i (rw e at h) in let l = w.0 in (omega arith, w.1)
+  | inl e ↦ search arith
+  | inr e ↦ search (arith, found-at n (a + 1) p i (rw e at h))
 ]
 
 -- of the numbers below n, only i may pass the test: it is found if it does
@@ -38,18 +38,15 @@ first-one n p i f = elim (cases_Bool (ltb i n && p i)) [
   | inl e ↦
       let w = and_parts (ltb i n) (p i) e in
       rw e (found-some n 0 p i (omega arith) (below i (omega arith) w.0) w.1 (λ j a b q. f j (omega arith) q))
-  | inr e ↦ rw e (found-none n 0 p (λ j a b q. let g = f j (omega arith) q in apart j (omega arith) (rw g at q) e g))
+  | inr e ↦ search (arith, found-none)
 ]
   where
     below : (k : ℕ) → k ≡ i → ltb i n ≡ true → i < 0 + n
     below k e h = grind (arith, nat_tests)
 
-    apart : (j : ℕ) → j < n → p i ≡ true → (ltb i n && p i) ≡ false → j ≡ i → ⊥
-    apart j a q e g = let t : ltb i n ≡ true = grind (arith, nat_tests) in cc
-
 -- the number that is found is below n and passes the test
 pub first-at : (n : ℕ) (p : ℕ → Bool) (i : ℕ) → find p (range_with_len 0 n) ≡ Some i → (i < n) × (p i ≡ true)
-first-at n p i h = let w = found-at n 0 p i h in let l = w.0 in (omega arith, w.1)
+first-at n p i h = search (arith, found-at)
 
 -- bit i of the format information is at (r, c)
 abbrev pub stands : ℕ → ℕ → ℕ → ℕ → Bool
@@ -58,10 +55,6 @@ stands s r c i = is_at (first_place i) r c || is_at (second_place s i) r c
 -- the only bit that may be at a place of row 8 or column 8
 abbrev pub bit_here : ℕ → ℕ → ℕ → ℕ
 bit_here s r c = cond (eqb c 8) (cond (ltb r 6) r (cond (ltb r 9) (r - 1) (r + 15 - s))) (cond (eqb c 7) 8 (cond (ltb c 6) (14 - c) (s - 1 - c)))
-
--- if a bit has its first place here, it is the bit that may be here
-first-here : (s r c i : ℕ) → 21 ≤ s → i < 15 → is_at (first_place i) r c ≡ true → i ≡ bit_here s r c
-first-here s r c i l a h = grind (arith, nat_tests)
 
 -- if a bit has its second place here, it is the bit that may be here
 second-here : (s r c i : ℕ) → 21 ≤ s → i < 15 → is_at (second_place s i) r c ≡ true → i ≡ bit_here s r c
@@ -73,10 +66,7 @@ either a b h = grind (arith, nat_tests)
 
 -- a bit that is at a place is the bit that may be there
 stands-here : (s r c i : ℕ) → 21 ≤ s → i < 15 → stands s r c i ≡ true → i ≡ bit_here s r c
-stands-here s r c i l a h = elim (either (is_at (first_place i) r c) (is_at (second_place s i) r c) h) [
-  | inl e ↦ first-here s r c i l a e
-  | inr e ↦ second-here s r c i l a e
-]
+stands-here s r c i l a h = search (arith, either, nat_tests, second-here)
 
 -- the bit of the format information that a place contains
 pub format-at : (s r c : ℕ) → 21 ≤ s → format_bit_at s r c ≡ cond (ltb (bit_here s r c) 15 && stands s r c (bit_here s r c)) (Some (bit_here s r c)) None
@@ -120,7 +110,7 @@ unfolding version_bit_at
 version_at v r c =
     let s = side_of v in
     elim (cases_lt v 7) [
-      | inl k ↦ let t : ltb v 7 ≡ true = grind (arith, nat_tests) in let u : leb 7 v ≡ false = grind (arith, nat_tests) in rw (t, u) refl
+      | inl k ↦ search arith
       | inr k ↦
           let t : ltb v 7 ≡ false = grind (arith, nat_tests) in
           let u : leb 7 v ≡ true = grind (arith, nat_tests) in

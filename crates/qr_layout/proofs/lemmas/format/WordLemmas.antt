@@ -1,7 +1,6 @@
 -- The words of the tables are the words of the definitions, and these are remainders.
 use Rattle.std.proofs.Common.{◌≡◌, ℕ, zero, suc, ◌+◌, ◌-◌, ◌*◌, ◌^◌, ◌<◌, ◌≤◌, Bool, true, ◌&&◌, eqb, ltb, List, [], ◌∷◌, cond, get_or, refl, ap, ◌∙◌, arith}
-use Rattle.std.{proofs.lemmas.Bool.{and_parts, eqb-true}, specs.{Prelude.bit_xor, Int.bit_at}}
-use borrow.Author.Tests.{ltb-true}
+use Rattle.std.{proofs.lemmas.Bool.{eqb-true}, specs.{Prelude.bit_xor, Int.bit_at}}
 use Rattle.qr_layout.specs.declared.{level.Level.Level, format.TheConstants.{FORMAT_WORDS, VERSION_WORDS}}
 use Rattle.qr_layout.specs.Format.{format_generator, version_generator, word_remainder, format_with, five_bits, format_word_of, version_word_of, level_bits, sum_of_shifts, IsWordRemainder, IsFormatWord, IsVersionWord}
 use Rattle.qr_layout.proofs.lemmas.alignment.TableLemmas.{below, below-at}
@@ -61,12 +60,7 @@ version-remainders = refl
 -- what the test of a remainder means
 passed : (n divisor k x : ℕ) → (2 ^ n ≤ divisor) × (divisor < 2 ^ (n + 1)) → is_remainder n divisor k x ≡ true → IsWordRemainder n divisor x (word_remainder n divisor k x)
 unfolding is_remainder
-passed n divisor k x d h = record {
-  monic = d;
-  small = ltb-true _ _ (and_parts (ltb (word_remainder n divisor k x) (2 ^ n)) _ h).0;
-  shifts = shifts_of n divisor k x;
-  multiple = eqb-true _ _ (and_parts (ltb (word_remainder n divisor k x) (2 ^ n)) _ h).1;
-}
+passed n divisor k x d h = search arith
 
 -- two bits of the level and three of the mask are below 32
 five-small : (l : Level) (mask : ℕ) → mask < 8 → five_bits l mask < 32

@@ -41,8 +41,7 @@ pub index-below : (v : ℕ) (m : Place) → 1 ≤ v → v ≤ 40 → InRegion v 
 index-below v m l k h =
     let o = to_come-start v in
     let e = order-length v (to_come v (first_cursor v)) l k o in
-    let a = index-small v (to_come v (first_cursor v)) m o h in
-    omega arith
+    search (arith, index-small)
 
 -- two places with the same index are the same place
 pub index-one : (v : ℕ) (m n : Place) → InRegion v m → InRegion v n → index_of v m ≡ index_of v n → m ≡ n

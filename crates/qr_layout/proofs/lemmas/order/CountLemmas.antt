@@ -112,7 +112,7 @@ grid-has : (p : ℕ → ℕ → Bool) (r s : ℕ) (m : Place) → GridFact p r s
 unfolding grid_places
 grid-has p zero s m w = absurd (let l = w.0 in omega arith)
 grid-has p (suc r) s m w = elim (cases_lt m.row r) [
-  | inl l ↦ Mem-right m (row_places p r s) (grid_places p r s) (grid-has p r s m (l, w.1, w.2))
+  | inl l ↦ search (arith, Mem-right, grid-has p r s m (l, w.1, w.2))
   | inr l ↦ Mem-left m (row_places p r s) (grid_places p r s) (row-has p r s m ((let a = w.0 in omega arith), w.1, w.2))
 ]
 
@@ -126,7 +126,7 @@ grid-distinct p (suc r) s = Distinct-append (row_places p r s) (grid_places p r 
 grid-length : (p : ℕ → ℕ → Bool) (r s : ℕ) → length (grid_places p r s) ≡ sum_below r (λ k. sum_below s (λ c. cond (p k c) 1 0))
 unfolding grid_places
 grid-length p zero s = refl
-grid-length p (suc r) s = search (arith, length-append, row_places, grid_places, row-length, grid-length p r s)
+grid-length p (suc r) s = search (arith, length-append, row-length, grid-length p r s)
 
 -- the number of places that pass, as a double sum
 pub places-sum : (s : ℕ) (p : ℕ → ℕ → Bool) → places_passing s p ≡ sum_below s (λ r. sum_below s (λ c. cond (p r c) 1 0))

@@ -1,5 +1,5 @@
 -- The number of modules of the encoding region, computed: for each row only the rectangles that meet the row are checked.
-use Rattle.std.proofs.Common.{◌≡◌, ℕ, zero, suc, ◌+◌, ◌-◌, ◌<◌, ◌≤◌, min, max, Bool, true, false, not, ◌&&◌, ◌||◌, cond, eqb, ltb, leb, List, [], ◌∷◌, refl, ap, ◌∙◌, inl, inr, arith}
+use Rattle.std.proofs.Common.{◌≡◌, ℕ, zero, suc, ◌+◌, ◌-◌, ◌<◌, ◌≤◌, min, max, Bool, true, false, not, ◌&&◌, cond, eqb, ltb, leb, List, [], ◌∷◌, refl, ap, ◌∙◌, inl, inr, arith}
 use Rattle.std.proofs.Math.Nat.{min-eq_left, min-eq_right, max-eq_left, max-eq_right}
 use Rattle.std.{proofs.lemmas.Bool.{cases_lt, Decides.nat_tests}, specs.List.{list_any, filter}}
 use Rattle.qr_layout.specs.{Region.is_in_region, declared.rectangles.Rectangle.Rectangle, Order.places_passing}
@@ -40,15 +40,15 @@ module _ (f g : ℕ → ℕ) (l r : ℕ) (before : (c : ℕ) → c < l → g c �
   sum-inside : (k : ℕ) → l ≤ k → k ≤ r → sum_below k g ≡ sum_below l f
   sum-inside zero h m = let e : l ≡ 0 = omega arith in rw e refl
   sum-inside (suc k) h m = elim (cases_lt k l) [
-    | inl n ↦ let e : l ≡ suc k = omega arith in rw e (sum_below-same (suc k) g f (λ c i. before c (omega arith)))
-    | inr n ↦ let e = none k n m in let d = sum-inside k n (omega arith) in omega arith
+    | inl n ↦ let e : l ≡ suc k = omega arith in search (arith, sum_below-same)
+    | inr n ↦ search (arith, sum-inside k n (omega arith))
   ]
 
   -- the sum up to a column from r on lacks the terms of the second one from l to before r
   sum-after : (k : ℕ) → l ≤ r → r ≤ k → sum_below k g + sum_below r f ≡ sum_below l f + sum_below k f
-  sum-after zero h m = let e : r ≡ 0 = omega arith in let d : l ≡ 0 = omega arith in rw (e, d) refl
+  sum-after zero h m = search arith
   sum-after (suc k) h m = elim (cases_lt k r) [
-    | inl n ↦ let e : r ≡ suc k = omega arith in let d = sum-inside (suc k) (omega arith) (omega arith) in rw e (omega arith)
+    | inl n ↦ let e : r ≡ suc k = omega arith in cc (sum-inside (suc k) (omega arith) (omega arith))
     | inr n ↦ let e = after k n in let d = sum-after k h n in omega arith
   ]
 
@@ -74,26 +74,22 @@ record IsRightPart (lo hi r p q pr b : ℕ) : Type 0 where
 -- what is counted between two columns, from what is counted before and after the rectangle from l to before r
 between-step : (lo hi l r pl pr p q p' q' a b : ℕ) → lo < hi → l ≤ r → IsWithout l r pl pr lo p p' → IsWithout l r pl pr hi q q'
     → IsLeftPart lo hi l p q pl a → IsRightPart lo hi r p q pr b → a + b + p' ≡ q'
-between-step lo hi l r pl pr p q p' q' a b u v low high left right =
-    let a1 = low.before in let a2 = low.inside in let a3 = low.after in
-    let b1 = high.before in let b2 = high.inside in let b3 = high.after in
-    let c1 = left.whole in let c2 = left.part in let c3 = left.none in
-    let d1 = right.none in let d2 = right.part in let d3 = right.whole in grind arith
+between-step lo hi l r pl pr p q p' q' a b u v low high left right = search arith
 
 -- columns before and after a rectangle are free if they are without it, and its own are not
 free-before : (b : Rectangle) (bs : List Rectangle) (c : ℕ) → c < b.left → is_free (b ∷ bs) c ≡ is_free bs c
-free-before b bs c h = let e : leb b.left c ≡ false = grind (arith, nat_tests) in rw e refl
+free-before b bs c h = search arith
 
 free-inside : (b : Rectangle) (bs : List Rectangle) (c : ℕ) → b.left ≤ c → c < max b.left b.right → is_free (b ∷ bs) c ≡ 0
-free-inside b bs c h k = let e : leb b.left c ≡ true = grind (arith, nat_tests) in let d : ltb c b.right ≡ true = grind (arith, nat_tests) in rw (e, d) refl
+free-inside b bs c h k = search arith
 
 free-after : (b : Rectangle) (bs : List Rectangle) (c : ℕ) → max b.left b.right ≤ c → is_free (b ∷ bs) c ≡ is_free bs c
-free-after b bs c h = let e : leb b.left c ≡ true = grind (arith, nat_tests) in let d : ltb c b.right ≡ false = grind (arith, nat_tests) in rw (e, d) refl
+free-after b bs c h = search arith
 
 -- nothing is between a column and an earlier one
 between-none : (bs : List Rectangle) (lo hi : ℕ) → hi ≤ lo → free_between bs lo hi ≡ 0
 between-none [] lo hi h = omega arith
-between-none (b ∷ bs) lo hi h = let e : leb hi lo ≡ true = grind (arith, nat_tests) in rw (e, free_between) refl
+between-none (b ∷ bs) lo hi h = search arith
 
 -- all columns are free
 all-free : (k : ℕ) → sum_below k (is_free []) ≡ k
@@ -104,7 +100,7 @@ all-free (suc k) = let e = all-free k in omega arith
 between-counts : (bs : List Rectangle) (lo hi : ℕ) → lo ≤ hi → free_between bs lo hi + sum_below lo (is_free bs) ≡ sum_below hi (is_free bs)
 between-counts [] lo hi h = let e = all-free lo in let d = all-free hi in omega arith
 between-counts (b ∷ bs) lo hi h = elim (cases_lt lo hi) [
-  | inr n ↦ let e : lo ≡ hi = omega arith in rw e (omega (arith, between-none (b ∷ bs) hi hi (omega arith)))
+  | inr n ↦ search (arith, between-none)
   | inl n ↦
       let l = b.left in
       let r = max b.left b.right in
@@ -112,8 +108,8 @@ between-counts (b ∷ bs) lo hi h = elim (cases_lt lo hi) [
       let g = is_free (b ∷ bs) in
       let x : leb hi lo ≡ false = grind (arith, nat_tests) in
       let without : (c : ℕ) → IsWithout l r (sum_below l f) (sum_below r f) c (sum_below c f) (sum_below c g) = λ c. record {
-        before = λ i. sum_below-same c g f (λ c k. free-before b bs c (omega arith));
-        inside = λ i j. sum-inside f g l r (free-before b bs) (free-inside b bs) (free-after b bs) c i j;
+        before = search (arith, sum_below-same, free-before);
+        inside = search (arith, sum-inside, free-before, free-inside, free-after);
         after = λ i. sum-after f g l r (free-before b bs) (free-inside b bs) (free-after b bs) c (omega arith) i;
       } in
       rw (x, free_between) (between-step lo hi l r (sum_below l f) (sum_below r f) (sum_below lo f) (sum_below hi f) (sum_below lo g) (sum_below hi g) (free_between bs lo (min hi l)) (free_between bs (max lo r) hi) n (omega arith) (without lo) (without hi) (record {
@@ -127,31 +123,20 @@ between-counts (b ∷ bs) lo hi h = elim (cases_lt lo hi) [
       }))
 ]
 
--- a place is in a rectangle by its row and by its column
-in-parts : (r c : ℕ) (b : Rectangle) → is_in_rectangle r c b ≡ (is_in_rows r b && is_in_columns c b)
-in-parts r c b = assoc (leb b.top r) (ltb r b.bottom) (leb b.left c) (ltb c b.right)
-  where
-    assoc : (w x y z : Bool) → (((w && x) && y) && z) ≡ (elim w [ true ↦ x | false ↦ false ] && (y && z))
-    assoc w x y z = grind arith
-
 -- only the rectangles that the row goes through can contain a place of it
 any-filter : (r c : ℕ) (bs : List Rectangle) → list_any (is_in_rectangle r c) bs ≡ list_any (is_in_columns c) (filter (is_in_rows r) bs)
 any-filter r c [] = refl
-any-filter r c (b ∷ bs) = ap (λ z. z || list_any (is_in_rectangle r c) bs) (in-parts r c b) ∙ (ap (λ z. (is_in_rows r b && is_in_columns c b) || z) (any-filter r c bs) ∙ one (is_in_rows r b))
-  where
-    one : (t : Bool) → ((t && is_in_columns c b) || list_any (is_in_columns c) (filter (is_in_rows r) bs)) ≡ list_any (is_in_columns c) (cond t (b ∷ filter (is_in_rows r) bs) (filter (is_in_rows r) bs))
-    one true = refl
-    one false = refl
+any-filter r c (b ∷ bs) = grind (arith, any-filter r c bs)
 
 -- a place inside the square is in the region if no rectangle of its row contains it
 region-free : (v r c : ℕ) → 1 ≤ v → v ≤ 40 → r < side_of v → c < side_of v → is_in_region v r c ≡ not (list_any (is_in_columns c) (filter (is_in_rows r) (taken_rectangles v)))
-region-free v r c l m h k = region-taken v r c l m h k ∙ ap not (any-filter r c (taken_rectangles v))
+region-free v r c l m h k = search (arith, region-taken, any-filter)
 
 -- the places of the region, counted row by row
 pub region-count : (v : ℕ) → 1 ≤ v → v ≤ 40 → places_passing (side_of v) (is_in_region v) ≡ free_of (side_of v) (taken_rectangles v)
 region-count v l m = places-sum (side_of v) (is_in_region v) ∙ sum_below-same (side_of v) _ _ (λ r h.
     let e : sum_below (side_of v) (λ c. cond (is_in_region v r c) 1 0) ≡ sum_below (side_of v) (is_free (filter (is_in_rows r) (taken_rectangles v))) = sum_below-same (side_of v) _ _ (λ c k. ap (λ z. cond z 1 0) (region-free v r c l m h k)) in
-    omega (arith, between-counts (filter (is_in_rows r) (taken_rectangles v)) 0 (side_of v) (omega arith)))
+    search (arith, between-counts))
 
 -- the count of one version is what its codewords and remainder bits need
 abbrev pub agrees : ℕ → Bool

@@ -1,8 +1,8 @@
 -- The cursors of the walk: a step leaves one fewer, and a cursor with fewer left has a later key. v is a version.
-use Rattle.std.proofs.Common.{◌≡◌, ℕ, ◌+◌, ◌-◌, ◌*◌, ◌/◌, ◌%◌, ◌<◌, ◌≤◌, Bool, true, cond, eqb, ◌⊎◌, arith}
+use Rattle.std.proofs.Common.{◌≡◌, ℕ, ◌+◌, ◌-◌, ◌*◌, ◌<◌, ◌≤◌, Bool, true, ◌⊎◌, arith}
 use Rattle.std.proofs.{Math.Nat.mul-le-mul_right, lemmas.Bool.Decides.nat_tests}
 use Rattle.qr_layout.specs.{declared.order.Cursor.Cursor, Version.side_of}
-use Rattle.qr_layout.specs.Order.{column_without_timing, Key, strip_of, key_of, is_before}
+use Rattle.qr_layout.specs.Order.{Key, key_of, is_before}
 use Rattle.qr_layout.specs.Steps.Order.{half_of, place_of, rows_before_of, left_of, next_of, IsCursor}
 
 -- if p is positive, then w is at most p * w
@@ -31,30 +31,10 @@ next-IsCursor v a k h = search (arith, nat_tests)
 pub half_of-bound : (b : Bool) → half_of b < 2
 half_of-bound b = grind (arith, nat_tests)
 
--- the module at cursor a has column number 2 * a.strips_left - 1 - half_of a.at_left when column 6 is left out
-column-back : (a : Cursor) → 0 < a.strips_left → column_without_timing (place_of a).col ≡ 2 * a.strips_left - 1 - half_of a.at_left
-column-back a k = grind (arith, nat_tests)
-
--- the number of half h of strip p without column 6 is in the strip with number 8 + 2 * v - p from the right
-strip-arith : (v p h c : ℕ) → c ≡ 2 * p - 1 - h → 0 < p → p ≤ 8 + 2 * v → h < 2 → (side_of v - 2 - c) / 2 ≡ 8 + 2 * v - p
-strip-arith v p h c e k m l = omega arith
-
--- the number of strip p from the right, which is 8 + 2 * v - p in version v, is even just when p is even
-parity-arith : (v p : ℕ) → p ≤ 8 + 2 * v → eqb ((8 + 2 * v - p) % 2) 0 ≡ eqb (p % 2) 0
-parity-arith v p m = grind (arith, nat_tests)
-
--- the column number 2 * p - 1 - half_of b is odd just when half_of b is 0, which is the right half
-half-arith : (p : ℕ) (b : Bool) → 0 < p → cond (eqb ((2 * p - 1 - half_of b) % 2) 1) 0 1 ≡ half_of b
-half-arith p b k = grind (arith, nat_tests)
-
--- the module at cursor a is in the strip with number 8 + 2 * v - a.strips_left from the right
-key-strip : (v : ℕ) (a : Cursor) → IsCursor v a → 0 < a.strips_left → strip_of v (place_of a).col ≡ 8 + 2 * v - a.strips_left
-key-strip v a i k = search (arith, half_of-bound, strip-arith, column-back)
-
 -- the key of the module at cursor a has the strip of a, its rows before it and its half
 key_of-place : (v : ℕ) (a : Cursor) → IsCursor v a → 0 < a.strips_left → key_of v (place_of a) ≡ record { strip = 8 + 2 * v - a.strips_left; rows_before = rows_before_of (side_of v) a; column = half_of a.at_left }
 unfolding key_of
-key_of-place v a i k = search (arith, key-strip, column-back, parity-arith, half-arith)
+key_of-place v a i k = search arith
 
 -- fewer than s rows come before a cursor a whose row is below s
 pub rows_before-bound : (s : ℕ) (a : Cursor) → a.row < s → rows_before_of s a < s
@@ -67,10 +47,6 @@ mul-lt p q w k = search (arith, mul-le-mul_right)
 -- of two cursors, the one with fewer left is in a later strip, or later in the same strip
 before-arith : (h p q w x y : ℕ) → p ≤ h → q ≤ h → x < w → y < w → q * w - y < p * w - x → 0 < q → (h - p < h - q) ⊎ ((h - p ≡ h - q) × (x < y))
 before-arith h p q w x y a b c d e f = search (arith, mul-lt)
-
--- if i and j are 0 or 1 and 2 * x + i is below 2 * y + j, then x is below y, or x equals y and i is below j
-digits-arith : (x y i j : ℕ) → i < 2 → j < 2 → 2 * x + i < 2 * y + j → (x < y) ⊎ ((x ≡ y) × (i < j))
-digits-arith x y i j a b c = search arith
 
 -- keys are ordered by strip, then by row, then by column
 abbrev KeysRise : Key → Key → Type 0
@@ -90,4 +66,4 @@ before-test a b h = grind (arith, nat_tests)
 pub is_before-left : (v : ℕ) (a b : Cursor) → IsCursor v a → IsCursor v b → 0 < a.strips_left → 0 < b.strips_left → left_of (side_of v) b < left_of (side_of v) a → is_before (key_of v (place_of a)) (key_of v (place_of b)) ≡ true
 unfolding left_of
 is_before-left v a b i j k l m =
-    search (arith, rows_before-bound, half_of-bound, key_of-place, before-test, before-arith, digits-arith)
+    search (arith, rows_before-bound, half_of-bound, key_of-place, before-test, before-arith)

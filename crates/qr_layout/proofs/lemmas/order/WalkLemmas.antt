@@ -28,10 +28,6 @@ AllPairs-from_rises R (x ∷ xs) h zero (suc j) d a b = All-at (R x) xs h.0 j d 
 AllPairs-from_rises R (x ∷ xs) h (suc i) zero d a b = absurd (omega arith)
 AllPairs-from_rises R (x ∷ xs) h (suc i) (suc j) d a b = AllPairs-from_rises R xs h.1 i j d (omega arith) (omega arith)
 
--- if x equals m, then the list x ∷ xs contains m
-Contains-head : {X : Type 0} (x m : X) (xs : List X) → x ≡ m → Contains (x ∷ xs) m
-Contains-head x m xs e = (0, omega arith, e)
-
 -- if the list xs contains m, then the list x ∷ xs contains m
 Contains-tail : {X : Type 0} (x m : X) (xs : List X) → Contains xs m → Contains (x ∷ xs) m
 Contains-tail x m xs h = (suc h.0, (let l = h.1 in omega arith), h.2)
@@ -46,10 +42,6 @@ strips-positive s a n e = search arith
 -- with w cursors in each strip, cursors with equally many left are the same
 same-arith : (p q w x y : ℕ) → x < w → y < w → 0 < p → 0 < q → p * w - x ≡ q * w - y → (p ≡ q) × (x ≡ y)
 same-arith p q w x y a b k l e = search (arith, mul-lt, mul-le_one)
-
--- if i and j are 0 or 1 and 2 * x + i equals 2 * y + j, then x equals y and i equals j
-digits-same : (x y i j : ℕ) → i < 2 → j < 2 → 2 * x + i ≡ 2 * y + j → (x ≡ y) × (i ≡ j)
-digits-same x y i j a b e = (omega arith, omega arith)
 
 -- two halves a and b with the same number are the same half
 half_of-same : (a b : Bool) → half_of a ≡ half_of b → a ≡ b
@@ -68,7 +60,7 @@ left-positive v a i k = search (arith, mul-le_one, rows_before-bound, half_of-bo
 same-cursor : (v : ℕ) (a b : Cursor) → IsCursor v a → IsCursor v b → 0 < a.strips_left → 0 < b.strips_left → left_of (side_of v) a ≡ left_of (side_of v) b → a ≡ b
 unfolding left_of
 same-cursor v a b i j k l e =
-    search (arith, rows_before-bound, half_of-bound, same-arith, digits-same, rows_before-same, half_of-same)
+    grind (arith, rows_before-bound, half_of-bound, same-arith, rows_before-same, half_of-same)
 
 -- ---- the walk, n cursors at a time
 
@@ -129,7 +121,7 @@ finds v (suc n) a b i e j l h t =
     let d = next-left s a k i.row_in in
     elim (cases_lt (left_of s b) (suc n)) [
       | inl m ↦ rw places-suc (contains-cond (place_of a) (place_of b) (is_in_region v a.row (place_of a).col) _ (finds v n (next_of s a) b (next-IsCursor v a i k) (omega arith) j l (omega arith) t))
-      | inr m ↦ search (arith, same-cursor, places-suc, Contains-head)
+      | inr m ↦ grind (arith, same-cursor, places-suc)
     ]
 
 -- ---- the beginning, and the cursor of a place

@@ -1,5 +1,5 @@
 -- A module of the encoding region is inside the square, and not in column 6. There are small facts of tests, too.
-use Rattle.std.proofs.Common.{◌≡◌, ℕ, ◌<◌, Bool, true, false, not, ◌&&◌, ◌||◌, ltb, arith}
+use Rattle.std.proofs.Common.{◌≡◌, ℕ, ◌<◌, Bool, true, false, not, ◌||◌, ltb, arith}
 use Rattle.std.proofs.lemmas.Bool.{and_parts, Decides.nat_tests}
 use Rattle.qr_layout.specs.{declared.region.Place.Place, Version.side_of}
 use Rattle.qr_layout.specs.Region.{is_corner, is_timing, is_version_information, is_alignment, is_in_region, InRegion}
@@ -13,14 +13,7 @@ record IsFree (v r c : ℕ) : Type 0 where
 -- what it means to be in the region
 free-of : (v r c : ℕ) → is_in_region v r c ≡ true → IsFree v r c
 unfolding is_in_region
-free-of v r c h =
-    let taken = is_corner (side_of v) r c || is_timing r c || is_version_information v r c || is_alignment v r c in
-    let both : (ltb r (side_of v) && ltb c (side_of v)) ≡ true = (and_parts (ltb r (side_of v) && ltb c (side_of v)) (not taken) h).0 in
-    record {
-      row = (and_parts (ltb r (side_of v)) (ltb c (side_of v)) both).0;
-      col = (and_parts (ltb r (side_of v)) (ltb c (side_of v)) both).1;
-      free = (and_parts (ltb r (side_of v) && ltb c (side_of v)) (not taken) h).1;
-    }
+free-of v r c h = search (arith, and_parts)
 
 -- the row of a module of the region is inside the square
 pub row-in : (v : ℕ) (m : Place) → InRegion v m → m.row < side_of v

@@ -1,8 +1,8 @@
 -- The encoding region is the same when rows and columns are exchanged.
-use Rattle.std.proofs.Common.{◌≡◌, ℕ, Bool, false, not, ◌&&◌, ◌||◌, leb, ltb, List, [], ◌∷◌, refl, sym, ap, ◌∙◌, arith}
+use Rattle.std.proofs.Common.{◌≡◌, ℕ, Bool, false, not, ◌&&◌, ◌||◌, leb, List, [], ◌∷◌, refl, sym, ap, ◌∙◌, arith}
 use Rattle.std.{proofs.{Math.Bool.{and_comm, or_comm}, lemmas.Bool.Decides.nat_tests}, specs.List.list_any}
 use Rattle.qr_layout.specs.{Alignment.{centres_of, is_corner_pair}, Version.side_of}
-use Rattle.qr_layout.specs.Region.{is_alignment, is_corner, is_in_region, is_timing, is_version_copy, is_version_information, ring_of}
+use Rattle.qr_layout.specs.Region.{is_alignment, is_in_region, is_version_information, ring_of}
 use Rattle.qr_layout.proofs.lemmas.alignment.AlignmentLemmas.{any-places, list_any-same}
 
 -- no item passes a test that always fails
@@ -17,7 +17,7 @@ middle a b c d = grind (arith, nat_tests)
 -- two tests of each item
 any-or : {X : Type 0} (p q : X → Bool) (xs : List X) → list_any (λ x. p x || q x) xs ≡ (list_any p xs || list_any q xs)
 any-or p q [] = refl
-any-or p q (x ∷ xs) = cc (any-or p q xs, middle (p x) (q x) (list_any p xs) (list_any q xs))
+any-or p q (x ∷ xs) = search (arith, middle, any-or p q xs)
 
 -- a test of pairs may go over the second list first
 pub any-pairs : {X Y : Type 0} (p : X → Y → Bool) (xs : List X) (ys : List Y) → list_any (λ x. list_any (p x) ys) xs ≡ list_any (λ y. list_any (λ x. p x y) xs) ys
@@ -38,21 +38,12 @@ alignment-symmetric v r c =
     ∙ (list_any-same _ _ (λ b. list_any-same _ _ (λ a. near s a b r c) cs) cs
     ∙ sym (any-places (λ m. leb (ring_of m.row m.col c r) 2) s cs)))
 
--- the corners
-corner-symmetric : (s r c : ℕ) → is_corner s r c ≡ is_corner s c r
-corner-symmetric s r c = grind (arith, nat_tests)
-
--- the timing patterns
-timing-symmetric : (r c : ℕ) → is_timing r c ≡ is_timing c r
-timing-symmetric r c = grind (arith, nat_tests)
-
 -- the copies of version information
 version-symmetric : (v r c : ℕ) → is_version_information v r c ≡ is_version_information v c r
-version-symmetric v r c = cc (or_comm (is_version_copy (side_of v) r c) (is_version_copy (side_of v) c r))
+version-symmetric v r c = search (arith, or_comm)
 
 -- a place is in the encoding region exactly if the place with row and column exchanged is in it
 pub region-symmetric : (v r c : ℕ) → is_in_region v r c ≡ is_in_region v c r
 unfolding is_in_region
 region-symmetric v r c =
-    let s = side_of v in
-    rw (and_comm (ltb r s) (ltb c s), corner-symmetric s r c, timing-symmetric r c, version-symmetric v r c, alignment-symmetric v r c) refl
+    search (arith, and_comm, nat_tests, version-symmetric, alignment-symmetric)

@@ -1,6 +1,6 @@
 -- Which places contain the bits of the format and version information, and that all other free places are the region.
-use Rattle.std.proofs.Common.{◌≡◌, ℕ, ◌+◌, ◌-◌, ◌%◌, ◌<◌, ◌≤◌, max, Bool, true, false, not, ◌&&◌, ◌||◌, cond, eqb, ltb, Option, None, Some, refl, sym, ap, ◌∙◌, inl, inr, ◌⊎◌, arith}
-use Rattle.std.proofs.lemmas.Bool.{Decides.nat_tests, cases_lt, and_parts, eqb-true}
+use Rattle.std.proofs.Common.{◌≡◌, ℕ, ◌+◌, ◌-◌, ◌<◌, ◌≤◌, max, Bool, true, false, not, ◌&&◌, ◌||◌, cond, eqb, ltb, Option, None, Some, refl, sym, ap, ◌∙◌, inl, inr, ◌⊎◌, arith}
+use Rattle.std.proofs.lemmas.Bool.{Decides.nat_tests, and_parts, eqb-true}
 use Rattle.std.specs.{Int.abs_diff, List.{find, range_with_len}, Option.option_map_or}
 use Rattle.qr_layout.specs.{declared.{region.Place.Place, role.Role.Role}, Version.side_of, Alignment.centres_of}
 use Rattle.qr_layout.specs.declared.role.Role.TheVariants.{Fixed, FormatBit, VersionBit, Region}
@@ -33,22 +33,16 @@ with-version a t f g i h = grind (arith, nat_tests)
 
 -- a module at the row and column of another is that one
 at-place : (m n : Place) → is_at n m.row m.col ≡ true → m ≡ n
-at-place m n h =
-    let a : m.row ≡ n.row = sym (eqb-true _ _ (and_parts (eqb n.row m.row) _ h).0) in
-    let b : m.col ≡ n.col = sym (eqb-true _ _ (and_parts (eqb n.row m.row) _ h).1) in
-    λ z. record { row = a z; col = b z }
+at-place m n h = search (arith, eqb-true, and_parts)
 
 -- a module at one of two places is one of the two
 either-place : (m n k : Place) → (is_at n m.row m.col || is_at k m.row m.col) ≡ true → (m ≡ n) ⊎ (m ≡ k)
-either-place m n k h = elim (either (is_at n m.row m.col) (is_at k m.row m.col) h) [
-  | inl e ↦ inl (at-place m n e)
-  | inr e ↦ inr (at-place m k e)
-]
+either-place m n k h = search (arith, either, at-place)
 
 -- a bit of the format information that is found is at one of its two places
 found-format : (s : ℕ) (m : Place) (i : ℕ) → format_bit_at s m.row m.col ≡ Some i → (i < 15) × ((m ≡ first_place i) ⊎ (m ≡ second_place s i))
 unfolding format_bit_at
-found-format s m i h = let w = first-at 15 (λ i. is_at (first_place i) m.row m.col || is_at (second_place s i) m.row m.col) i h in (w.0, either-place m (first_place i) (second_place s i) w.1)
+found-format s m i h = let w = first-at 15 (λ i. is_at (first_place i) m.row m.col || is_at (second_place s i) m.row m.col) i h in search (arith, either-place)
 
 -- a bit of the format information is only at its two places
 pub format-only : (v : ℕ) (m : Place) (i : ℕ) → role_of v m.row m.col ≡ FormatBit i → (i < 15) × ((m ≡ first_place i) ⊎ (m ≡ second_place (side_of v) i))
@@ -56,10 +50,7 @@ format-only v m i h = found-format (side_of v) m i (with-format (pattern_colour 
 
 -- if a place has version information, the version is 7 or more
 old-enough : (v i : ℕ) (o : Option ℕ) → cond (ltb v 7) None o ≡ Some i → (7 ≤ v) × (o ≡ Some i)
-old-enough v i o h = elim (cases_lt v 7) [
-  | inl k ↦ let t : ltb v 7 ≡ true = grind (arith, nat_tests) in let e = rw t at h in cc
-  | inr k ↦ let t : ltb v 7 ≡ false = grind (arith, nat_tests) in (k, rw t at h)
-]
+old-enough v i o h = search arith
 
 -- a bit of the version information that is found is at one of its two places
 found-version : (v : ℕ) (m : Place) (i : ℕ) → version_bit_at v m.row m.col ≡ Some i → (7 ≤ v) × (i < 18) × ((m ≡ version_place (side_of v) i) ⊎ (m ≡ mirror_of (version_place (side_of v) i)))
@@ -68,7 +59,7 @@ found-version v m i h =
     let p : ℕ → Bool = λ i. is_at (version_place (side_of v) i) m.row m.col || is_at (mirror_of (version_place (side_of v) i)) m.row m.col in
     let o = old-enough v i (find p (range_with_len 0 18)) h in
     let w = first-at 18 p i o.1 in
-    (o.0, w.0, either-place m (version_place (side_of v) i) (mirror_of (version_place (side_of v) i)) w.1)
+    search (arith, either-place)
 
 -- a bit of the version information is only at its two places
 pub version-only : (v : ℕ) (m : Place) (i : ℕ) → role_of v m.row m.col ≡ VersionBit i → (7 ≤ v) × (i < 18) × ((m ≡ version_place (side_of v) i) ⊎ (m ≡ mirror_of (version_place (side_of v) i)))
@@ -159,7 +150,7 @@ with-region (Some x) t f g h = cc
 with-region None true f g h = cc
 with-region None false (Some j) g h = cc
 with-region None false None (Some j) h = cc
-with-region None false None None h = record { no_pattern = refl; not_dark = refl; no_format = refl; no_version = refl }
+with-region None false None None h = search arith
 
 -- the choice of a colour, over its tests
 abbrev colour_with : Bool → Bool → Bool → Bool → Bool → Bool → Bool → Bool → Bool → Option Bool
@@ -180,31 +171,17 @@ colour-none false true z w e b d p q h = cc
 colour-none false false true w e b d p q h = cc
 colour-none false false false true e b d p q h = cc
 colour-none false false false false true b d p q h = cc
-colour-none false false false false false b d p q h = record { off_finder = refl; off_separator = refl; off_row = refl; off_column = refl; off_alignment = refl }
+colour-none false false false false false b d p q h = search arith
 
 -- a place without a colour is outside the function patterns
 pattern-none : (v r c : ℕ) → pattern_colour v r c ≡ None → IsOffPatterns (ltb (finder_ring (side_of v) r c) 4) (eqb (finder_ring (side_of v) r c) 4) (eqb r 6) (eqb c 6) (is_alignment v r c)
 unfolding pattern_colour
-pattern-none v r c h = colour-none _ _ _ _ (is_alignment v r c) (not (eqb (finder_ring (side_of v) r c) 2)) (eqb (c % 2) 0) (eqb (r % 2) 0) (not (is_alignment_light v r c)) h
+pattern-none v r c h = search (arith, colour-none)
 
 -- a place off the finder and timing patterns has the colour of an alignment pattern, or none
 pub off-pattern : (v r c : ℕ) → 5 ≤ finder_ring (side_of v) r c → (r ≡ 6 → ⊥) → (c ≡ 6 → ⊥) → pattern_colour v r c ≡ cond (is_alignment v r c) (Some (not (is_alignment_light v r c))) None
 unfolding pattern_colour
-off-pattern v r c h k l =
-    let x : ltb (finder_ring (side_of v) r c) 4 ≡ false = beyond (finder_ring (side_of v) r c) h in
-    let y : eqb (finder_ring (side_of v) r c) 4 ≡ false = off (finder_ring (side_of v) r c) h in
-    let z : eqb r 6 ≡ false = other r k in
-    let w : eqb c 6 ≡ false = other c l in
-    rw (x, y, z, w) refl
-  where
-    beyond : (n : ℕ) → 5 ≤ n → ltb n 4 ≡ false
-    beyond n h = grind (arith, nat_tests)
-
-    off : (n : ℕ) → 5 ≤ n → eqb n 4 ≡ false
-    off n h = grind (arith, nat_tests)
-
-    other : (n : ℕ) → (n ≡ 6 → ⊥) → eqb n 6 ≡ false
-    other n h = grind (arith, nat_tests)
+off-pattern v r c h k l = search (arith, nat_tests)
 
 -- a test that cannot pass fails
 truth : (b : Bool) → (b ≡ true → ⊥) → b ≡ false
@@ -223,10 +200,10 @@ far-edge s r c l j n h k = grind arith
 
 -- column 8 and row 8 contain bits there, and the dark module
 down-full : (s r : ℕ) → 21 ≤ s → r < s → (r ≡ 6 → ⊥) → is_dark_module s r 8 ≡ false → (r ≤ 8) ⊎ (s - 8 ≤ r) → format_bit_at s r 8 ≡ None → ⊥
-down-full s r l i k d h f = let e = sym (format_in_column_8 s r l i) ∙ f in grind (arith, nat_tests)
+down-full s r l i k d h f = search (arith, format_in_column_8)
 
 across-full : (s c : ℕ) → 21 ≤ s → c < s → (c ≡ 6 → ⊥) → (c ≡ 8 → ⊥) → (c ≤ 8) ⊎ (s - 8 ≤ c) → format_bit_at s 8 c ≡ None → ⊥
-across-full s c l i k n h f = let e = sym (format_in_row_8 s c l i n) ∙ f in grind (arith, nat_tests)
+across-full s c l i k n h f = search (arith, format_in_row_8)
 
 -- a place that is in no pattern, contains no bit and is not the dark module is outside the corners
 corners-free : (s r c : ℕ) → 21 ≤ s → r < s → c < s → 5 ≤ finder_ring s r c → (r ≡ 6 → ⊥) → (c ≡ 6 → ⊥) → is_dark_module s r c ≡ false → format_bit_at s r c ≡ None → is_corner s r c ≡ false
@@ -253,7 +230,7 @@ record IsOffCorners (s r c : ℕ) : Type 0 where
 
 -- what it means to be off the corners
 off-corners : (s r c : ℕ) → 21 ≤ s → r < s → c < s → is_corner s r c ≡ false → IsOffCorners s r c
-off-corners s r c l i j h = record { off_left = grind (arith, nat_tests); off_right = grind (arith, nat_tests); off_below = grind (arith, nat_tests) }
+off-corners s r c l i j h = search arith
 
 -- a place off the corners is beyond ring 4 of the finder patterns
 corner-far : (s r c : ℕ) → 21 ≤ s → IsOffCorners s r c → 5 ≤ finder_ring s r c
@@ -323,12 +300,7 @@ record IsClear (a b d e : Bool) : Type 0 where
 
 -- a place of the region is in no part
 clear : (a b d e : Bool) → not (((a || b) || d) || e) ≡ true → IsClear a b d e
-clear a b d e h = record {
-  no_corner = grind (arith, nat_tests);
-  no_timing = grind (arith, nat_tests);
-  no_version = grind (arith, nat_tests);
-  no_alignment = grind (arith, nat_tests);
-}
+clear a b d e h = search arith
 
 -- beyond ring 4
 ring-far : (n : ℕ) → ltb n 4 ≡ false → eqb n 4 ≡ false → 5 ≤ n
@@ -344,10 +316,7 @@ role-region v r c l i j h =
     let s = side_of v in
     let w = with-region (pattern_colour v r c) (is_dark_module s r c) (format_bit_at s r c) (version_bit_at v r c) (sym (role-with v r c) ∙ h) in
     let p = pattern-none v r c w.no_pattern in
-    let m = not-six r p.off_row in
-    let n = not-six c p.off_column in
-    let a = corners-free s r c (omega arith) i j (ring-far (finder_ring s r c) p.off_finder p.off_separator) m n w.not_dark w.no_format in
-    region-free v r c i j a (timing-free r c m n) (version-free v r c w.no_version) ∙ ap not p.off_alignment
+    search (arith, not-six, corners-free, ring-far, region-free, timing-free, version-free)
 
 -- a place off the corners, the timing patterns and the version information is in an alignment pattern or in the region
 pub off-role : (v r c : ℕ) → 1 ≤ v → r < side_of v → c < side_of v → is_corner (side_of v) r c ≡ false → is_timing r c ≡ false → is_version_information v r c ≡ false
@@ -365,6 +334,4 @@ off-role v r c l i j ha ht hv =
 
 -- a module of the encoding region has the role Region
 pub region-role : (v r c : ℕ) → 1 ≤ v → r < side_of v → c < side_of v → is_in_region v r c ≡ true → role_of v r c ≡ Region
-region-role v r c l i j h =
-    let w = clear (is_corner (side_of v) r c) (is_timing r c) (is_version_information v r c) (is_alignment v r c) (sym (region-parts v r c i j) ∙ h) in
-    cc (off-role v r c l i j w.no_corner w.no_timing w.no_version)
+region-role v r c l i j h = search (arith, clear, region-parts, off-role)

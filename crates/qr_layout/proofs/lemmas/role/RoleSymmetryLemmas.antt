@@ -1,12 +1,12 @@
 -- The function patterns are their own transposes, if just bit 7 of the format information, opposite the dark module, is set.
-use Rattle.std.proofs.{lemmas.Bool.{eqb-true, cases_Bool, Decides.nat_tests}, Math.Bool.{and_comm, or_comm}}
-use Rattle.std.proofs.Common.{◌≡◌, ℕ, ◌-◌, ◌%◌, ◌<◌, ◌≤◌, Bool, true, false, not, ◌&&◌, ◌||◌, cond, eqb, ltb, min, List, [], ◌∷◌, Option, None, Some, refl, sym, ap, ◌∙◌, inl, inr, arith}
-use Rattle.std.specs.{List.find, List.range_with_len, Option.option_map_or}
-use Rattle.qr_layout.specs.{declared.{region.Place.Place, role.Role.Role}, Version.side_of}
+use Rattle.std.proofs.{lemmas.Bool.{eqb-true, Decides.nat_tests}, Math.Bool.{and_comm, or_comm}}
+use Rattle.std.proofs.Common.{◌≡◌, ℕ, ◌-◌, ◌%◌, ◌<◌, ◌≤◌, Bool, true, false, not, ◌&&◌, ◌||◌, cond, eqb, min, List, [], ◌∷◌, Option, None, Some, refl, sym, ◌∙◌, arith}
+use Rattle.std.specs.{List.find, Option.option_map_or}
+use Rattle.qr_layout.specs.{declared.{role.Role.Role}, Version.side_of}
 use Rattle.qr_layout.specs.declared.role.Role.TheVariants.{Fixed, FormatBit, VersionBit, Region}
 use Rattle.qr_layout.specs.Role.{finder_ring, is_alignment_light, pattern_colour, is_dark_module, role_of}
-use Rattle.qr_layout.specs.Format.{first_place, second_place, version_place, mirror_of, is_at, format_bit_at, version_bit_at}
-use Rattle.qr_layout.specs.{Alignment.centres_of, Alignment.is_corner_pair, Region.is_alignment, Region.ring_of}
+use Rattle.qr_layout.specs.Format.{first_place, second_place, is_at, format_bit_at, version_bit_at}
+use Rattle.qr_layout.specs.{Alignment.centres_of, Alignment.is_corner_pair, Region.ring_of}
 use Rattle.qr_layout.proofs.lemmas.alignment.AlignmentLemmas.{any-places, list_any-same}
 use Rattle.qr_layout.proofs.lemmas.format.BitPlaceLemmas.{first-at, format_in_column_8, format_in_row_8, format_off}
 use Rattle.qr_layout.proofs.lemmas.region.SymmetryLemmas.{any-pairs, alignment-symmetric}
@@ -41,38 +41,24 @@ light-symmetric v r c =
 
 -- the timing patterns: where they cross, both are dark
 timing : (r c : ℕ) (x : Option Bool) → cond (eqb r 6) (Some (eqb (c % 2) 0)) (cond (eqb c 6) (Some (eqb (r % 2) 0)) x) ≡ cond (eqb c 6) (Some (eqb (r % 2) 0)) (cond (eqb r 6) (Some (eqb (c % 2) 0)) x)
-timing r c x = elim (cases_Bool (eqb r 6)) [
-  | inl a ↦ elim (cases_Bool (eqb c 6)) [
-    | inl b ↦ let e = eqb-true r 6 a in let f = eqb-true c 6 b in rw (e, f) refl
-    | inr b ↦ rw (a, b) refl
-  ]
-  | inr a ↦ rw a refl
-]
+timing r c x = search (arith, eqb-true)
 
 -- the colours of the patterns
 pattern-symmetric : (v r c : ℕ) → pattern_colour v r c ≡ pattern_colour v c r
 unfolding pattern_colour
-pattern-symmetric v r c =
-    let x = cond (is_alignment v c r) (Some (not (is_alignment_light v c r))) None in
-    rw (finder-symmetric (side_of v) r c, alignment-symmetric v r c, light-symmetric v r c, timing r c x) refl
+pattern-symmetric v r c = search (arith, finder-symmetric, alignment-symmetric, light-symmetric, timing)
 
 -- ---- the version information
 
 -- two tests that agree find the same number
 find-same : (p q : ℕ → Bool) → ((i : ℕ) → p i ≡ q i) → (xs : List ℕ) → find p xs ≡ find q xs
 find-same p q e [] = refl
-find-same p q e (x ∷ xs) = ap (λ b. cond b (Some x) (find p xs)) (e x) ∙ ap (λ z. cond (q x) (Some x) z) (find-same p q e xs)
-
--- a bit of the version information is at two places, which are each other's with row and column exchanged
-two-places : (m : Place) (r c : ℕ) → (is_at m r c || is_at (mirror_of m) r c) ≡ (is_at m c r || is_at (mirror_of m) c r)
-two-places m r c =
-    or_comm (is_at m r c) (is_at (mirror_of m) r c)
-    ∙ (ap (λ b. b || is_at m r c) (and_comm (eqb m.col r) (eqb m.row c)) ∙ ap (λ b. is_at m c r || b) (and_comm (eqb m.row r) (eqb m.col c)))
+find-same p q e (x ∷ xs) = search (arith, find-same p q e xs)
 
 -- the bits of the version information
 version-symmetric : (v r c : ℕ) → version_bit_at v r c ≡ version_bit_at v c r
 unfolding version_bit_at
-version-symmetric v r c = ap (λ z. cond (ltb v 7) None z) (find-same _ _ (λ i. two-places (version_place (side_of v) i) r c) (range_with_len 0 18))
+version-symmetric v r c = search (arith, find-same, or_comm, and_comm)
 
 -- ---- the format information and the dark module
 
@@ -80,36 +66,17 @@ version-symmetric v r c = ap (λ z. cond (ltb v 7) None z) (find-same _ _ (λ i.
 abbrev seven : Bool → Option ℕ → Option Bool
 seven t o = cond t (Some true) (option_map_or (λ i. Some (eqb i 7)) o None)
 
-map-cond : {A B : Type 0} (f : A → B) (d : B) (b : Bool) (x y : Option A) → option_map_or f (cond b x y) d ≡ cond b (option_map_or f x d) (option_map_or f y d)
-map-cond f d b x y = grind (arith, nat_tests)
-
 -- what it means that a test for 8 fails
 not-eight : (n : ℕ) → eqb n 8 ≡ false → n ≡ 8 → ⊥
 not-eight n h e = grind (arith, nat_tests)
 
 -- column 8 and row 8
 eights : (s r : ℕ) → 21 ≤ s → r < s → seven (is_dark_module s r 8) (format_bit_at s r 8) ≡ seven (is_dark_module s 8 r) (format_bit_at s 8 r)
-eights s r l h = elim (cases_Bool (eqb r 8)) [
-  | inl a ↦ let e = eqb-true r 8 a in rw e refl
-  | inr a ↦ rw (format_in_column_8 s r l h, format_in_row_8 s r l h (not-eight r a)) (simp map-cond (grind (arith, nat_tests)))
-]
-
--- a module outside column 8 is not the dark module
-off-not_dark : (s r c : ℕ) → (c ≡ 8 → ⊥) → is_dark_module s r c ≡ false
-off-not_dark s r c h = grind (arith, nat_tests)
+eights s r l h = search (arith, eqb-true, format_in_column_8, format_in_row_8, not-eight, nat_tests)
 
 -- the dark module and the format information
 seven-symmetric : (s r c : ℕ) → 21 ≤ s → r < s → c < s → seven (is_dark_module s r c) (format_bit_at s r c) ≡ seven (is_dark_module s c r) (format_bit_at s c r)
-seven-symmetric s r c l h k = elim (cases_Bool (eqb c 8)) [
-  | inl a ↦ let e = eqb-true c 8 a in rw e (eights s r l h)
-  | inr a ↦ elim (cases_Bool (eqb r 8)) [
-    | inl b ↦ let e = eqb-true r 8 b in rw e (sym (eights s c l k))
-    | inr b ↦
-        let m = not-eight c a in
-        let n = not-eight r b in
-        rw (off-not_dark s r c m, off-not_dark s c r n, format_off s r c l n m, format_off s c r l m n) refl
-  ]
-]
+seven-symmetric s r c l h k = grind (arith, eqb-true, eights, not-eight, nat_tests, format_off)
 
 -- ---- the roles
 
@@ -127,13 +94,9 @@ bit-below s r c i h = (first-at 15 (λ i. is_at (first_place i) r c || is_at (se
 colour-parts : (f : Role → Bool) (v r c : ℕ) → ((i : ℕ) → i < 15 → f (FormatBit i) ≡ f (Fixed (eqb i 7)))
     → f (role_of v r c) ≡ f (option_map_or Fixed (pattern_colour v r c) (option_map_or Fixed (seven (is_dark_module (side_of v) r c) (format_bit_at (side_of v) r c)) (option_map_or VersionBit (version_bit_at v r c) Region)))
 unfolding role_of
-colour-parts f v r c h = by-parts f (pattern_colour v r c) (is_dark_module (side_of v) r c) (format_bit_at (side_of v) r c) (version_bit_at v r c) (λ i e. h i (bit-below (side_of v) r c i e))
+colour-parts f v r c h = search (arith, by-parts, bit-below)
 
 -- if of the format information just bit 7 is dark, the colours by role are the same with row and column exchanged
 pub role-symmetric : (f : Role → Bool) (v r c : ℕ) → 1 ≤ v → r < side_of v → c < side_of v → ((i : ℕ) → i < 15 → f (FormatBit i) ≡ f (Fixed (eqb i 7))) → f (role_of v r c) ≡ f (role_of v c r)
 role-symmetric f v r c l h k e =
-    colour-parts f v r c e
-    ∙ (ap (λ z. f (option_map_or Fixed z (option_map_or Fixed (seven (is_dark_module (side_of v) r c) (format_bit_at (side_of v) r c)) (option_map_or VersionBit (version_bit_at v r c) Region)))) (pattern-symmetric v r c)
-    ∙ (ap (λ z. f (option_map_or Fixed (pattern_colour v c r) (option_map_or Fixed z (option_map_or VersionBit (version_bit_at v r c) Region)))) (seven-symmetric (side_of v) r c (omega arith) h k)
-    ∙ (ap (λ z. f (option_map_or Fixed (pattern_colour v c r) (option_map_or Fixed (seven (is_dark_module (side_of v) c r) (format_bit_at (side_of v) c r)) (option_map_or VersionBit z Region)))) (version-symmetric v r c)
-    ∙ sym (colour-parts f v c r e))))
+    cc (colour-parts f v r c e, pattern-symmetric v r c, seven-symmetric (side_of v) r c (omega arith) h k, version-symmetric v r c, colour-parts f v c r e)

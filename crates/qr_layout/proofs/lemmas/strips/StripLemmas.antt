@@ -5,7 +5,7 @@ use Rattle.std.specs.List.{All, AllByRecursion}
 use Rattle.qr_layout.specs.declared.{region.Place.Place, order.Cursor.Cursor, strips.Strip.Strip}
 use Rattle.qr_layout.specs.Steps.Order.{place_of, left_of, next_of, places_among, to_come, first_cursor}
 use Rattle.qr_layout.specs.Strips.{rows_from, both_of, places_of, strip_at, strips_to_come}
-use Rattle.qr_layout.specs.{Region.is_in_region, Version.side_of, Order.IsOrder, Order.in_region_of}
+use Rattle.qr_layout.specs.{Version.side_of, Order.IsOrder, Order.in_region_of}
 use Rattle.qr_layout.proofs.lemmas.order.WalkLemmas.{places-nil, places-suc, start-left, to_come-start}
 
 -- the right places of n rows of strips, from cursor a on, in the encoding region or not
@@ -39,13 +39,9 @@ kept v zero a e = cc (pairs-nil v a, places-nil v a)
 kept v (suc n) a e =
     let s = side_of v in
     let b = next_of s a in
-    let left : Place = record { row = a.row; col = (place_of a).col - 1 } in
     let h = kept v n (next_of s b) (right-again s a e) in
     let two : suc (suc (2 * n)) ≡ 2 * suc n = omega arith in
-    let q : place_of b ≡ left = second-place s a e in
-    let l : cond (is_in_region v left.row left.col) (left ∷ places_among v (2 * n) (next_of s b)) (places_among v (2 * n) (next_of s b)) ≡ places_among v (suc (2 * n)) b =
-    sym (places-suc v (2 * n) b ∙ ap (λ (m : Place). cond (is_in_region v m.row m.col) (m ∷ places_among v (2 * n) (next_of s b)) (places_among v (2 * n) (next_of s b))) q) in
-    cc (pairs-suc v n a, places-suc v (suc (2 * n)) a)
+    search (arith, second-place, places-suc, pairs-suc)
 
 -- ---- row by row, and strip by strip
 
@@ -74,7 +70,7 @@ rows-then v p k (suc n) m e =
     let s = side_of v in
     let a = at_row s (suc p) k in
     let q : suc (suc n) + m ≡ suc (suc n + m) = omega arith in
-    cc (pairs-suc v (suc n + m) a, next-row s (suc p) k (omega arith), rows-then v p (k + 1) n m (omega arith))
+    search (arith, pairs-suc, next-row, rows-then v p (k + 1) n m (omega arith))
 
 -- the right places of all rows of the strips
 abbrev all_rows : ℕ → List Strip → List Place
@@ -89,8 +85,7 @@ rows-all v (suc p) =
     let n = s - 1 in
     let e : suc p * s ≡ suc n + p * s = times p s (omega arith) in
     let f : suc n ≡ s = omega arith in
-    ap (λ z. pairs_among v z (at_row s (suc p) 0)) e ∙ (rows-then v p 0 n (p * s) (omega arith)
-    ∙ (ap (λ z. rows_from s (strip_at (suc p)) 0 z ++ pairs_among v (p * s) (at_row s p 0)) f ∙ ap (λ (z : List Place). rows_from s (strip_at (suc p)) 0 s ++ z) (rows-all v p)))
+    search (arith, rows-then, rows-all v p)
   where
     times : (p s : ℕ) → 0 < s → suc p * s ≡ suc (s - 1) + p * s
     times p s l = omega arith
@@ -103,7 +98,7 @@ both-append (x ∷ xs) ys = cc (both-append xs ys)
 -- the right places of all rows of the strips, each followed by the place to the left of it, are their places
 places-both : (s : ℕ) (xs : List Strip) → both_of (all_rows s xs) ≡ places_of s xs
 places-both s [] = refl
-places-both s (x ∷ xs) = cc (both-append (rows_from s x 0 s) (all_rows s xs), places-both s xs)
+places-both s (x ∷ xs) = search (arith, both-append, places-both s xs)
 
 -- the number of cursors left at the beginning of the walk is twice the number of rows of all strips
 left-start : (v : ℕ) → 2 * ((8 + 2 * v) * side_of v) ≡ left_of (side_of v) (first_cursor v)

@@ -1,8 +1,9 @@
-use Rattle.{std.proofs.Common.arith, qr_layout.proofs.lemmas.order.{OrderLemmas.order-length, WalkLemmas.walk-order}}
+use Rattle.std.proofs.Common.{rules}
+use Rattle.{qr_layout.proofs.lemmas.order.{OrderLemmas.order-length, WalkLemmas.walk-order}}
 use Rattle.qr_layout.proofs.order.walk.Goals as goal
 
 pub returns-clause-order : goal.returns-clause-order
-returns-clause-order c = walk-order c.args.version c.number.result c.side.result c.number.ensures.value c.side.ensures.value
+returns-clause-order c = search (rules, walk-order)
 
 pub returns-clause-count : goal.returns-clause-count
-returns-clause-count c = order-length c.args.version _ (omega arith) (omega arith) (walk-order c.args.version c.number.result c.side.result c.number.ensures.value c.side.ensures.value)
+returns-clause-count c = search (rules, order-length, walk-order)

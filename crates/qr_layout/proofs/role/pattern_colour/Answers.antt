@@ -1,4 +1,4 @@
-use Rattle.std.proofs.Common.{◌≡◌, ℕ, ◌≤◌, ◌<◌, ◌%◌, false, not, eqb, Some, None, cond, sym, ◌∙◌, arith}
+use Rattle.std.proofs.Common.{rules, ◌≡◌, ℕ, ◌≤◌, ◌<◌, ◌%◌, false, not, eqb, Some, None, cond, sym, ◌∙◌, arith}
 use Rattle.{std.proofs.lemmas.Bool.Decides.nat_tests, qr_layout.proofs.lemmas.role.RolePlaceLemmas.off-pattern}
 use Rattle.qr_layout.specs.{Region.is_alignment, Role.finder_ring, Role.is_alignment_light, Role.pattern_colour, Version.side_of}
 use Rattle.qr_layout.proofs.role.pattern_colour.Goals as goal
@@ -22,7 +22,7 @@ module _ (v r c s n : ℕ) (side : s ≡ side_of v) (ring : n ≡ finder_ring s 
   column h k e f = grind (arith, nat_tests)
 
   alignment : 4 ≤ n → (n ≡ 4 → ⊥) → (r ≡ 6 → ⊥) → (c ≡ 6 → ⊥) → cond (is_alignment v r c) (Some (not (is_alignment_light v r c))) None ≡ pattern_colour v r c
-  alignment h k e f = let far : 5 ≤ n = omega (arith, h, k) in sym (off-pattern v r c (rw (ring, side) at far) e f)
+  alignment h k e f = search (rules, off-pattern)
 
 pub returns-then-ring-lt4 : goal.returns-then-ring-lt4
 returns-then-ring-lt4 c = finder _ _ _ _ _ c.side.ensures.value c.finder_ring-ring.ensures c.if-ring-lt4.true
