@@ -39,15 +39,6 @@ taken-least m f =
 ranked-number : (c b : ℕ) (m : Mode) → c ≡ 4 * b + rank m → ranked (c % 4) ≡ m
 ranked-number c b m e = grind arith
 
--- a byte adds at most 33 bits
-pub byte_cost-bound : (v : ℕ) (p : RunState) (m : Mode) → byte_cost v p m ≤ 33
-unfolding byte_cost
-byte_cost-bound v p m = grind arith
-
-two-bound : (v : ℕ) (p : RunState) (m : Mode) → rank m ≡ 1 → byte_cost v p m + byte_cost v (state_after p m) m ≤ 33
-unfolding byte_cost state_after
-two-bound v p m h = grind arith
-
 -- each rule allows byte mode
 pub byte-used : (r : Rule) → may_use r Byte ≡ true
 byte-used r = grind arith
@@ -60,10 +51,6 @@ pub take-begin : (r : Rule) (p : RunState) (x : ℕ) (pair : Bool) (m : Mode) �
 unfolding may_end may_take
 take-begin r p x pair m e = grind arith
 
--- a byte in kanji mode is one character
-pub kanji-in : (i : Interpretation) (v : ℕ) (p : RunState) (x : ℕ) → (cost_in i v p x Kanji ≡ byte_cost v p Kanji) × (state_in i p x Kanji ≡ state_after p Kanji)
-kanji-in i v p x = rw (single-byte i x).1 (refl, refl)
-
 -- a byte in byte mode is one character
 pub byte-in : (i : Interpretation) (p : RunState) (x : ℕ) → state_in i p x Byte ≡ InBytes
 unfolding state_after
@@ -72,13 +59,13 @@ byte-in i p x = rw (single-byte i x).0 refl
 -- the characters of a byte add at most 33 bits
 pub cost_in-bound : (i : Interpretation) (v : ℕ) (p : RunState) (x : ℕ) (m : Mode) → cost_in i v p x m ≤ 33
 unfolding byte_cost state_after
-cost_in-bound i v p x m = search (arith, cond_both, doubled-rank, two-bound, byte_cost-bound)
+cost_in-bound i v p x m = search (arith, cond_both, doubled-rank)
 
 -- after half a pair, kanji mode is the choice
 pub half-choice : (i : Interpretation) (v : ℕ) (r : Rule) (x : ℕ) (pair : Bool) (cost : RunState → ℕ) (c : ℕ) (m : Mode) → m ≡ ranked (c % 4)
     → c ≡ choice_number true (byte_cost v HalfPair Kanji + cost (state_after HalfPair Kanji)) Kanji → IsChoice i v r HalfPair x pair cost m (c / 4)
 unfolding may_take byte_cost state_after
-half-choice i v r x pair cost c m chosen is = rw chosen (search (arith, ranked-number, kanji-in))
+half-choice i v r x pair cost c m chosen is = rw chosen (search (arith, ranked-number))
 
 -- the least number is that of the mode of lowest rank among those that lead to the fewest bits
 pub least-choice : (i : Interpretation) (v : ℕ) (r : Rule) (p : RunState) (x : ℕ) (q : Bool) (cost : RunState → ℕ) (c : ℕ) (n : Mode) → n ≡ ranked (c % 4) → may_end p ≡ true → cost InBytes < 10000000
@@ -94,7 +81,6 @@ least-choice i v r p x q cost c n chosen e small is =
     let few : c < 4294967295 = omega (arith, cost_in-bound i v p x Byte) in
     let taken : IsTaken may t c = rw is (taken-least may t (rw is at few)) in
     let m = taken.0 in
-    let bits : c / 4 ≡ t m = omega (arith, rank-below m) in
     rw (chosen, ranked-number c (t m) m taken.2) (search (arith, rank-below))
 
 -- As `least-choice`. What is written for the byte makes a difference in alphanumeric mode alone.
@@ -111,13 +97,10 @@ row-choice Gs1 v r p x q rest c n chosen e small is = search (arith, least-choic
 pub number-less : (may : Bool) (m : Mode) (k w n : ℕ) → choice_number may (k + n) m ≤ choice_number may (4 + w + k + n) m
 number-less may m k w n = grind arith
 
-number-less-two : (may : Bool) (w n : ℕ) → choice_number may (6 + 5 + n) Alphanumeric ≤ choice_number may (4 + w + 6 + 5 + n) Alphanumeric
-number-less-two may w n = grind arith
-
 -- after a whole pair alphanumeric mode takes no more bits than at the start
 pub character-less : (i : Interpretation) (v : ℕ) (r : Rule) (x : ℕ) (q : Bool) (rest : PerState) → character_choice i v r x q rest Character2 ≤ character_choice i v r x q rest Start
 unfolding byte_cost state_after
-character-less i v r x q rest = search (arith, number-less-two, number-less)
+character-less i v r x q rest = grind (arith, number-less)
 
 no-escape : (r : Rule) (x : ℕ) (q : Bool) → may_begin r x q Numeric ≡ true → (is_doubled Gs1 x Alphanumeric ≡ false) × (character_for Gs1 x Alphanumeric ≡ x)
 unfolding may_begin

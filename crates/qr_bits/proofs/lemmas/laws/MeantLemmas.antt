@@ -40,8 +40,6 @@ segments-meant : (segs : List Segment) (xs : List ℕ) → are_fields xs ≡ tru
 unfolding meant_bytes written_in segments_of
 segments-meant [] xs h len = sym (nil_from_length xs (omega arith))
 segments-meant (s ∷ ss) xs h len =
-    let own = take s.len xs in
-    let rest = written_in (drop s.len xs) ss in
     let later = segments-meant ss (drop s.len xs) (fields-drop s.len xs h) (omega (arith, length-drop s.len xs, sum_by-cons (λ (t : Segment). t.len) s ss)) in
     search (arith, take-front, drop-front, meant-written, fields-take, take-append-drop)
 

@@ -71,9 +71,6 @@ character-taken n h =
       omega (arith, leb-true _ 90 (below-at 45 low all-low n h)),
     )
 
-text-used : (r : Rule) → may_use r Numeric ≡ true → may_use r Alphanumeric ≡ true
-text-used r h = grind arith
-
 all-digits : below 10 (λ i. is_alphanumeric (48 + i)) ≡ true
 unfolding is_alphanumeric characters
 all-digits = refl
@@ -84,7 +81,6 @@ unfolding may_begin
 digit-character r b pair h =
     let parts = and_parts (may_use r Numeric) (is_digit b) h in
     let bounds = and_parts (nat_le 48 b) (nat_le b 57) parts.1 in
-    let low : 48 ≤ b = leb-true _ _ bounds.0 in
     let high : b ≤ 57 = leb-true _ _ bounds.1 in
     let one = below-at 10 (λ i. is_alphanumeric (48 + i)) all-digits (b - 48) (omega arith) in
-    search (arith, and_from, text-used)
+    grind (arith, and_from)

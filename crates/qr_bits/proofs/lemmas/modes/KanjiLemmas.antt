@@ -1,7 +1,7 @@
 -- Kanji pairs: a pair that is written as a value is read back, and the other way round.
-use Rattle.std.proofs.lemmas.Bool.{Decides.nat_tests, le-leb, lt-leb, and_parts, and_from, false≢true}
+use Rattle.std.proofs.lemmas.Bool.{Decides.nat_tests, le-leb, lt-leb, and_parts, false≢true}
 use Rattle.std.proofs.Common.{◌≡◌, ℕ, zero, suc, ◌+◌, ◌*◌, ◌/◌, ◌%◌, ◌<◌, ◌≤◌, Bool, true, List, [], ◌∷◌, ◌++◌, length, take, drop, Ok, Err, refl, arith, append_assoc}
-use Rattle.std.proofs.lemmas.List.{length-drop, Elements.All-cons, Elements.All-nil}
+use Rattle.std.proofs.lemmas.List.{length-drop, Elements.All-nil}
 use borrow.Author.Tests.{leb-true}
 use Rattle.qr_bits.specs.{declared.fault.ParseFault.TheVariants.BadValue, Bits.value}
 use Rattle.qr_bits.specs.{declared.modes.Mode.TheVariants.Kanji, Stream.kanji_bits, Stream.payload}
@@ -49,7 +49,7 @@ pairs-takes (suc n) xs bits h e =
     let w = pairs-takes n b.0 (drop 13 bits) (omega (arith, length-drop 13 bits)) b.1 in
     let one : payload_bits Kanji (2 * n) ≡ 13 * n = omega arith in
     let whole = more-written 13 (13 * n) bits (kanji_bits b.0) (omega arith) (rw one at w.whole) in
-    search (arith, same-ok, All-cons, and_from)
+    search arith
 
 -- a kanji pair, and the pairs after it; or a value that no pair has
 pub pairs-step : (n m : ℕ) (bits : List Bool) → n ≡ suc m → let g = value (take 13 bits) in (13 + 13 * m ≡ 13 * n)

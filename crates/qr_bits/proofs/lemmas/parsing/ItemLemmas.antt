@@ -1,5 +1,5 @@
 -- A parse reads back every stream of items.
-use Rattle.std.proofs.Common.{◌≡◌, ℕ, ◌^◌, ◌<◌, ◌≤◌, Bool, true, false, ◌==◌, nat_le, nat_lt, All, List, [], ◌∷◌, ◌++◌, length, take, drop, Ok, refl, ⊎_elim, arith, lit<, append_assoc, subst, inl, zero, suc, length-append}
+use Rattle.std.proofs.Common.{◌≡◌, ℕ, ◌<◌, ◌≤◌, Bool, true, false, ◌==◌, nat_le, nat_lt, All, List, [], ◌∷◌, ◌++◌, length, take, drop, Ok, refl, ⊎_elim, arith, lit<, append_assoc, subst, inl, zero, suc, length-append}
 use Rattle.std.proofs.lemmas.Bool.{le-ltb, lt-ltb, ltb-true, cases_Bool, eqb-true, and_parts}
 use Rattle.std.proofs.lemmas.List.{length-take-le, take-append-drop}
 use Rattle.std.proofs.lemmas.List.Elements.{All-nil, All-append, All-take, All-drop}
@@ -25,12 +25,9 @@ first-back : (v : ℕ) (may : Bool) (rest : List Bool) → may ≡ true → item
 unfolding item_at
 first-back v may rest h = rw (h, read-field 4 5 rest (lit< tt), drop-field 4 5 rest) refl
 
-application-small : (a : ℕ) → is_application_indicator a ≡ true → a < 2 ^ 8
-application-small a h = grind arith
-
 application-back : (a : ℕ) (rest : List Bool) → is_application_indicator a ≡ true → application_at (field 8 a ++ rest) ≡ Ok (a, rest)
 unfolding application_at
-application-back a rest h = search (arith, number-again, application-small)
+application-back a rest h = search (arith, number-again)
 
 second-back : (v : ℕ) (may : Bool) (a : ℕ) (rest : List Bool) → may ≡ true → is_application_indicator a ≡ true → item_at v may (field 4 9 ++ (field 8 a ++ rest)) ≡ Ok (Fnc1Second a, [], rest)
 unfolding item_at

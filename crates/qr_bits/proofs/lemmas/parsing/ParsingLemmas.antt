@@ -52,16 +52,13 @@ pub ended-empty : (bits : List Bool) → length bits ≤ 0 → ends bits ≡ tru
 unfolding ends
 ended-empty bits h = search (arith, or_left, lt-ltb)
 
-short-shorter : (a : ℕ × List Bool) (number : ℕ → ℕ) (n : ℕ) (d : Designator × List Bool) → (leading_number 8 a.1 >>= λ b. Ok (record { number = number b.0; codewords = n }, b.1)) ≡ Ok d → length d.1 ≤ length a.1
-short-shorter a number n d h = search (arith, bind-ok, number-shorter, same-ok)
-
 -- reading a designator leaves no more bits than there were
 designator-shorter : (bits : List Bool) (d : Designator × List Bool) → designator_at bits ≡ Ok d → length d.1 ≤ length bits
 unfolding designator_at
 designator-shorter bits d h =
     let a = bind-ok (leading_number 8 bits) _ d h in
     let less = number-shorter 8 bits a.0 a.1 in
-    search (arith, same-ok, short-shorter, guard-ok, bind-ok, number-shorter)
+    grind (arith, same-ok, bind-ok, number-shorter, guard-ok)
 
 -- reading an application indicator leaves no more bits than there were
 application-shorter : (bits : List Bool) (a : ℕ × List Bool) → application_at bits ≡ Ok a → length a.1 ≤ length bits

@@ -1,13 +1,13 @@
 -- The data of a segment: what is written is read back, and what is read is written as the same bits.
 use Rattle.std.proofs.Common.{◌≡◌, ℕ, zero, suc, ◌+◌, ◌*◌, ◌/◌, ◌%◌, ◌<◌, ◌≤◌, Bool, true, All, List, [], ◌∷◌, ◌++◌, length, take, drop, Ok, refl, ap, arith, append_assoc}
-use Rattle.std.proofs.lemmas.Bool.{lt-ltb, ltb-true, and_parts, and_from}
+use Rattle.std.proofs.lemmas.Bool.{lt-ltb, ltb-true, and_parts}
 use Rattle.std.{proofs.lemmas.List.length-drop, specs.List.list_all}
 use Rattle.std.proofs.lemmas.List.Elements.{All-nil, All-cons, All-head, All-tail}
 use Rattle.qr_bits.specs.{declared.modes.Mode.Mode, Stream.character_bits, Stream.payload}
 use Rattle.qr_bits.specs.declared.modes.Mode.TheVariants.{Numeric, Alphanumeric, Byte, Kanji}
 use Rattle.qr_bits.specs.{Bits.value, Bits.bits_of, Parsing.characters_of, Parsing.bytes_of, Parsing.values_of}
 use Rattle.qr_bits.specs.Modes.{character_count, is_alphanumeric, byte_count, payload_bits, suits, character_value}
-use Rattle.qr_bits.proofs.lemmas.{modes.KanjiLemmas.{pairs-again, pairs-takes}, stream.WritingLemmas.two-more}
+use Rattle.qr_bits.proofs.lemmas.{modes.KanjiLemmas.{pairs-again, pairs-takes}}
 use Rattle.qr_bits.proofs.lemmas.modes.CharacterLemmas.{character-found, character-again, character-taken}
 use Rattle.qr_bits.proofs.lemmas.parsing.{PayloadLemmas.value-take-below, ParsingLemmas.bind-ok, ParsingLemmas.same-ok}
 use Rattle.qr_bits.proofs.lemmas.stream.StreamLemmas.{more-written, drop-field, read-field, field-read, digits-again, digits-takes, are-digits, chosen-ok, IsWritten}
@@ -51,7 +51,7 @@ characters-takes (suc (suc n)) xs bs h e =
     let i = character-taken (g / 45) (omega arith) in
     let j = character-taken (g % 45) (omega arith) in
     let whole = more-written 11 (payload_bits Alphanumeric n) bs (character_bits b.0) (omega arith) w.whole in
-    search (arith, two-more, same-ok, All-cons, and_from)
+    search arith
 
 -- bytes that are written are read back
 pub bytes-again : (xs : List ℕ) (t : List Bool) → All (λ b. b < 256) xs → bytes_of (length xs) (bits_of xs ++ t) ≡ xs

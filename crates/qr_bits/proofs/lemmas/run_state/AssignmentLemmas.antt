@@ -43,7 +43,6 @@ drop-pair test x y xs [] p c = search (arith, and_parts)
 drop-pair test x y xs (s ∷ ss) p c =
     cond_both (3 == rank s.mode) _ _ (λ (r : List Segment). CoversBy test (x ∷ y ∷ xs) (prepend_mode Kanji r) → (test x y ≡ true) × CoversBy test xs (s ∷ ss))
     (λ e c.
-    let same = same-rank Kanji s.mode (eqb-true _ _ e) in
     let two : 1 + (1 + s.len) ≡ suc (suc s.len) = omega arith in
     search (arith, and_parts)) (λ e c. ((and_parts (test x y) true c.2).0, c.3)) c
 
@@ -95,12 +94,12 @@ pub is-assignment : (test : ℕ → ℕ → Bool) (r : Rule) (xs : List ℕ) (ms
 unfolding CoversBy runs_of allowed may_take may_begin begins_with_pair state_after may_end
 is-assignment test r [] ms p e h = grind arith
 is-assignment test r (x ∷ xs) [] p e h = absurd (false≢true h)
-is-assignment test r (x ∷ []) (Kanji ∷ ms) p e h = search (arith, false≢true, take-begin, and_parts)
+is-assignment test r (x ∷ []) (Kanji ∷ ms) p e h = search arith
 is-assignment test r (x ∷ y ∷ xs) (Kanji ∷ []) p e h = search (arith, false≢true, and_parts)
 is-assignment test r (x ∷ y ∷ xs) (Kanji ∷ Kanji ∷ ms) p e h =
     let parts = and_parts (may_take r p x (may_use r Kanji && test x y) Kanji) _ h in
     let second : allowed r test HalfPair (y ∷ xs) (Kanji ∷ ms) ≡ true = rw (state_after-whole p e) at parts.1 in
     search (arith, take-begin, and_parts, and_from, nat_tests, cond_both, same-rank, eqb-true, is-assignment test r xs ms WholePair refl second)
-is-assignment test r (x ∷ y ∷ xs) (Kanji ∷ m ∷ ms) p e h = search (arith, and_parts, state_after-whole, false≢true)
+is-assignment test r (x ∷ y ∷ xs) (Kanji ∷ m ∷ ms) p e h = search arith
 is-assignment test r (x ∷ xs) (m ∷ ms) p e h =
     one-is test r m x xs ms p (lit< tt) e (is-assignment test r xs ms (state_after p m) (may_end-after p m (lit< tt))) h

@@ -29,10 +29,6 @@ take-again : (r : Rule) (p : RunState) (x : ℕ) (q t : Bool) (m : Mode) → ran
 unfolding may_take may_begin state_after
 take-again r p x q t m h e = grind arith
 
--- what may be taken twice may be taken, and then again
-again-and : (a b c d : Bool) → (a ≡ true → b ≡ true) → c ≡ d → (a && (b && c)) ≡ (a && d)
-again-and a b c d h e = grind arith
-
 none-both : (a b c d : Bool) → c ≡ d → d ≡ false → (a && c) ≡ (b && d)
 none-both a b c d e f = grind arith
 
@@ -78,7 +74,7 @@ step-two : (i : Interpretation) (r : Rule) (test : ℕ → ℕ → Bool) (p : Ru
     → allowed r test p (character_for i x m ∷ character_for i x m ∷ characters_in i xs ms) (m ∷ m ∷ doubled i xs ms)
     ≡ (may_take_in i r p x (begins_with_pair r test (x ∷ xs)) m && allowed_in i r test (state_after (state_after p m) m) xs ms)
 unfolding allowed
-step-two i r test p x xs m ms k h = search (arith, take-other, again-and, take-again)
+step-two i r test p x xs m ms k h = grind (arith, take-other, take-again)
 
 -- the characters of bytes are allowed exactly if the bytes are
 pub allowed-written : (i : Interpretation) (r : Rule) (test : ℕ → ℕ → Bool) (p : RunState) (xs : List ℕ) (ms : List Mode)

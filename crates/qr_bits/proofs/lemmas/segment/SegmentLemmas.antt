@@ -8,12 +8,8 @@ use Rattle.qr_bits.specs.{declared.segment.Segment.Segment, Stream.Suits, Modes.
 use Rattle.qr_bits.specs.declared.interpretation.Interpretation.{Interpretation}
 use Rattle.qr_bits.specs.Segmentation.{segment_bits, bits, Covers, IsNotAfter, IsLeastSegmentation, HasFit}
 
--- a count field has at most 16 bits
-pub count_width-bound : (v : ℕ) (m : Mode) → count_width v m ≤ 16
-count_width-bound v m = grind arith
-
 segment-most : (v : ℕ) (s : Segment) → 0 < s.len → segment_bits v s ≤ 35 * s.len
-segment-most v s h = grind (arith, count_width-bound)
+segment-most v s h = grind arith
 
 -- what stands past the end of a list of segments
 abbrev pub past_end : Segment

@@ -65,7 +65,6 @@ pub least-marked : (v : ℕ) (r : Rule) (xs : List ℕ) (segs : List Segment) �
     → IsLeastSegmentation Default v r (map marked xs) (map marked xs) segs → IsLeastSegmentation Gs1 v r xs (written_in xs segs) segs
 least-marked v r xs segs single h =
     let ms = h.0 in
-    let own = single-modes xs ms single in
     let assignment = from-marked r xs ms single h.1.assignment in
     let runs = runs-written xs ms (sym (assignment-length Gs1 r xs ms assignment)) in search (arith, single-modes, to-marked)
 

@@ -88,7 +88,7 @@ segments-prepend : (m : Mode) (x : ℕ) (xs : List ℕ) (segs : List Segment)
 unfolding segments_of
 segments-prepend m x xs [] = segments-begun m x xs []
 segments-prepend m x xs (s ∷ ss) =
-    let rest = segments_of xs (s ∷ ss) in ⊎_elim
+    ⊎_elim
     (λ (e : (rank m == rank s.mode) ≡ true). rw (same-rank m s.mode (eqb-true _ _ e)) (segments-same s.mode x xs s.len ss))
     (λ (e : (rank m == rank s.mode) ≡ false). rw e (segments-begun m x xs (s ∷ ss)))
     (cases_Bool (rank m == rank s.mode))

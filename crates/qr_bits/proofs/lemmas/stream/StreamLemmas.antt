@@ -113,7 +113,6 @@ digits-takes (suc (suc zero)) xs bs h e =
     let g = value (take 7 bs) in
     let c = chosen-ok _ _ _ xs e in
     let low : g < 100 = ltb-true _ _ c.0 in
-    let back : 10 * (digit (g / 10) - 48) + (digit g - 48) ≡ g = omega arith in
     let whole : bs ≡ field 7 (value (take 7 bs)) ++ drop 7 bs = cc (field-read 7 bs h, take-append-drop 7 bs) in
     search (arith, same-ok, All-cons, All-nil, is_digit-digit)
 digits-takes (suc (suc (suc n))) xs bs h e =
