@@ -2,8 +2,8 @@
 //! series this is, and how many symbols there are. It also has the parity data of the whole input (ISO/IEC 18004:2015,
 //! 8).
 
-ghost use Rattle.std.specs.Prelude.{◌≡◌, ◌≤◌};
-ghost use Rattle.qr_bits.specs.Header.{header_bits, parity_of};
+ghost use Rattle.std.specs.Prelude.{◌≡◌};
+ghost use Rattle.qr_bits.specs.Header.{parity_of};
 
 // The number of bits of a header. The mode indicator, `position` and `last` have 4 bits each, and `parity` has 8 bits
 // (ISO/IEC 18004:2015, 8.1 to 8.3).
@@ -18,16 +18,6 @@ pub struct Header {
     pub last: u8,
     /// The parity data of the whole input of the series, as `parity` returns them (ISO/IEC 18004:2015, 8.3).
     pub parity: u8,
-}
-
-pub(crate) fn header_bits(header: Option<Header>) -> u64
-    ensures value { result ≡ header_bits header }
-    ensures most { result ≤ HEADER_BITS }
-{
-    match header {
-        None => 0,
-        Some(_) => HEADER_BITS,
-    }
 }
 
 /// Returns the parity data of a series that contains `input`: the exclusive or of all its bytes, which is 0 if there

@@ -4,7 +4,7 @@
 //! width depends on the mode and the version.
 
 ghost use Rattle.std.specs.Prelude.{IsTrue, ◌<◌, ◌==◌, ◌^◌, ◌≡◌, ◌≤◌};
-ghost use Rattle.qr_bits.specs.Modes.{character_value, characters, character_count, count_width, in_twos, indicator, is_alphanumeric, is_digit, is_kanji_pair, kanji_value, byte_count, may_use, payload_bits, suits};
+ghost use Rattle.qr_bits.specs.Modes.{character_value, characters, count_width, in_twos, indicator, is_alphanumeric, is_digit, is_kanji_pair, kanji_value, byte_count, may_use, payload_bits, suits};
 ghost use Rattle.std.specs.List.{list_all, position};
 ghost use Rattle.qr_bits.specs.Parsing.{character, mode_of};
 
@@ -100,17 +100,6 @@ pub(crate) fn count_width(version: Version, mode: Mode) -> u8
         1..=9 => small,
         10..=26 => medium,
         _ => large,
-    }
-}
-
-// The number in the character count indicator of a segment of `len` bytes. In kanji mode two bytes count as one
-// character (ISO/IEC 18004:2015, 7.4.1).
-pub(crate) fn character_count(mode: Mode, len: usize) -> usize
-    ensures { result ≡ character_count mode len }
-{
-    match mode {
-        Mode::Kanji => len / 2,
-        _ => len,
     }
 }
 

@@ -11,7 +11,7 @@ ghost use Rattle.std.specs.Option.{ForSome};
 
 use crate::bits::BitWriter;
 use crate::fault::BitFault;
-use crate::header::{Header, header_bits};
+use crate::header::{HEADER_BITS, Header};
 use crate::interpretation::{Interpretation, interpretation_bits};
 use crate::modes::INPUT_MAX;
 use crate::segment::bit_len;
@@ -54,7 +54,11 @@ pub fn codewords(
         + bits version segmented.now.segments.items) }
 {
     let capacity = version.capacity(level);
-    let used = header_bits(header)
+    let header_bits = match header {
+        None => 0,
+        Some(_) => HEADER_BITS,
+    };
+    let used = header_bits
         + interpretation_bits(interpretation)
         + bit_len(&segmented.segments, version);
     if used > capacity {

@@ -15,8 +15,7 @@ use crate::bits::BitWriter;
 use crate::header::Header;
 use crate::interpretation::Interpretation;
 use crate::modes::{
-    ECI, FNC1_FIRST, Mode, STRUCTURED_APPEND, character_count, character_value, count_width,
-    indicator, kanji_value,
+    ECI, FNC1_FIRST, Mode, STRUCTURED_APPEND, character_value, count_width, indicator, kanji_value,
 };
 use crate::parsing::NUMBERS;
 use crate::segment::Segment;
@@ -107,11 +106,13 @@ fn put_segment(
     requires suited { IsTrue (suits mode bytes.now) }
     ensures { OnOk result (writer.new ≡ writer.old ++ segment_stream version mode bytes.now) }
 {
+    // In kanji mode two bytes count as one character.
+    let count = match mode {
+        Mode::Kanji => bytes.len() / 2,
+        _ => bytes.len(),
+    };
     writer.put(4, indicator(mode))?;
-    writer.put(
-        count_width(version, mode),
-        character_count(mode, bytes.len()) as u16,
-    )?;
+    writer.put(count_width(version, mode), count as u16)?;
     match mode {
         Mode::Numeric => put_digits(writer, bytes),
         Mode::Alphanumeric => put_characters(writer, bytes),

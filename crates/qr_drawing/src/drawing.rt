@@ -6,10 +6,10 @@ ghost use Rattle.std.specs.Prelude.{◌≡◌, ◌≤◌, ◌<◌, ◌+◌, max,
 ghost use Rattle.std.specs.Io.KnownBytes.{Appends};
 ghost use Rattle.qr_devices.specs.Device.{AppendsBeginning, IsWrittenWithin, counted, is_write_fault, no_writes};
 ghost use Rattle.qr_drawing.specs.Drawing.{HaveOneSide, drawn};
-ghost use Rattle.qr_drawing.specs.Steps.Pen.{Puts};
 ghost use Rattle.qr_drawing.specs.Raster.{is_dark_at, raster_width};
 
-use crate::pen::{DrawFault, Pen, WRITE_MAX};
+use crate::pen::{DrawFault, PEN_SIZE, Pen, WRITE_MAX};
+use crate::piece::Piece;
 use crate::svg::put_document;
 use crate::text::{TextStyle, put_texts};
 use qr_devices::Sink;
@@ -90,28 +90,6 @@ impl Raster<'_> {
     }
 }
 
-// Writes the drawing through `pen`. Afterwards the pen may still contain the last bytes of the drawing.
-fn put_drawing<S: HasSquare, W: Sink>(
-    pen: &mut Pen,
-    out: &mut W,
-    symbols: &[S],
-    kind: Drawing,
-    margin: u8,
-) -> Result<(), DrawFault>
-    requires some { 0 < length symbols.now }
-    requires few { length symbols.now ≤ 16 }
-    requires one_side { HaveOneSide (map S.grid symbols.now) }
-    ensures { Puts (W.device out.old) (W.device out.new)
-        pen.old pen.new (drawn kind margin (map S.grid symbols.now)) result }
-{
-    match kind {
-        Drawing::Ascii => put_texts(pen, out, TextStyle::Plain, symbols, margin),
-        Drawing::AsciiInverse => put_texts(pen, out, TextStyle::Inverse, symbols, margin),
-        Drawing::Utf8 => put_texts(pen, out, TextStyle::HalfBlocks, symbols, margin),
-        Drawing::Svg => put_document(pen, out, symbols, margin),
-    }
-}
-
 /// Draws 1 to 16 symbols or other squares, all with the same side, each with a light margin of `margin` modules on all
 /// sides (ISO/IEC 18004:2015, 6.3.8). The texts of several squares follow one after the other. An SVG document shows
 /// all squares, one below the other.
@@ -146,7 +124,20 @@ pub fn draw<S: HasSquare, W: Sink>(
     ensures offered { (W.device out.new).counts.offered ≤ max (W.device out.old).counts.offered WRITE_MAX }
     ensures flushes { (W.device out.new).counts.flushes ≡ (W.device out.old).counts.flushes }
 {
-    let mut pen = Pen::new();
-    put_drawing(&mut pen, out, symbols, kind, margin)?;
+    let mut pen = Pen {
+        piece: Piece {
+            bytes: [0; PEN_SIZE],
+            len: 0,
+        },
+        interrupted: 0,
+    };
+    // Afterwards the pen may still contain the last bytes of the drawing.
+    let put = match kind {
+        Drawing::Ascii => put_texts(&mut pen, out, TextStyle::Plain, symbols, margin),
+        Drawing::AsciiInverse => put_texts(&mut pen, out, TextStyle::Inverse, symbols, margin),
+        Drawing::Utf8 => put_texts(&mut pen, out, TextStyle::HalfBlocks, symbols, margin),
+        Drawing::Svg => put_document(&mut pen, out, symbols, margin),
+    };
+    put?;
     pen.empty(out)
 }

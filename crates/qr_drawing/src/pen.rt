@@ -31,7 +31,7 @@ pub enum DrawFault {
 #[derive(Drop)]
 pub(crate) struct Pen {
     pub(crate) piece: Piece<PEN_SIZE>,
-    interrupted: u16,
+    pub(crate) interrupted: u16,
     ghost few: { interrupted ≤ INTERRUPTIONS_MAX },
 }
 
@@ -73,16 +73,6 @@ impl Pen {
     ghost use Rattle.std.specs.Prelude.{◌≡◌, ◌≤◌, ◌+◌, [], OnOk, length};
     ghost use Rattle.qr_drawing.specs.Steps.Pen.{Reserves};
 
-    pub(crate) fn new() -> Self
-        ensures piece { result.piece ≡ [] }
-        ensures interrupted { result.interrupted ≡ 0 }
-    {
-        Pen {
-            piece: Piece::new(),
-            interrupted: 0,
-        }
-    }
-
     /// Writes all bytes in the pen.
     #[inline(never)]
     pub(crate) fn empty<W: Sink>(&mut self, out: &mut W) -> Result<(), DrawFault>
@@ -90,8 +80,8 @@ impl Pen {
             self.old self.new result }
         ensures empty { OnOk result (self.new.piece ≡ []) }
     {
-        self.interrupted = send(out, self.piece.as_slice(), self.interrupted)?;
-        self.piece.clear();
+        self.interrupted = send(out, &self.piece.bytes[..self.piece.len], self.interrupted)?;
+        self.piece.len = 0;
         Ok(())
     }
 
@@ -103,7 +93,7 @@ impl Pen {
             self.old self.new result }
         ensures room { OnOk result (length self.new.piece + room ≤ WRITE_MAX) }
     {
-        if self.piece.len() + room > WRITE_MAX {
+        if self.piece.len + room > WRITE_MAX {
             return self.empty(out);
         }
         Ok(())

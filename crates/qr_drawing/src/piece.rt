@@ -8,8 +8,8 @@ use std::marker::Model;
 /// be appended by copying a fixed number of bytes, even if it has fewer. Such a copy takes one or two instructions.
 #[derive(Drop)]
 pub(crate) struct Piece<const CAP: usize> {
-    bytes: [u8; CAP],
-    len: usize,
+    pub(crate) bytes: [u8; CAP],
+    pub(crate) len: usize,
 }
 
 impl<const CAP: usize> Model for Piece<CAP> {
@@ -23,37 +23,6 @@ impl<const CAP: usize> Model for Piece<CAP> {
 }
 
 impl<const CAP: usize> Piece<CAP> {
-    pub(crate) fn new() -> Self
-        ensures { result ≡ [] }
-    {
-        Piece {
-            bytes: [0; CAP],
-            len: 0,
-        }
-    }
-
-    #[inline(always)]
-    pub(crate) fn len(&self) -> usize
-        ensures value { result ≡ length self.now }
-        ensures fits { result ≤ CAP }
-    {
-        self.len
-    }
-
-    #[inline(always)]
-    pub(crate) fn as_slice(&self) -> &[u8]
-        ensures { result.now ≡ self.now }
-    {
-        &self.bytes[..self.len]
-    }
-
-    #[inline(always)]
-    pub(crate) fn clear(&mut self)
-        ensures { self.new ≡ [] }
-    {
-        self.len = 0;
-    }
-
     #[inline(always)]
     pub(crate) fn push(&mut self, byte: u8)
         requires { length self.old < CAP }

@@ -176,7 +176,10 @@ fn push_box(text: &mut Piece<PEN_SIZE>, x: u16, row: &Piece<8>, modules: u16)
 fn text_of_row(y: u16) -> Piece<8>
     ensures { result ≡ numbered (codes " ") y }
 {
-    let mut text = Piece::new();
+    let mut text = Piece {
+        bytes: [0; 8],
+        len: 0,
+    };
     text.push(b' ');
     push_number(&mut text, y);
     text

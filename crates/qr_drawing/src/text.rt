@@ -34,51 +34,6 @@ pub(crate) enum TextStyle {
     HalfBlocks,
 }
 
-// Returns how many bytes `count` cells have at most. The pen has room for 399 cells of at most three bytes each.
-fn cells_room(style: TextStyle, count: u16) -> usize
-    requires { count < 400 }
-    ensures value { result ≡ count * cell_room style }
-    ensures most { result < WRITE_MAX }
-{
-    match style {
-        TextStyle::Plain | TextStyle::Inverse => usize::from(count) * 2,
-        TextStyle::HalfBlocks => usize::from(count) * 3,
-    }
-}
-
-// Returns the first row of modules that line `y` shows.
-fn top_row(style: TextStyle, y: u16) -> u16
-    requires { y < 1000 }
-    ensures value { result ≡ top_row style y }
-    ensures most { result < 2000 }
-{
-    match style {
-        TextStyle::Plain | TextStyle::Inverse => y,
-        TextStyle::HalfBlocks => 2 * y,
-    }
-}
-
-// Returns the number of lines that show `rows` rows of modules. If `rows` is odd, the last line of half blocks shows
-// one row, and light modules below it.
-fn line_count(style: TextStyle, rows: u16) -> u16
-    requires { rows < 1000 }
-    ensures value { result ≡ line_count style rows }
-    ensures most { result ≤ rows }
-{
-    match style {
-        TextStyle::Plain | TextStyle::Inverse => rows,
-        TextStyle::HalfBlocks => rows.div_ceil(2),
-    }
-}
-
-fn push_module(text: &mut Piece<PEN_SIZE>, dark: bool)
-    requires room { length text.old + 2 ≤ WRITE_MAX }
-    ensures { text.new ≡ text.old ++ ascii_module dark }
-{
-    let character = if dark { b'#' } else { b' ' };
-    text.push_all(&[character; 2]);
-}
-
 // Appends one character, whose filled parts are light modules.
 fn push_half_block(text: &mut Piece<PEN_SIZE>, upper: bool, lower: bool)
     requires room { length text.old + 3 ≤ WRITE_MAX }
@@ -103,11 +58,16 @@ fn push_cell(text: &mut Piece<PEN_SIZE>, style: TextStyle, upper: bool, lower: b
     requires room { length text.old + cell_room style ≤ WRITE_MAX }
     ensures { text.new ≡ text.old ++ cell_text style upper lower }
 {
-    match style {
-        TextStyle::Plain => push_module(text, upper),
-        TextStyle::Inverse => push_module(text, !upper),
-        TextStyle::HalfBlocks => push_half_block(text, upper, lower),
-    }
+    let dark = match style {
+        TextStyle::Plain => upper,
+        TextStyle::Inverse => !upper,
+        TextStyle::HalfBlocks => {
+            push_half_block(text, upper, lower);
+            return;
+        }
+    };
+    let character = if dark { b'#' } else { b' ' };
+    text.push_all(&[character; 2]);
 }
 
 // Returns which row of the square is in row `row` of the raster. It is `None` if that row is in the margin or below the
@@ -161,13 +121,6 @@ static ASCII_QUADS: [[u8; 8]; 16] = [
     *b"########",
 ];
 
-fn ascii_quad(bits: u8) -> &'static [u8; 8]
-    requires { bits < 16 }
-    ensures { result.now ≡ bits_text 4 Plain bits 0 }
-{
-    &ASCII_QUADS[usize::from(bits)]
-}
-
 // Two characters in the style `HalfBlocks`, which show two modules and the two below them. In the index, bits 0 and 1
 // are the upper modules, and bits 2 and 3 the lower. An entry has the bytes of the two characters, filled up to eight
 // bytes with spaces, and a number. The number says how many bytes the two characters have: two, four or six.
@@ -218,36 +171,15 @@ fn push_quad(text: &mut Piece<PEN_SIZE>, style: TextStyle, upper: u8, lower: u8)
     requires room { length text.old + 4 * cell_room style ≤ WRITE_MAX }
     ensures { text.new ≡ text.old ++ bits_text 4 style upper lower }
 {
-    match style {
-        TextStyle::Plain => text.push_all(ascii_quad(upper % 16)),
-        TextStyle::Inverse => text.push_all(ascii_quad(15 - upper % 16)),
-        TextStyle::HalfBlocks => push_half_block_quad(text, upper, lower),
-    }
-}
-
-fn ascii_eight(bits: u8) -> [u8; 16]
-    ensures { result ≡ bits_text 8 Plain bits 0 }
-{
-    let mut text = [b' '; 16];
-    text[..8].copy_from_slice(ascii_quad(bits % 16));
-    text[8..].copy_from_slice(ascii_quad(bits / 16));
-    text
-}
-
-// Appends eight cells, whose modules are bits 0 to 7 of `upper` and `lower`.
-#[inline(always)]
-fn push_eight(text: &mut Piece<PEN_SIZE>, style: TextStyle, upper: u8, lower: u8)
-    requires room { length text.old + 8 * cell_room style ≤ WRITE_MAX }
-    ensures { text.new ≡ text.old ++ bits_text 8 style upper lower }
-{
-    match style {
-        TextStyle::Plain => text.push_all(&ascii_eight(upper)),
-        TextStyle::Inverse => text.push_all(&ascii_eight(255 - upper)),
+    let quad = match style {
+        TextStyle::Plain => upper % 16,
+        TextStyle::Inverse => 15 - upper % 16,
         TextStyle::HalfBlocks => {
             push_half_block_quad(text, upper, lower);
-            push_half_block_quad(text, upper / 16, lower / 16);
+            return;
         }
-    }
+    };
+    text.push_all(&ASCII_QUADS[usize::from(quad)]);
 }
 
 // Appends `count` light cells. The names of the loops' variables are for the prover.
@@ -282,40 +214,20 @@ fn push_columns(text: &mut Piece<PEN_SIZE>, style: TextStyle, raster: &Raster, r
     'eights: while end - col >= 8 {
         let upper = dark_bits(raster.matrix, upper_row, col);
         let lower = dark_bits(raster.matrix, lower_row, col);
-        push_eight(text, style, upper, lower);
+        push_quad(text, style, upper, lower);
+        push_quad(text, style, upper / 16, lower / 16);
         col += 8;
     }
     if col < end {
-        let upper = dark_bits(raster.matrix, upper_row, col);
-        let lower = dark_bits(raster.matrix, lower_row, col);
-        push_quad(text, style, upper, lower);
+        let four = dark_bits(raster.matrix, upper_row, col);
+        let below = dark_bits(raster.matrix, lower_row, col);
+        push_quad(text, style, four, below);
     }
 }
 
-// Appends the cells of the columns that `push_columns` leaves out, one by one. Then it appends the right margin and the
-// newline.
-#[inline(always)]
-fn push_rest(text: &mut Piece<PEN_SIZE>, style: TextStyle, raster: &Raster, row: u16)
-    requires row_in { row < 2000 }
-    requires room { length text.old
-        + (raster.now.matrix.now.side % 4 * cell_room style + raster.now.margin * cell_room style + 1) ≤ WRITE_MAX }
-    ensures { text.new ≡ text.old ++ (texts_below (raster.now.matrix.now.side % 4)
-        (λ i. cell_at style raster.now.margin raster.now.matrix.now row (raster.now.margin + raster.now.matrix.now.side / 4 * 4 + i))
-        ++ (texts_below raster.now.margin (λ _. cell_text style false false) ++ 10 ∷ [])) }
-{
-    let margin = u16::from(raster.margin);
-    let first = margin + u16::from(raster.matrix.side() / 4 * 4);
-    for done in 0..u16::from(raster.matrix.side() % 4) {
-        let upper = raster.is_dark_at(row, first + done);
-        let lower = raster.is_dark_at(row + 1, first + done);
-        push_cell(text, style, upper, lower);
-    }
-    push_light(text, style, margin);
-    text.push(b'\n');
-}
-
-// Writes line `y` in three parts: the left margin, the columns that `push_columns` appends, and what `push_rest`
-// appends. The pen may have too little room for a whole line at once.
+// Writes line `y` in three parts, because the pen may have too little room for the whole line at once: the left margin,
+// then the columns that `push_columns` appends, and then the columns that it leaves out, one by one, with the right
+// margin and the newline.
 #[inline(always)]
 fn put_line<W: Sink>(
     pen: &mut Pen,
@@ -328,37 +240,32 @@ fn put_line<W: Sink>(
     ensures { Puts (W.device out.old) (W.device out.new)
         pen.old pen.new (cells_of_line style raster.now.margin raster.now.matrix.now y ++ 10 ∷ []) result }
 {
-    let row = top_row(style, y);
-    let first = u16::from(raster.margin);
-    let last = u16::from(raster.matrix.side() % 4);
-    pen.reserve(out, cells_room(style, first))?;
-    push_light(&mut pen.piece, style, first);
-    pen.reserve(out, cells_room(style, u16::from(raster.matrix.side())))?;
+    // The greatest number of bytes of a cell, and the first row of modules that the line shows.
+    let (most, row) = match style {
+        TextStyle::Plain | TextStyle::Inverse => (2, y),
+        TextStyle::HalfBlocks => (3, 2 * y),
+    };
+    let margin = u16::from(raster.margin);
+    let side = u16::from(raster.matrix.side());
+    pen.reserve(out, usize::from(margin) * most)?;
+    push_light(&mut pen.piece, style, margin);
+    pen.reserve(out, usize::from(side) * most)?;
     push_columns(&mut pen.piece, style, raster, row);
-    pen.reserve(out, cells_room(style, last + first) + 1)?;
-    push_rest(&mut pen.piece, style, raster, row);
-    Ok(())
-}
-
-// Writes all lines of a square.
-#[inline(always)]
-fn put_lines<W: Sink>(
-    pen: &mut Pen,
-    out: &mut W,
-    style: TextStyle,
-    raster: &Raster,
-) -> Result<(), DrawFault>
-    ensures { Puts (W.device out.old) (W.device out.new)
-        pen.old pen.new (text_drawing style raster.now.margin raster.now.matrix.now) result }
-{
-    for y in 0..line_count(style, raster.width()) {
-        put_line(pen, out, style, raster, y)?;
+    pen.reserve(out, usize::from(side % 4 + margin) * most + 1)?;
+    let text = &mut pen.piece;
+    let first = margin + side / 4 * 4;
+    for done in 0..side % 4 {
+        let upper = raster.is_dark_at(row, first + done);
+        let lower = raster.is_dark_at(row + 1, first + done);
+        push_cell(text, style, upper, lower);
     }
+    push_light(text, style, margin);
+    text.push_all(b"\n");
     Ok(())
 }
 
-/// Writes the texts of all symbols, and nothing between two of them. It is inlined into each of its calls in
-/// `put_drawing`, where the style is a constant, so that no loop has to test the style.
+/// Writes the texts of all symbols, and nothing between two of them. It is inlined into each of its calls in `draw`,
+/// where the style is a constant, so that no loop has to test the style.
 #[inline(always)]
 pub(crate) fn put_texts<S: HasSquare, W: Sink>(
     pen: &mut Pen,
@@ -375,7 +282,15 @@ pub(crate) fn put_texts<S: HasSquare, W: Sink>(
             matrix: symbol.square(),
             margin,
         };
-        put_lines(pen, out, style, &raster)?;
+        let rows = 2 * u16::from(margin) + u16::from(raster.matrix.side());
+        // If the number of rows is odd, the last line of half blocks shows one row, and light modules below it.
+        let lines = match style {
+            TextStyle::Plain | TextStyle::Inverse => rows,
+            TextStyle::HalfBlocks => rows.div_ceil(2),
+        };
+        for y in 0..lines {
+            put_line(pen, out, style, &raster, y)?;
+        }
     }
     Ok(())
 }

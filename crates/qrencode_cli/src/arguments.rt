@@ -2,9 +2,9 @@
 
 ghost use Rattle.std.specs.Prelude.{◌≡◌, [], Err, IfErr, IfOk, Result, map, false};
 ghost use Rattle.std.specs.String.{string_bytes};
-ghost use Rattle.clap.specs.Words.{app_of, found_of, kind_of};
+ghost use Rattle.clap.specs.Words.{found_of, kind_of};
 ghost use Rattle.clap.specs.Walk.{rows_of, rule_of};
-ghost use Rattle.qrencode_cli.specs.Arguments.{command, faults_for, flag_rule, number_rule, rows_for, text_rule};
+ghost use Rattle.qrencode_cli.specs.Arguments.{faults_for, flag_rule, number_rule, rows_for, text_rule};
 ghost use Rattle.qrencode_cli.specs.Settings.{IsUsageFault, Reason, SettingsView, refused_by_clap, settings_for};
 ghost use Rattle.clap.specs.declared.error.kind.ErrorKind.TheVariants.{OutOfMemory};
 
@@ -12,7 +12,7 @@ use crate::settings::UsageFault;
 use clap::builder::ValueParser;
 use clap::error::{Error, ErrorKind};
 use clap::{Arg, ArgAction, ArgMatches, Command};
-use std::alloc::{AllocError, Global};
+use std::alloc::Global;
 
 // An option: `id` is its name in the code, and `short` its letter. The help text shows `value`, the name of the
 // option's value, and `help`, a line about the option.
@@ -109,26 +109,6 @@ const STRUCTURED: OptionText<'static> = OptionText {
     help: "Draw a series of up to 16 symbols if the input does not fit one; needs -v",
 };
 
-fn command_line<'a>(alloc: Global) -> Result<Command<'a>, AllocError>
-    ensures { IfOk result (λ c. app_of c ≡ command) }
-{
-    Command::new(alloc, "qrencode")
-        .about("Draws its input as QR Code symbols on standard output")
-        .arg(text_option(alloc, LEVEL))?
-        .arg(number_option(alloc, VERSION, 40))?
-        .arg(text_option(alloc, TYPE).required(true))?
-        .arg(number_option(alloc, MARGIN, 100))?
-        .arg(flag_option(alloc, BYTES_ONLY))?
-        .arg(flag_option(alloc, KANJI))?
-        .arg(flag_option(alloc, FOLD))?
-        .arg(flag_option(alloc, STRUCTURED))?
-        .arg(
-            Arg::new(alloc, "string")
-                .value_name("STRING")
-                .help("Input, in place of standard input"),
-        )
-}
-
 // Returns the fault of a run whose arguments `clap` refused with `error`.
 fn refusal(alloc: Global, error: &Error) -> UsageFault
     ensures { (o : Result SettingsView Reason) → ((kind_of error.now ≡ OutOfMemory → ⊥) → o ≡ Err refused_by_clap) → IsUsageFault o result }
@@ -153,7 +133,22 @@ pub(crate) fn matches<'a>(alloc: Global, words: &'a [String]) -> Result<ArgMatch
     ensures rows { IfOk result (λ m. rows_of (found_of m) ≡ rows_for (map string_bytes words.entry.now)) }
     ensures fault { IfErr result (IsUsageFault (settings_for (map string_bytes words.entry.now))) }
 {
-    match command_line(alloc)?.try_get_matches_from(words) {
+    let command = Command::new(alloc, "qrencode")
+        .about("Draws its input as QR Code symbols on standard output")
+        .arg(text_option(alloc, LEVEL))?
+        .arg(number_option(alloc, VERSION, 40))?
+        .arg(text_option(alloc, TYPE).required(true))?
+        .arg(number_option(alloc, MARGIN, 100))?
+        .arg(flag_option(alloc, BYTES_ONLY))?
+        .arg(flag_option(alloc, KANJI))?
+        .arg(flag_option(alloc, FOLD))?
+        .arg(flag_option(alloc, STRUCTURED))?
+        .arg(
+            Arg::new(alloc, "string")
+                .value_name("STRING")
+                .help("Input, in place of standard input"),
+        )?;
+    match command.try_get_matches_from(words) {
         Ok(matches) => Ok(matches),
         Err(error) => Err(refusal(alloc, &error)),
     }

@@ -11,44 +11,42 @@ use crate::drawing_job::DrawingJob;
 use crate::fault::Fault;
 use crate::input::read_input;
 use crate::settings::{Settings, options};
-use qr_bits::{INPUT_MAX, Interpretation, fold};
+use qr_bits::{INPUT_MAX, Interpretation, Rule, fold};
 use qr_devices::{Sink, Source};
 use qr_drawing::{draw, write_text};
 use qr_layout::Version;
-use qr_symbol::{Symbol, encode, encode_series};
+use qr_symbol::{encode, encode_series};
 use std::alloc::Global;
 use std::borrow::CowSlice;
 
 // Makes the symbols of `input`. With `-i` the input is folded first. Without `-S` it becomes one symbol, and with `-S`
 // one symbol or a series.
-fn symbols_for(alloc: Global, input: &[u8], settings: &Settings) -> Result<Vec<Symbol>, Fault>
+fn job_of(alloc: Global, input: &[u8], settings: &Settings) -> Result<DrawingJob, Fault>
     requires { length input.now ≤ INPUT_MAX }
-    ensures { MatchResult result (λ symbols. AreDrawnFor settings.now (held settings.now input.now) symbols.items)
-        (IsInputFault settings.now (held settings.now input.now)) }
+    ensures { IsJobFor settings.now (held settings.now input.now) result }
 {
     let version = settings.smallest.unwrap_or(Version::FIRST);
     let level = settings.level;
-    let rule = settings.rule();
+    let rule = if settings.bytes_only {
+        Rule::BytesOnly
+    } else if settings.kanji {
+        Rule::WithKanji
+    } else {
+        Rule::Auto
+    };
     let held = if settings.fold {
         CowSlice::Owned(fold(alloc, input, rule)?)
     } else {
         CowSlice::Borrowed(input)
     };
-    if settings.structured {
-        let symbols = encode_series(alloc, &held, version, level, rule, Interpretation::Default)?;
-        return Ok(symbols);
-    }
-    let symbol = encode(alloc, &held, level, version, rule, Interpretation::Default)?;
-    let symbols = Vec::from_array(alloc, [symbol])?;
-    Ok(symbols)
-}
-
-fn job_of(alloc: Global, input: &[u8], settings: &Settings) -> Result<DrawingJob, Fault>
-    requires { length input.now ≤ INPUT_MAX }
-    ensures { IsJobFor settings.now (held settings.now input.now) result }
-{
+    let symbols = if settings.structured {
+        encode_series(alloc, &held, version, level, rule, Interpretation::Default)?
+    } else {
+        let symbol = encode(alloc, &held, level, version, rule, Interpretation::Default)?;
+        Vec::from_array(alloc, [symbol])?
+    };
     Ok(DrawingJob {
-        symbols: symbols_for(alloc, input, settings)?,
+        symbols,
         kind: settings.kind,
         margin: settings.margin,
     })

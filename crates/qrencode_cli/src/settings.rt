@@ -5,13 +5,12 @@ ghost use Rattle.qr_layout.specs.declared.level.Level.{Level};
 ghost use Rattle.std.specs.String.{string_bytes};
 ghost use Rattle.clap.specs.Words.{first_of, found_of, one_of};
 ghost use Rattle.clap.specs.Walk.{rows_of};
-ghost use Rattle.qrencode_cli.specs.Settings.{IsUsageFault, drawing_named, flag_at, level_named, needs_version, number_or, refused_by_clap, rule_for, settings_for, settings_of, unknown_level, unknown_type};
+ghost use Rattle.qrencode_cli.specs.Settings.{IsUsageFault, drawing_named, flag_at, level_named, needs_version, number_or, refused_by_clap, settings_for, settings_of, unknown_level, unknown_type};
 ghost use Rattle.qrencode_cli.specs.declared.settings.UsageFault.{UsageFault};
 ghost use Rattle.std.specs.Global.{Global};
 
 use crate::arguments::matches;
 use clap::ArgMatches;
-use qr_bits::Rule;
 use qr_drawing::Drawing;
 use qr_layout::{Level, Version};
 use std::alloc::{AllocError, Global};
@@ -63,20 +62,6 @@ impl Model for Settings {
       structured = s.structured;
       string = option_map string_bytes s.string;
     } };
-}
-
-impl Settings {
-    pub(crate) fn rule(&self) -> Rule
-        ensures { result ≡ rule_for self.now }
-    {
-        if self.bytes_only {
-            Rule::BytesOnly
-        } else if self.kanji {
-            Rule::WithKanji
-        } else {
-            Rule::Auto
-        }
-    }
 }
 
 /// Why `options` refuses arguments.

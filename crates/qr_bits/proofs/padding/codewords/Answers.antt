@@ -1,11 +1,12 @@
 use Rattle.std.proofs.Common.{◌≡◌, ℕ, ◌+◌, ◌*◌, ◌^◌, ◌<◌, ◌≤◌, ◌++◌, refl, arith, length-append, rules}
 use Rattle.std.specs.Cow.{cow_slice_items}
-use Rattle.qr_bits.specs.{Header.header_stream, Stream.segments_stream, Stream.IsStream}
+use Rattle.qr_bits.specs.{Header.header_bits, Header.header_stream, Stream.segments_stream, Stream.IsStream}
 use Rattle.qr_bits.specs.Interpretation.{interpretation_stream}
 use Rattle.qr_bits.proofs.lemmas.segment.SegmentLemmas.{covers-all, bits-most, bits-least}
 use Rattle.qr_bits.proofs.lemmas.{stream.WritingLemmas.length-segments_stream, segment.CoverLemmas.covers-suits}
 use Rattle.qr_bits.proofs.lemmas.padding.PaddingLemmas.{is-data, length-header_stream, length-interpretation_stream}
 use Rattle.qr_bits.proofs.lemmas.padding.CountLemmas.{capacity-most, counts_fit}
+use Rattle.qr_bits.proofs.padding.codewords.Goals.{in-None, in-Some}
 use Rattle.qr_bits.proofs.padding.codewords.Goals as goal
 
 -- header and segments have at most as many bits as the data codewords, and the input is short
@@ -27,19 +28,21 @@ returns-then-used-capacity-clause-too_long c = search rules
 
 pub put_segments-requires-clause-short : goal.put_segments-requires-clause-short
 put_segments-requires-clause-short c =
+    let head : c.match-header.header_bits ≡ header_bits c.args.header = elim c.match-header.branch [ in-None w ↦ search rules | in-Some w ↦ search rules ] in
     let segs = c.args.segmented.now.segments.items in
     let least = bits-least c.args.version _ segs (covers-suits _ segs c.requires.covered) in
     let most = capacity-most c.args.version c.args.level (omega arith) (omega arith) in
-    rw c.deref-2.ensures.value ((room _ _ _ _ _ _ _ _ c.header_bits.ensures.value c.interpretation_bits.ensures.value (rw c.deref.ensures.value at c.bit_len.ensures) c.capacity-capacity.ensures.value c.if-used-capacity.false).3 _ least most)
+    rw c.deref-2.ensures.value ((room _ _ _ _ _ _ _ _ head c.interpretation_bits.ensures.value (rw c.deref.ensures.value at c.bit_len.ensures) c.capacity-capacity.ensures.value c.if-used-capacity.false).3 _ least most)
 
 pub returns-clause-ok : goal.returns-clause-ok
 returns-clause-ok c =
+    let head : c.match-header.header_bits ≡ header_bits c.args.header = elim c.match-header.branch [ in-None w ↦ search rules | in-Some w ↦ search rules ] in
     let xs = cow_slice_items c.args.segmented.now.characters in
     let segs = c.args.segmented.now.segments.items in
     let suit = covers-suits xs segs c.requires.covered in
     let k = c.capacity-capacity.ensures in
     let bits = rw c.deref.ensures.value at c.bit_len.ensures in
-    let left = room _ _ _ _ _ _ _ _ c.header_bits.ensures.value c.interpretation_bits.ensures.value bits k.value c.if-used-capacity.false in
+    let left = room _ _ _ _ _ _ _ _ head c.interpretation_bits.ensures.value bits k.value c.if-used-capacity.false in
     let is : IsStream c.args.version xs segs c.args.header c.args.interpretation ((header_stream c.args.header ++ interpretation_stream c.args.interpretation) ++ segments_stream c.args.version xs segs) = record {
       bytes = rw c.deref-2.ensures.value at c.in_ok-put_segments.ensures.1;
       suit = suit;
@@ -48,12 +51,13 @@ returns-clause-ok c =
       interpretation = c.requires.number;
       whole = refl;
     } in
-    is-data c.args.version c.args.level xs segs c.args.header c.args.interpretation _ (c.header_bits.result + c.interpretation_bits.result + c.bit_len.result) c.into_codewords-codewords.result.items _ is
-    (rw (length-append (header_stream c.args.header ++ interpretation_stream c.args.interpretation) (segments_stream c.args.version xs segs), length-append (header_stream c.args.header) (interpretation_stream c.args.interpretation), length-header_stream c.args.header, length-interpretation_stream c.args.interpretation, length-segments_stream c.args.version xs segs suit, c.header_bits.ensures.value, c.interpretation_bits.ensures.value, bits) refl)
+    is-data c.args.version c.args.level xs segs c.args.header c.args.interpretation _ (c.match-header.header_bits + c.interpretation_bits.result + c.bit_len.result) c.into_codewords-codewords.result.items _ is
+    (rw (length-append (header_stream c.args.header ++ interpretation_stream c.args.interpretation) (segments_stream c.args.version xs segs), length-append (header_stream c.args.header) (interpretation_stream c.args.interpretation), length-header_stream c.args.header, length-interpretation_stream c.args.interpretation, length-segments_stream c.args.version xs segs suit, head, c.interpretation_bits.ensures.value, bits) refl)
     left.0
     (rw (c.into_codewords-codewords.ensures, c.in_ok-fill.ensures, c.in_ok-put.ensures, c.in_ok-put_segments.ensures.0, c.in_ok-put_interpretation.ensures, c.in_ok-put_header.ensures.0, c.in_ok-writer.ensures, c.deref-2.ensures.value, c.deref-3.ensures.value, c.min.ensures, ← c.capacity-capacity.ensures.value))
     (search arith) c.in_ok-pad.ensures.1
 
 pub returns-clause-too_long : goal.returns-clause-too_long
 returns-clause-too_long c =
-    (λ e. cc, λ h. absurd ((room _ _ _ _ _ _ _ _ c.header_bits.ensures.value c.interpretation_bits.ensures.value (rw c.deref.ensures.value at c.bit_len.ensures) c.capacity-capacity.ensures.value c.if-used-capacity.false).2 h))
+    let head : c.match-header.header_bits ≡ header_bits c.args.header = elim c.match-header.branch [ in-None w ↦ search rules | in-Some w ↦ search rules ] in
+    (λ e. cc, λ h. absurd ((room _ _ _ _ _ _ _ _ head c.interpretation_bits.ensures.value (rw c.deref.ensures.value at c.bit_len.ensures) c.capacity-capacity.ensures.value c.if-used-capacity.false).2 h))

@@ -1,12 +1,27 @@
-use Rattle.{std.proofs.lemmas.Result.err_from_is_err_and, qr_drawing.proofs.lemmas.pen.WritingLemmas.{emptied, written}}
+use Rattle.std.proofs.{Common.{MatchResult, map, rules}, lemmas.Result.err_from_is_err_and}
+use Rattle.qr_drawing.specs.{Drawing.drawn, Steps.Writing.{Stops, Writes}}
+use Rattle.qr_drawing.proofs.lemmas.pen.WritingLemmas.{emptied, written}
+use Rattle.qr_drawing.proofs.drawing.draw.{Given.Over, Goals.{Joined-kind, in-Ascii, in-AsciiInverse, in-Svg, in-Utf8}}
 use Rattle.qr_drawing.proofs.drawing.draw.Goals as goal
 
-pub returns-in_err-put_drawing : goal.returns-in_err-put_drawing
-returns-in_err-put_drawing g c =
-    let m = rw (c.new-pen.ensures.piece, c.new-pen.ensures.interrupted) at c.in_err-put_drawing.ensures in
+-- what is written before the pen is emptied
+puts : (g : Over) (c : Joined-kind g) → let text = drawn c.args.kind c.args.margin (map g.S.HasSquare.grid c.args.symbols.now) in
+    let a = g.W.Sink.device c.args.out.now in
+    let b = g.W.Sink.device c.match-kind.out in
+    MatchResult c.match-kind.put (λ _. Writes a b 0 c.match-kind.pen.interrupted text c.match-kind.pen.piece) (λ _. Stops a b 0 text)
+puts g c = elim c.match-kind.branch [
+  | in-Ascii w ↦ search rules
+  | in-AsciiInverse w ↦ search rules
+  | in-Utf8 w ↦ search rules
+  | in-Svg w ↦ search rules
+]
+
+pub returns-in_err-put : goal.returns-in_err-put
+returns-in_err-put g c =
+    let m = rw c.in_err-put.was at (puts g (goal.at.returns-in_err-put g c).Joined-kind) in
     written _ _ 0 _ c.from_residual.result (rw ((err_from_is_err_and c.from_residual.result c.from_residual.ensures.1).1) m)
 
 pub returns : goal.returns
 returns g c =
-    let m = rw (c.new-pen.ensures.piece, c.new-pen.ensures.interrupted) at c.in_ok-put_drawing.ensures in
-    written _ _ _ _ c.empty.result (emptied _ _ _ _ c.put_drawing.new.pen c.empty.new.self _ c.empty.result m c.empty.ensures.writes c.empty.ensures.empty)
+    let m = rw c.in_ok-put.was at (puts g (goal.at.returns g c).Joined-kind) in
+    written _ _ _ _ c.empty.result (emptied _ _ _ _ c.match-kind.pen c.empty.new.self _ c.empty.result m c.empty.ensures.writes c.empty.ensures.empty)

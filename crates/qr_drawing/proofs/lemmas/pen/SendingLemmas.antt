@@ -1,6 +1,6 @@
 -- What one write does while bytes are sent.
 use Rattle.std.proofs.Common.{◌≡◌, ◌≤◌, ◌<◌, ◌+◌, ◌^◌, ◌++◌, ◌∙◌, ℕ, zero, suc, List, [], ◌∷◌, Option, None, Some, Result, append-nil, length, Ok, Err, true, ap, refl, arith, max, take, drop}
-use Rattle.std.proofs.lemmas.{List.length-take-le, List.take-append-drop, Bool.Decides.nat_tests}
+use Rattle.std.proofs.lemmas.{List.length-take-le, List.take-append-drop}
 use Rattle.std.proofs.{Math.Seq.take-add, KnownBytes.Appends-kept, KnownBytes.Appends-nil}
 use Rattle.{std.specs.Io.KnownBytes.{Appends, Keeps}, qr_drawing.specs.Steps.Writing.{IsWell, Stops, Writes}}
 use Rattle.qr_devices.specs.Device.{IsWrittenWithin, Writer, counted, is_write_fault, write_counted}
@@ -32,15 +32,9 @@ flushes-after v w len r e = grind arith
 
 -- a write after writes without a fault is still within bounds
 within-after : (v w : WriteCounts) (len tries : ℕ) (r : Result ℕ Trouble) → w ≡ write_counted len r v → IsWell v tries → IsWrittenWithin w
-within-after v w len tries (Ok n) e h =
-    let f = h.failed in let z = h.zeros in let t = h.tried in let few = h.few in
-    rw e (record { faults = rw (f, z) (grind (arith, nat_tests)); interrupted = rw t (omega arith) })
-within-after v w len tries (Err Interrupted) e h =
-    let f = h.failed in let z = h.zeros in let t = h.tried in let few = h.few in
-    rw e (record { faults = rw (f, z) (omega arith); interrupted = rw t (omega arith) })
-within-after v w len tries (Err Failed) e h =
-    let f = h.failed in let z = h.zeros in let t = h.tried in let few = h.few in
-    rw e (record { faults = rw (f, z) (omega arith); interrupted = rw t (omega arith) })
+within-after v w len tries (Ok n) e h = search arith
+within-after v w len tries (Err Interrupted) e h = search arith
+within-after v w len tries (Err Failed) e h = search arith
 
 -- if the first `at` bytes were written, and then n more, the first `at` + n bytes were written
 pub sends-more : (a b c : Writer) (bytes : List ℕ) (at len n i j k : ℕ) → Writes a b i j (take at bytes) [] →
@@ -52,14 +46,9 @@ sends-more a b c bytes at len n i j k p le short some same q e =
     let buf = take len (drop at bytes) in
     let z : length (take n buf) ≡ n = length-take-le n buf le in
     let one : Writes b c j k (take n buf) [] = record {
-      sends = record {
-        sent = take n buf;
-        grows = q;
-        whole = append-nil (take n buf);
-        many = λ fits. rw (e, z) (omega arith);
-      };
-      well = λ h. rw e (record { failed = h.failed; zeros = let z = h.zeros in grind (arith, nat_tests); tried = h.tried ∙ same; few = let f = h.few in omega arith });
-      offered = offered-after _ b.counts c.counts (length buf) (Ok n) e short (omega arith);
+      sends = search (arith, append-nil);
+      well = search arith;
+      offered = search (arith, offered-after);
       flushes = flushes-after b.counts c.counts (length buf) (Ok n) e;
     } in
     rw (take-add at n bytes, ← take-offered n len (drop at bytes) le) (writes-on a b c i j k [] [] [] (take at bytes) (take n buf) p one)
@@ -68,19 +57,7 @@ sends-more a b c bytes at len n i j k p le short some same q e =
 pub sends-again : (a b c : Writer) (text : List ℕ) (len i j : ℕ) → Writes a b i j text [] → len ≤ 1200 →
     j + 1 < 1000 → Keeps b.taken c.taken → c.counts ≡ write_counted len (Err Interrupted) b.counts →
     Writes a c i (j + 1) text []
-sends-again a b c text len i j p short few q e =
-    let one : Writes b c j (j + 1) [] [] = record {
-      sends = record {
-        sent = [];
-        grows = Appends-kept b.taken b.taken c.taken [] (Appends-nil b.taken) q;
-        whole = refl;
-        many = λ fits. rw e (omega arith);
-      };
-      well = λ h. rw e (let t = h.tried in record { failed = h.failed; zeros = h.zeros; tried = omega arith; few = omega arith });
-      offered = offered-after _ b.counts c.counts len (Err Interrupted) e short (omega arith);
-      flushes = flushes-after b.counts c.counts len (Err Interrupted) e;
-    } in
-    rw (← append-nil text) (writes-on a b c i j (j + 1) [] [] [] text [] p one)
+sends-again a b c text len i j p short few q e = search arith
 
 -- if the last write took no byte and is a fault, the writer failed in the text
 refused : (a b c : Writer) (text : List ℕ) (at len i j : ℕ) (r : Result ℕ Trouble) → Writes a b i j (take at text) [] → len ≤ 1200
@@ -88,11 +65,11 @@ refused : (a b c : Writer) (text : List ℕ) (at len i j : ℕ) (r : Result ℕ 
     → (IsWell b.counts j → is_write_fault c.counts ≡ true) → Stops a c i text
 refused a b c text at len i j r p short q e most fault =
     let one : Stops b c j ([] ++ drop at text) = record {
-      prefix = ([], (drop at text, refl), Appends-kept b.taken b.taken c.taken [] (Appends-nil b.taken) q);
+      prefix = search (arith, Appends-kept, Appends-nil);
       most = λ fits. let m = most fits in omega arith;
       fault = fault;
       within = within-after b.counts c.counts len j r e;
-      offered = offered-after _ b.counts c.counts len r e short (omega arith);
+      offered = search (arith, offered-after);
       flushes = flushes-after b.counts c.counts len r e;
     } in
     let whole = writes-stop a b c i j [] [] (take at text) (drop at text) p one in
@@ -103,7 +80,7 @@ pub refused-zero : (a b c : Writer) (text buf : List ℕ) (at n i j : ℕ) → n
     → Appends b.taken c.taken (take n buf) → c.counts ≡ write_counted (length buf) (Ok n) b.counts → Stops a c i text
 refused-zero a b c text buf at n i j none p some short q e =
     refused a b c text at (length buf) i j (Ok n) p short (nothing-more b.taken c.taken buf n none q) e (λ fits. rw e (omega arith))
-    (λ h. let f = h.failed in let z = h.zeros in rw (e, none, f, z) (grind (arith, nat_tests)))
+    (λ h. let f = h.failed in search arith)
 
 -- if the write failed, the writer failed in the text
 pub refused-failed : (a b c : Writer) (text : List ℕ) (at len i j : ℕ) → Writes a b i j (take at text) [] →
@@ -116,4 +93,4 @@ pub refused-tried : (a b c : Writer) (text : List ℕ) (at len i j : ℕ) → j 
     → Keeps b.taken c.taken → c.counts ≡ write_counted len (Err Interrupted) b.counts → Stops a c i text
 refused-tried a b c text at len i j last p short q e =
     refused a b c text at len i j (Err Interrupted) p short q e (λ fits. rw e (omega arith))
-    (λ h. let f = h.failed in let z = h.zeros in let i : b.counts.interrupted ≡ 999 = h.tried ∙ last in rw (e, f, z, i) refl)
+    (λ h. let f = h.failed in search arith)

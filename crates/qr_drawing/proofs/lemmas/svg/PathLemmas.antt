@@ -14,10 +14,7 @@ use Rattle.qr_drawing.proofs.lemmas.text.LineLemmas.{texts_below-more, texts_bel
 pub is_dark_at-inside : (margin row col : ℕ) (g : Grid) → row < g.side → col < g.side
     → is_dark_at margin g (margin + row) (margin + col) ≡ colour g row col
 unfolding is_dark_at
-is_dark_at-inside margin row col g a b =
-    let e : margin + row - margin ≡ row = omega arith in
-    let f : margin + col - margin ≡ col = omega arith in
-    rw (e, f) (grind (arith, nat_tests))
+is_dark_at-inside margin row col g a b = search arith
 
 -- the margin to the left is light
 pub is_dark_at-left : (margin y x : ℕ) (g : Grid) → x < margin → is_dark_at margin g y x ≡ false
@@ -47,26 +44,19 @@ run_path-light top margin y x g e = rw e refl
 -- no run begins to the right of a dark place
 run_path-inner : (top margin y x : ℕ) (g : Grid) → 0 < x → is_dark_at margin g y (x - 1) ≡ true → run_path top margin g y x ≡ []
 unfolding run_path begins_run
-run_path-inner top margin y x g some dark =
-    let e : begins_run margin g y x ≡ false = rw dark (grind (arith, nat_tests)) in
-    rw e refl
+run_path-inner top margin y x g some dark = search arith
 
 -- a run begins at a dark place if the place to its left is not dark
 run_path-first : (top margin y x : ℕ) (g : Grid) → is_dark_at margin g y x ≡ true → (0 < x → is_dark_at margin g y (x - 1) ≡ false)
     → run_path top margin g y x ≡ box_path x (top + y) (run_length margin g y x)
 unfolding run_path begins_run
-run_path-first top margin y x g dark light =
-    let e : begins_run margin g y x ≡ true = rw dark (grind (arith, nat_tests)) in
-    rw e refl
+run_path-first top margin y x g dark light = search arith
 
 -- if d numbers from x on pass a test and the next does not, the longest prefix that passes has the length d
 prefix_len-range : (p : ℕ → Bool) (x d n : ℕ) → d ≤ n → ((k : ℕ) → x ≤ k → k < x + d → p k ≡ true) → (d < n → p (x + d) ≡ false)
     → prefix_len p (range_with_len x n) ≡ d
 prefix_len-range p x zero zero le pass stop = refl
-prefix_len-range p x zero (suc n) le pass stop =
-    let f : x + 0 ≡ x = omega arith in
-    let e : p x ≡ false = rw (← f) (stop (omega arith)) in
-    rw e refl
+prefix_len-range p x zero (suc n) le pass stop = search arith
 prefix_len-range p x (suc d) zero le pass stop = absurd (omega arith)
 prefix_len-range p x (suc d) (suc n) le pass stop =
     let e : p x ≡ true = pass x (omega arith) (omega arith) in
@@ -97,37 +87,22 @@ module _ (top margin row col : ℕ) (g : Grid) (run : Run) (runs : List Run) (ro
         let e : margin + (k - margin) ≡ k = omega arith in
         ap (is_dark_at margin g (margin + row)) (sym e) ∙ (is_dark_at-inside margin row (k - margin) g row_in (omega arith)
         ∙ (run-colours g row col run runs are (k - margin) (omega arith) (omega arith) ∙ grind (arith, nat_tests)))
-    | inr ge ↦ is_dark_at-right margin (margin + row) k g ge ∙ grind (arith, nat_tests)
+    | inr ge ↦ search (arith, is_dark_at-right)
   ]
 
   -- the places of the run are dark
   all-dark : (k : ℕ) → margin + run.start ≤ k → k < margin + run.end → is_dark_at margin g (margin + row) k ≡ true
-  all-dark k a b = let w = at in here k (omega arith) (omega arith) ∙ grind (arith, nat_tests)
+  all-dark k a b = search (arith, at, here)
 
   -- the places before the run have no paths
   light-run : texts_below (margin + run.start) (run_path top margin g (margin + row)) ≡ texts_below (margin + col) (run_path top margin g (margin + row))
-  light-run =
-      let w = at in
-      texts_below-same _ _ _ (omega arith)
-      (λ k a b. run_path-light top margin (margin + row) k g (here k (omega arith) (omega arith) ∙ grind (arith, nat_tests)))
+  light-run = search (arith, at, texts_below-same, run_path-light, here)
 
   -- the places after the run's first have no paths
   dark-run : texts_below (margin + run.end) (run_path top margin g (margin + row)) ≡ texts_below (margin + run.start + 1) (run_path top margin g (margin + row))
-  dark-run =
-      let w = at in
-      texts_below-same _ _ _ (omega arith)
-      (λ k a b. run_path-inner top margin (margin + row) k g (omega arith) (all-dark (k - 1) (omega arith) (omega arith)))
+  dark-run = search (arith, at, texts_below-same, run_path-inner, all-dark)
 
   -- the place before the run is not dark
-  before-dark : (0 < col → colour g row col ≡ false) → 0 < margin + run.start → is_dark_at margin g (margin + row) (margin + run.start - 1) ≡ false
-  before-dark light some = let w = at in elim (cases_lt col run.start) [
-    | inl lt ↦ here (margin + run.start - 1) (omega arith) (omega arith) ∙ grind (arith, nat_tests)
-    | inr ge ↦ elim (cases_lt 0 col) [
-      | inl lt ↦ let h : true ≡ false = sym (run-colours g row col run runs are col (omega arith) (omega arith) ∙ grind (arith, nat_tests)) ∙ light lt in cc
-      | inr z ↦ is_dark_at-left margin (margin + row) (margin + run.start - 1) g (omega arith)
-    ]
-  ]
-
   -- the length of the run is that of the definition
   dark-length : run_length margin g (margin + row) (margin + run.start) ≡ run.end - run.start
   unfolding run_length
@@ -140,14 +115,11 @@ module _ (top margin row col : ℕ) (g : Grid) (run : Run) (runs : List Run) (ro
   run-added : (0 < col → colour g row col ≡ false)
       → texts_below (margin + run.end) (run_path top margin g (margin + row)) ≡ texts_below (margin + col) (run_path top margin g (margin + row)) ++ box_of top margin row run
   run-added light =
-      let w = at in
-      let path = run_path-first top margin (margin + row) (margin + run.start) g (all-dark (margin + run.start) (omega arith) (omega arith)) (before-dark light)
-      ∙ ap (box_path (margin + run.start) (top + (margin + row))) dark-length in
-      dark-run ∙ (texts_below-more _ _ ∙ (λ i. light-run i ++ path i))
+      search (arith, at, run_path-first, all-dark, here, run-colours, is_dark_at-left, dark-length, dark-run, texts_below-more, light-run)
 
 -- there are no paths to the left of the symbol
 row-begins : (top margin y : ℕ) (g : Grid) → texts_below (margin + 0) (run_path top margin g y) ≡ []
-row-begins top margin y g = texts_below-none _ _ (λ k lt. run_path-light top margin y k g (is_dark_at-left margin y k g (omega arith)))
+row-begins top margin y g = search (arith, texts_below-none, run_path-light, is_dark_at-left)
 
 -- there are no paths in the rest of a row if that rest is light
 row-ends : (top margin row col : ℕ) (g : Grid) → row < g.side → col ≤ g.side → ((c : ℕ) → col ≤ c → colour g row c ≡ false)
@@ -158,14 +130,14 @@ row-ends top margin row col g row_in le light =
     (λ k a b. run_path-light top margin (margin + row) k g (elim (cases_lt k (margin + g.side)) [
       | inl lt ↦
           let e : margin + (k - margin) ≡ k = omega arith in
-          ap (is_dark_at margin g (margin + row)) (sym e) ∙ (is_dark_at-inside margin row (k - margin) g row_in (omega arith) ∙ light (k - margin) (omega arith))
+          search (arith, is_dark_at-inside)
       | inr ge ↦ is_dark_at-right margin (margin + row) k g ge
     ]))
 
 -- the paths of a row are those up to column `col` and the boxes of the runs from there on
 boxes-from : (top margin row col : ℕ) (g : Grid) (runs : List Run) → row < g.side → col ≤ g.side → (0 < col → colour g row col ≡ false) → AreRunsFrom g row col runs
     → row_path top margin g (margin + row) ≡ texts_below (margin + col) (run_path top margin g (margin + row)) ++ flat_map (box_of top margin row) runs
-boxes-from top margin row col g [] row_in le light are = row-ends top margin row col g row_in le (λ c l. are.dark c l) ∙ sym (append-nil _)
+boxes-from top margin row col g [] row_in le light are = search (arith, row-ends, append-nil)
 boxes-from top margin row col g (run ∷ runs) row_in le light are =
     let w = run-in g row col run runs are in
     boxes-from top margin row run.end g runs row_in w.2 (λ _. run-colours g row col run runs are run.end (omega arith) (omega arith) ∙ grind (arith, nat_tests))
@@ -183,18 +155,16 @@ row-boxes top margin row g runs row_in are =
 -- a light row has no paths
 row_path-light : (top margin y : ℕ) (g : Grid) → ((x : ℕ) → is_dark_at margin g y x ≡ false) → row_path top margin g y ≡ []
 unfolding row_path texts_below
-row_path-light top margin y g none = texts_below-none _ _ (λ k lt. run_path-light top margin y k g (none k))
+row_path-light top margin y g none = search (arith, texts_below-none, run_path-light)
 
 -- there are no paths above the square of a symbol
 pub symbol-begins : (top margin : ℕ) (g : Grid) → texts_below (margin + 0) (row_path top margin g) ≡ []
-symbol-begins top margin g =
-    texts_below-none _ _ (λ k lt. row_path-light top margin k g (λ x. is_dark_at_above margin k x g (omega arith)))
+symbol-begins top margin g = search (arith, texts_below-none, row_path-light, is_dark_at_above)
 
 -- there are no paths below the square of a symbol
 pub symbol-ends : (top margin row : ℕ) (g : Grid) → row ≡ g.side → symbol_path top margin g ≡ texts_below (margin + row) (row_path top margin g)
 unfolding symbol_path
-symbol-ends top margin row g e =
-    rw e (texts_below-same _ _ _ (omega arith) (λ k a b. row_path-light top margin k g (λ x. is_dark_at_below margin k x g a)))
+symbol-ends top margin row g e = search (arith, texts_below-same, row_path-light, is_dark_at_below)
 
 -- the square with the index k is that of the symbol with the index k
 pub square_at-item : {T : Type 0} (grid : T → Grid) (xs : List T) (k : ℕ) (x : T) → k < length xs → x ≡ get_or xs k x → square_at (map grid xs) k ≡ grid x
@@ -207,34 +177,25 @@ one-width grid margin k xs x one lt is =
     let n : length (map grid xs) ≡ length xs = length-map xs grid in
     let here : (square_at (map grid xs) k).side ≡ (square_at (map grid xs) 0).side =
     All-get_or (λ g. g.side ≡ (square_at (map grid xs) 0).side) (map grid xs) k (light 0) (omega arith) one in
-    ap (λ m. 2 * margin + m) (ap (λ g. g.side) (sym (square_at-item grid xs k x lt is)) ∙ here)
+    cc (square_at-item grid xs k x lt is, here)
 
 -- the texts of a list of k symbols
 pub texts-of-symbols : {T : Type 0} (grid : T → Grid) (text : Grid → List ℕ) (xs : List T) (k : ℕ) →
     k ≡ length xs → flat_map text (map grid xs) ≡ texts_below k (λ n. text (square_at (map grid xs) n))
-texts-of-symbols grid text xs k e =
-    texts-of-items text (map grid xs) (light 0)
-    ∙ ap (λ m. texts_below m (λ n. text (square_at (map grid xs) n))) (length-map xs grid ∙ sym e)
+texts-of-symbols grid text xs k e = cc (texts-of-items text (map grid xs) (light 0), length-map xs grid)
 
 -- the paths of all symbols are the paths of the first k, if k is their number
 pub stack-ends : {T : Type 0} (grid : T → Grid) (margin k : ℕ) (xs : List T) → k ≡ length xs → stack_path margin (map grid xs)
     ≡ texts_below k (λ n. symbol_path (n * raster_width margin (square_at (map grid xs) n)) margin (square_at (map grid xs) n))
 unfolding stack_path
-stack-ends grid margin k xs e =
-    let n : length (map grid xs) ≡ k = length-map xs grid ∙ sym e in
-    ap (λ m. texts_below m (λ n. symbol_path (n * raster_width margin (square_at (map grid xs) n)) margin (square_at (map grid xs) n))) n
+stack-ends grid margin k xs e = cc (length-map xs grid)
 
 -- the path of the symbol with the index k is the path at its top
 pub stack-at : {T : Type 0} (grid : T → Grid) (margin k top : ℕ) (xs : List T) (x : T) → HaveOneSide (map grid xs) → k < length xs → x ≡ get_or xs k x
     → top ≡ k * raster_width margin (square_at (map grid xs) 0)
     → symbol_path (k * raster_width margin (square_at (map grid xs) k)) margin (square_at (map grid xs) k) ≡ symbol_path top margin (grid x)
 stack-at grid margin k top xs x one lt is e =
-    let s = square_at-item grid xs k x lt is in
-    rw (s, one-width grid margin k xs x one lt is, e) refl
-
--- k + 1 times a number is k times the number and once more
-next-multiple : (k w : ℕ) → k * w + w ≡ (k + 1) * w
-next-multiple k w = let e : k + 1 ≡ suc k = omega arith in rw e (sym (suc-mul k w))
+    cc (square_at-item grid xs k x lt is, one-width grid margin k xs x one lt is)
 
 -- the top of the next symbol is the top of this one and its height
 pub next-top : {T : Type 0} (grid : T → Grid) (margin k top width : ℕ) (xs : List T) (x : T) → HaveOneSide (map grid xs) → k < length xs → x ≡ get_or xs k x
@@ -242,7 +203,7 @@ pub next-top : {T : Type 0} (grid : T → Grid) (margin k top width : ℕ) (xs :
     → top + width ≡ (k + 1) * raster_width margin (square_at (map grid xs) 0)
 next-top grid margin k top width xs x one lt is e f =
     let w = f ∙ one-width grid margin k xs x one lt is in
-    rw (e, w) (next-multiple k (raster_width margin (square_at (map grid xs) 0)))
+    grind (arith, suc-mul)
 
 -- a document is the same if its seven pieces are grouped as in the definition and as they are written
 pieces : (a b c d e f g : List ℕ) → a ++ b ++ c ++ (d ++ e ++ f) ++ g ≡ ((a ++ b ++ c ++ d) ++ e) ++ (f ++ g)
@@ -259,10 +220,4 @@ pub document-parts : {T : Type 0} (grid : T → Grid) (margin width height : ℕ
     svg_document margin (map grid xs) ≡ (head width height ++ stack_path margin (map grid xs)) ++ tail
 unfolding svg_document foreground head tail lines_of
 document-parts grid margin width height xs x some e f =
-    let n : length (map grid xs) ≡ length xs = length-map xs grid in
-    let w : raster_width margin (square_at (map grid xs) 0) ≡ width =
-    ap (raster_width margin) (get_or-map grid xs 0 x (light 0) some) ∙ sym e in
-    let h : raster_width margin (square_at (map grid xs) 0) * length (map grid xs) ≡ height = (λ i. w i * n i) ∙ sym f in
-    (λ i. lines_of (w i) (h i) margin (map grid xs))
-    ∙ pieces declaration (opening width height) (background width height) (codes "<path fill=\"#000000\" d=\"") (stack_path margin (map grid xs))
-    (codes "\"/>\n") closing
+    cc (length-map xs grid, get_or-map grid xs 0 x (light 0) some, pieces declaration (opening width height) (background width height) (codes "<path fill=\"#000000\" d=\"") (stack_path margin (map grid xs)) (codes "\"/>\n") closing)

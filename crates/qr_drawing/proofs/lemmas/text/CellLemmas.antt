@@ -1,6 +1,6 @@
 -- The cells of a line by the bits of their modules, and the room that they take.
-use Rattle.std.proofs.Common.{◌≡◌, ◌++◌, ◌∙◌, ◌<◌, ◌≤◌, ◌+◌, ◌-◌, ◌*◌, ◌/◌, ◌%◌, ◌^◌, ◌&&◌, ℕ, Bool, true, false, not, List, [], ◌∷◌, length, get_or, nat_eq, length-append, append-nil, append_assoc, length-drop, take, drop, refl, sym, ap, arith}
-use Rattle.std.proofs.{Math.Nat.add-mul, Math.Nat.mul-le-mul_right, Math.Seq.take-append_seam, lemmas.List.drop_all}
+use Rattle.std.proofs.Common.{◌≡◌, ◌++◌, ◌∙◌, ◌<◌, ◌≤◌, ◌+◌, ◌-◌, ◌*◌, ◌/◌, ◌%◌, ◌^◌, ◌&&◌, ℕ, Bool, true, false, not, List, [], ◌∷◌, length, get_or, nat_eq, length-append, append_assoc, take, refl, sym, ap, arith}
+use Rattle.std.proofs.{Math.Nat.add-mul, Math.Nat.mul-le-mul_right}
 use Rattle.std.specs.Cmp.Lexicographic.{pointwise, same_text}
 use Rattle.qr_matrix.specs.{Grid.{Grid, colour, is_same}, BitRow.has_bit, Sums.all_below}
 use Rattle.qr_matrix.proofs.Facts.{&&-left, &&-right, below-at, has_bit-shr, low-bits, same-same}
@@ -8,7 +8,6 @@ use Rattle.qr_drawing.specs.{Raster.{is_dark_at, raster_width, texts_below}, Tex
 use Rattle.qr_drawing.specs.Steps.Text.{AreDark, bits_text, cell_at, cell_room, cell_text, pair_text, top_row}
 use Rattle.qr_drawing.specs.declared.text.{TheConstants.{ASCII_QUADS, HALF_BLOCK_PAIRS}, TextStyle.TextStyle}
 use Rattle.qr_drawing.specs.declared.text.TextStyle.TheVariants.{Plain, Inverse, HalfBlocks}
-use borrow.Rule.Slice.PartMut.{put_mid}
 use Rattle.qr_drawing.proofs.lemmas.text.LineLemmas.{added-more, texts_below-add, texts_below-alike, texts_below-length}
 use Rattle.qr_drawing.proofs.lemmas.svg.PathLemmas.{is_dark_at-inside, is_dark_at-left, is_dark_at-right}
 
@@ -70,23 +69,13 @@ unfolding has_bit texts_below
 all-quads = refl
 
 -- a text of the table is that of its four modules
-pub quad-at : (b : ℕ) → b < 16 → get_or ASCII_QUADS b [] ≡ bits_text 4 Plain b 0
+quad-at : (b : ℕ) → b < 16 → get_or ASCII_QUADS b [] ≡ bits_text 4 Plain b 0
 quad-at b lt = same_text _ _ (sym (below-at 16 (λ b. pointwise nat_eq (get_or ASCII_QUADS b []) (bits_text 4 Plain b 0)) all-quads b lt))
 
--- the four lowest bits suffice for four modules of a plain text
-pub quad-plain : (upper lower : ℕ) → bits_text 4 Plain (upper % 16) 0 ≡ bits_text 4 Plain upper lower
+-- the text of the table for the four lowest bits is that of four modules
+pub quad-plain : (upper lower : ℕ) → get_or ASCII_QUADS (upper % 16) [] ≡ bits_text 4 Plain upper lower
 quad-plain upper lower =
-    texts_below-alike 4 _ _ (λ k lt. ap (λ b. cell_text Plain b false) (low-bits 4 upper k lt))
-
--- the texts of four modules and of the next four, one after the other, are the text of eight modules
-pub eight-joined : (bits : ℕ) (a b : List ℕ) → length a ≡ 8 → a ≡ bits_text 4 Plain (bits % 16) 0 → b ≡ bits_text 4 Plain (bits / 16) 0
-    → put_mid 8 8 (a ++ 32 ∷ 32 ∷ 32 ∷ 32 ∷ 32 ∷ 32 ∷ 32 ∷ 32 ∷ []) b ≡ bits_text 8 Plain bits 0
-eight-joined bits a b l p q =
-    let light = 32 ∷ 32 ∷ 32 ∷ 32 ∷ 32 ∷ 32 ∷ 32 ∷ 32 ∷ [] in
-    let first : take 8 (a ++ light) ≡ a = ap (λ n. take n (a ++ light)) (sym l) ∙ take-append_seam a light in
-    let rest : drop 8 (drop 8 (a ++ light)) ≡ [] = drop_all 8 (drop 8 (a ++ light)) (omega (arith, length-drop 8 (a ++ light), length-append a light, l)) in
-    let whole : put_mid 8 8 (a ++ light) b ≡ a ++ b = rw first (ap (λ t. a ++ (b ++ t)) rest ∙ ap (λ t. a ++ t) (append-nil b)) in
-    cc (whole, p, q, quad-plain bits 0, bits-split 4 4 Plain bits 0)
+    quad-at (upper % 16) (omega arith) ∙ texts_below-alike 4 _ _ (λ k lt. ap (λ b. cell_text Plain b false) (low-bits 4 upper k lt))
 
 -- each of the four lowest bits of `15 - bits` is the opposite bit: computed
 all-others : all_below 16 (λ b. all_below 4 (λ k. is_same (has_bit (15 - b) k) (not (has_bit b k)))) ≡ true
@@ -98,26 +87,10 @@ other-bit : (b k : ℕ) → b < 16 → k < 4 → has_bit (15 - b) k ≡ not (has
 other-bit b k l m = same-same _ _ (below-at 4 (λ k. is_same (has_bit (15 - b) k) (not (has_bit b k))) (below-at 16 (λ b. all_below 4 (λ k. is_same (has_bit (15 - b) k) (not (has_bit b k)))) all-others b l) k m)
 
 -- four modules of an inverse text are written as the opposite modules of a plain text
-pub quad-inverse : (upper lower : ℕ) → bits_text 4 Plain (15 - upper % 16) 0 ≡ bits_text 4 Inverse upper lower
+pub quad-inverse : (upper lower : ℕ) → get_or ASCII_QUADS (15 - upper % 16) [] ≡ bits_text 4 Inverse upper lower
 quad-inverse upper lower =
-    texts_below-alike 4 _ _
+    quad-at (15 - upper % 16) (omega arith) ∙ texts_below-alike 4 _ _
     (λ k lt. ap (λ b. cell_text Plain b false) (other-bit (upper % 16) k (omega arith) lt ∙ ap (λ b. not b) (low-bits 4 upper k lt)))
-
--- the same of eight bits: computed
-all-eight-others : all_below 256 (λ b. all_below 8 (λ k. is_same (has_bit (255 - b) k) (not (has_bit b k)))) ≡ true
-unfolding has_bit
-all-eight-others = refl
-
--- eight cells of a plain text show the upper modules
-pub eight-plain : (upper lower : ℕ) → bits_text 8 Plain upper 0 ≡ bits_text 8 Plain upper lower
-eight-plain upper lower = refl
-
--- eight cells of an inverse text show the opposite of the upper modules
-pub eight-inverse : (upper lower : ℕ) → upper < 256 → bits_text 8 Plain (255 - upper) 0 ≡ bits_text 8 Inverse upper lower
-eight-inverse upper lower l =
-    texts_below-alike 8 _ _
-    (λ k lt. ap (λ b. cell_text Plain b false) (same-same _ _ (below-at 8 (λ k. is_same (has_bit (255 - upper) k) (not (has_bit upper k)))
-    (below-at 256 (λ b. all_below 8 (λ k. is_same (has_bit (255 - b) k) (not (has_bit b k)))) all-eight-others upper l) k lt)))
 
 -- the bits of two modules and of the two below them, as one number: computed
 all-pairs : all_below 4 (λ a. all_below 4 (λ b. all_below 2 (λ k. is_same (has_bit (a + b * 4) k) (has_bit a k) && is_same (has_bit (a + b * 4) (2 + k)) (has_bit b k)))) ≡ true
@@ -180,13 +153,12 @@ room-left h t n d o b room text most e le fits =
 
 -- if there was room for four characters of half blocks, then after two there is room for two more
 pub room-pair : (h t : List ℕ) (pair : ℕ) → t ≡ h ++ pair_text pair → length h + 12 ≤ 1200 → length t + 6 ≤ 1200
-room-pair h t pair e fits =
-    room-left h t 2 2 4 3 1200 _ (λ k. cell-length HalfBlocks _ _) e (omega arith) fits
+room-pair h t pair e fits = room-left h t 2 2 4 3 1200 _ (λ k. cell-length HalfBlocks _ _) e (omega arith) fits
 
--- if there was room for eight of them, then after four there is room for four more
-pub room-quad : (h t : List ℕ) (upper lower : ℕ) → t ≡ h ++ bits_text 4 HalfBlocks upper lower → length h + 24 ≤ 1200 → length t + 12 ≤ 1200
-room-quad h t upper lower e fits =
-    room-left h t 4 4 8 3 1200 _ (λ k. cell-length HalfBlocks _ _) e (omega arith) fits
+-- if there was room for eight cells, then after four there is room for four more
+pub room-quad : (style : TextStyle) (h t : List ℕ) (upper lower : ℕ) → t ≡ h ++ bits_text 4 style upper lower → length h + 8 * cell_room style ≤ 1200
+    → length t + 4 * cell_room style ≤ 1200
+room-quad style h t upper lower e fits = room-left h t 4 4 8 (cell_room style) 1200 _ (λ k. cell-length style _ _) e (omega arith) fits
 
 -- if there was room for `count` cells of a row, then after `done` of them there is room for n more
 pub room-cells : (style : TextStyle) (margin : ℕ) (g : Grid) (row first done n count : ℕ) (h t : List ℕ) →

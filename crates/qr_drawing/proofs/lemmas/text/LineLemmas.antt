@@ -134,13 +134,24 @@ pub put-next : (a b c : Writer) (i j k m n : ℕ) (h0 h1 h2 piece : List ℕ) (t
 put-next a b c i j k m n h0 h1 h2 piece text here same p q =
     rw (same, texts_below-more m text) (writes-on a b c i j k h0 h1 h2 (texts_below m text) (text m) p (rw here q))
 
--- if the writer failed in the text of place m of n, it failed in the texts of n places
+-- if the texts of m places and then the text of place m are written, the texts of m + 1 places are written
+pub put-whole : (a b : Writer) (i j m : ℕ) (h0 h1 piece : List ℕ) (text : ℕ → List ℕ) → text m ≡ piece → Writes a b i j ((h0 ++ texts_below m text) ++ piece) h1
+    → Writes a b i j (h0 ++ texts_below (m + 1) text) h1
+put-whole a b i j m h0 h1 piece text here p = rw (texts_below-more m text, here, ← append_assoc h0 (texts_below m text) piece) p
+
+-- if the writer failed in the text of place m of n, after the texts before it, it failed in the texts of n places
+pub stops-at : (a c : Writer) (i m n : ℕ) (h0 piece : List ℕ) (text : ℕ → List ℕ) → text m ≡ piece → m < n
+    → Stops a c i ((h0 ++ texts_below m text) ++ piece) → Stops a c i (h0 ++ texts_below n text)
+stops-at a c i m n h0 piece text here lt q =
+    let rest = texts_below (n - (m + 1)) (λ i. text (m + 1 + i)) in
+    let e : m + 1 + (n - (m + 1)) ≡ n = omega arith in
+    let whole : (texts_below m text ++ piece) ++ rest ≡ texts_below n text =
+    cc (here, texts_below-more m text, texts_below-add (m + 1) (n - (m + 1)) text, e) in
+    rw (← whole) (stops-first a c i h0 (texts_below m text ++ piece) rest (rw append_assoc at q))
+
+-- the same if the texts before it are written, and the writer failed after that
 pub put-stops : (a b c : Writer) (i j m n : ℕ) (h0 h1 piece : List ℕ) (text : ℕ → List ℕ) →
     text m ≡ piece → m < n → Writes a b i j (h0 ++ texts_below m text) h1 → Stops b c j (h1 ++ piece) →
     Stops a c i (h0 ++ texts_below n text)
 put-stops a b c i j m n h0 h1 piece text here lt p q =
-    let rest = texts_below (n - (m + 1)) (λ i. text (m + 1 + i)) in
-    let e : m + 1 + (n - (m + 1)) ≡ n = omega arith in
-    let whole : (texts_below m text ++ text m) ++ rest ≡ texts_below n text =
-    cc (texts_below-more m text, texts_below-add (m + 1) (n - (m + 1)) text, e) in
-    rw (← whole) (stops-first a c i h0 (texts_below m text ++ text m) rest (writes-stop a b c i j h0 h1 (texts_below m text) (text m) p (rw here q)))
+    stops-at a c i m n h0 piece text here lt (rw append_assoc (writes-stop a b c i j h0 h1 (texts_below m text) piece p q))

@@ -1,6 +1,7 @@
 -- The drawing that a command line and an input ask for, or the fault that occurs before any byte is written.
+use Rattle.std.proofs.lemmas.Grind.{common_steps}
 use Rattle.qr_bits.specs.declared.interpretation.Interpretation.TheVariants.{Default}
-use Rattle.std.proofs.Common.{◌≡◌, ◌∙◌, ◌≤◌, ℕ, true, false, List, [], ◌∷◌, take, Option, None, Some, Result, Ok, Err, refl, sym, min, length, append-nil, arith, inl, inr, ◌⊎◌}
+use Rattle.std.proofs.Common.{◌≡◌, ◌≤◌, ℕ, true, false, List, [], ◌∷◌, take, Option, None, Some, Result, Ok, Err, refl, sym, min, length, append-nil, arith, inl, inr, ◌⊎◌}
 use Rattle.std.proofs.lemmas.{Bool.{cases_lt, false≢true}, List.take_min, Grind.common_steps}
 use Rattle.std.{proofs.lemmas.List.Elements.{All-cons, All-head, All-nil}, specs.List.All}
 use Rattle.qr_drawing.specs.Drawing.{HaveOneSide}
@@ -58,7 +59,6 @@ pub drawn-for-one : (s : SettingsView) (rule : Rule) (input : List ℕ) (version
     → version ≡ smallest_of s → rule ≡ rule_for s → (input ≡ [] → ⊥) → IsSymbol version s.level rule Default input symbol.version symbol.mask symbol.matrix
     → IsReadBack symbol.version rule Default input symbol.matrix → symbols ≡ symbol ∷ [] → AreDrawnFor s input symbols
 drawn-for-one s rule input version symbol symbols one least e same some made read alone =
-    let from = made.version.least in
     let few : length input ≤ 7089 = version-short symbol.version s.level rule Default input (omega arith) made.version.most made.version.fits in
     rw alone (record {
       asked = search arith;
@@ -92,8 +92,8 @@ drawn-for-series s rule input version symbols many least most e same some series
     | inl i ↦ i
     | inr i ↦ search (arith, long-has-no-series)
   ];
-  some = series-some input s.level rule Default version symbols series;
-  few = series-few input s.level rule Default version symbols series;
+  some = search (arith, series-some);
+  few = search (arith, series-few);
   one_side = one-side (squares_of symbols) (side_of version) (series-side input s.level rule Default version symbols series);
 }
 
@@ -116,7 +116,7 @@ same-fault p q = cc
 -- a command line without settings asks for no input
 refused : {words : List Text} {why : Reason} {r : Result DrawingJob Fault} → settings_for words ≡ Err why →
     ReadsInput words → r ≡ Err fault.Memory
-refused {why = why} e i = let bad : Ok i.settings ≡ Err why = sym i.taken ∙ e in cc
+refused {why = why} e i = cc
 
 -- every fault of the command line is a correct result
 pub prepares-usage : (words : List Text) (in0 : Reader) (u : UsageFault) → IsUsageFault (settings_for words) u
@@ -147,7 +147,7 @@ module _ (words : List Text) (s : SettingsView) (taken : settings_for words ≡ 
       s.string ≡ Some text → buf ≡ text → n ≡ min INPUT_MAX (length buf) →
       IsJobFor s (held s (take n buf)) r → Prepares words in0 in0 r
   prepares-string in0 text buf n r string is cut h = unread words in0 r
-      (λ i. let same : Ok i.settings ≡ Ok s = sym i.taken ∙ taken in let none = i.holds in cc)
+      (λ i. cc)
       (λ given. answer-for given (take n buf) r (input_for-string s text given buf n string is cut) h)
 
   -- if the input is what the reader returned, its job is correct for the command line
@@ -156,22 +156,12 @@ module _ (words : List Text) (s : SettingsView) (taken : settings_for words ≡ 
   prepares-reader in0 in1 bytes buf r string is done h = record {
     given = bytes;
     is_input = done.is_input;
-    reads = record { unread = λ n. absurd (n (has string)); read = λ i. inl done.all };
+    reads = search (arith, unread, has);
     answer = answer-for bytes buf r (rw (string, is) refl) h;
-    read_fault = λ z. (λ e. absurd (rw e at h), λ t. absurd (false≢true (sym (done.well z) ∙ t)));
+    read_fault = search (arith, false≢true);
     within = done.within;
   }
 
   -- if the reader failed, or memory for the input was refused, this fault is correct for the command line
   pub prepares-unread : (in0 in1 : Reader) (f : Fault) → s.string ≡ None → StopsReading in0 in1 f → Prepares words in0 in1 (Err f)
-  prepares-unread in0 in1 f string stops = let i = any-input in0.remaining in record {
-    given = i.0;
-    is_input = i.1;
-    reads = record {
-      unread = λ n. absurd (n (has string));
-      read = λ _. elim stops.only [ inl e ↦ inr (inl (rw e refl)) | inr e ↦ inr (inr (rw e refl)) ];
-    };
-    answer = elim stops.only [ inl e ↦ rw e (has string, tt) | inr e ↦ rw e (tt, tt) ];
-    read_fault = λ z. (λ e. (stops.read_fault z).0 (same-fault refl e), λ t. rw ((stops.read_fault z).1 t) refl);
-    within = stops.within;
-  }
+  prepares-unread in0 in1 f string stops = let i = any-input in0.remaining in search (arith, unread, has, same-fault)

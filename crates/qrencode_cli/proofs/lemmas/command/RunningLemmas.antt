@@ -1,13 +1,13 @@
 -- The parts of a run make a correct run.
 use Rattle.qrencode_cli.proofs.lemmas.command.AskingLemmas.{same-fault}
-use Rattle.std.proofs.Common.{◌≤◌, arith, ◌≡◌, ℕ, List, [], Option, Result, Ok, Err, OnOk, OnErr, IfErr, MatchResult, if◌then◌else◌, inl, is_err, is_ok, max, true, ◌+◌, false, inr, ap, refl, sym, ◌∙◌, append-nil, length}
+use Rattle.std.proofs.Common.{◌≤◌, arith, ◌≡◌, ℕ, List, [], Option, Result, Ok, Err, OnOk, OnErr, IfErr, MatchResult, if◌then◌else◌, inl, is_err, is_ok, max, true, false, inr, refl, append-nil, length}
 use Rattle.{std.specs.Io.KnownBytes.{Appends, Keeps}, clap.specs.Walk.Text}
-use Rattle.std.proofs.{lemmas.Bool.false≢true, lemmas.Bool.Decides.nat_tests, KnownBytes.Appends-kept}
+use Rattle.std.proofs.{lemmas.Bool.false≢true, KnownBytes.Appends-kept}
 use Rattle.qrencode_cli.specs.Command.{DrawnWhole, ErrorHolds, HasDrawing, IsFault, OutputHolds, Runs}
 use Rattle.qrencode_cli.specs.{Fault.fault_line, declared.fault.Fault.Fault}
 use Rattle.qrencode_cli.specs.Steps.Command.{Attempts, Draws, IsEarly, drawing_of_job}
 use Rattle.qr_devices.specs.Device.{AppendsBeginning, IsWrittenWithin, Reader, Writer, counted, flush_counted, is_write_fault, no_writes}
-use Rattle.qr_devices.specs.declared.device.{Trouble.Trouble, WriteCounts.WriteCounts}
+use Rattle.qr_devices.specs.declared.device.{Trouble.Trouble}
 use Rattle.qrencode_cli.specs.declared.fault.Fault.TheVariants as fault
 use Rattle.qr_drawing.specs.declared.pen.{DrawFault.DrawFault, TheConstants.WRITE_MAX}
 
@@ -17,10 +17,6 @@ pub draws-part : (old new : Writer) (drawing : List ℕ) → AppendsBeginning ol
     → new.counts.offered ≤ max old.counts.offered WRITE_MAX → new.counts.flushes ≡ old.counts.flushes → Draws old new drawing (Err fault.Write)
 draws-part old new drawing part well most within offered flushes = search arith
 
--- in counts without a write fault no write failed, and none took no byte
-clean : (c : WriteCounts) → is_write_fault c ≡ false → (c.failed ≡ 0) × (c.zeros ≡ 0)
-clean c well = (grind (arith, nat_tests), grind (arith, nat_tests))
-
 -- the writer took the drawing, and then was flushed
 module _ (old mid new : Writer) (drawing : List ℕ) (f : Result (Unit {0}) Trouble) (all : Appends old.taken mid.taken drawing)
     (well : old.counts ≡ no_writes → is_write_fault mid.counts ≡ false) (many : old.counts ≡ no_writes → mid.counts.taken ≡ counted (length drawing))
@@ -28,33 +24,15 @@ module _ (old mid new : Writer) (drawing : List ℕ) (f : Result (Unit {0}) Trou
     (flushes : mid.counts.flushes ≡ old.counts.flushes) (keeps : Keeps mid.taken new.taken) (e : new.counts ≡ flush_counted f mid.counts) where
   -- the writer received the whole drawing, and `f` says whether the flush succeeded
   drawn-whole : DrawnWhole (is_ok f) old new drawing
-  drawn-whole = record {
-    grows = Appends-kept old.taken mid.taken new.taken drawing all keeps;
-    many = λ z. rw e (many z);
-    flushed = rw e (ap (λ n. counted (n + 1)) flushes);
-    ended = rw e refl;
-  }
+  drawn-whole = search (arith, Appends-kept)
 
   -- if the flush succeeded, the drawing was written and flushed
   pub draws-whole : is_ok f ≡ true → Draws old new drawing (Ok tt)
-  draws-whole is = record {
-    ok = rw is at drawn-whole;
-    err = tt;
-    fault = λ z. (λ bad. cc, λ i. absurd (false≢true (sym (well z) ∙ rw (e, is) at i)));
-    within = λ z. let w = within z in rw (e, is) (record { faults = w.faults; interrupted = w.interrupted });
-    offered = rw e offered;
-  }
+  draws-whole is = search (arith, drawn-whole, false≢true)
 
   -- if the flush failed, the result is a write fault
   pub draws-unflushed : is_ok f ≡ false → Draws old new drawing (Err fault.Write)
-  draws-unflushed is = record {
-    ok = tt;
-    err = (refl, inr (rw is at drawn-whole));
-    fault = λ z. (λ _. rw (e, is) (grind (arith, nat_tests)), λ _. refl);
-    within = λ z. let w = within z in let i = w.interrupted in
-        rw (e, is) (record { faults = let c = clean mid.counts (well z) in omega arith; interrupted = i });
-    offered = rw e offered;
-  }
+  draws-unflushed is = grind (arith, drawn-whole)
 
 -- a whole text is a prefix of itself
 begins-all : (old new : Option (List ℕ)) (text : List ℕ) → Appends old new text → AppendsBeginning old new text
@@ -103,10 +81,7 @@ runs words in0 in1 out0 out1 err0 err1 r status (inl (job, h, d)) tells is withi
       };
       tells = tells;
       status_is = is;
-      read_fault = λ z. (
-        λ bad. let same : fault.Read ≡ fault.Write = (rw bad at d.err).0 in cc,
-        λ t. let bad : Ok job ≡ Err fault.Read = (h.read_fault z).1 t in cc,
-      );
+      read_fault = search arith;
       write_fault = d.fault;
       input_within = h.within;
       out_within = d.within;
@@ -117,7 +92,7 @@ runs words in0 in1 out0 out1 err0 err1 r status (inr (f, e, h, same)) tells is w
   given = h.given;
   is_input = h.is_input;
   is_fault = rw e h.answer.0;
-  shows = rw e (shows-nothing words h.given out0 out1 f h.answer.1 same);
+  shows = search (arith, shows-nothing);
   reads = rw e (record {
     unread = h.reads.unread;
     read = λ i. elim (h.reads.read i) [
@@ -128,8 +103,8 @@ runs words in0 in1 out0 out1 err0 err1 r status (inr (f, e, h, same)) tells is w
   });
   tells = tells;
   status_is = is;
-  read_fault = λ z. let k = h.read_fault z in rw e (λ bad. k.0 (rw (same-fault refl bad) refl), λ t. rw (same-fault refl (k.1 t)) refl);
-  write_fault = λ z. (λ bad. absurd (rw (same-fault e bad) at h.answer.1), λ t. absurd (false≢true (rw (same, z) at t)));
+  read_fault = search (arith, same-fault);
+  write_fault = search (arith, same-fault, false≢true);
   input_within = h.within;
   out_within = λ z. rw (same, z) (search arith);
   err_within = within;

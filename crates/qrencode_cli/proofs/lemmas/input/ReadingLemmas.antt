@@ -1,6 +1,6 @@
 -- The invariant of the loop that reads the input.
-use Rattle.std.proofs.Common.{◌≡◌, ◌+◌, ◌<◌, ◌≤◌, ◌++◌, ◌∙◌, ℕ, List, [], false, length, length-append, take, Option, Some, None, Ok, Err, arith, rules, ap, refl, sym, append-nil, inl, inr, ◌⊎◌, ◌-◌, min}
-use Rattle.std.proofs.{lemmas.List.take_all, lemmas.List.take-append-le, lemmas.List.length-take, lemmas.List.length-take-le, lemmas.Bool.Decides.nat_tests, lemmas.Bool.false≢true, Math.Seq.take-append_seam, KnownBytes.Consumes-trans}
+use Rattle.std.proofs.Common.{◌≡◌, ◌+◌, ◌<◌, ◌≤◌, ◌++◌, ℕ, List, [], false, length, length-append, take, Option, Some, None, Ok, Err, arith, rules, refl, append-nil, inl, inr, ◌⊎◌, ◌-◌, min}
+use Rattle.std.proofs.{lemmas.List.take_all, lemmas.List.take-append-le, lemmas.List.length-take, lemmas.List.length-take-le, lemmas.Bool.false≢true, Math.Seq.take-append_seam, KnownBytes.Consumes-trans}
 use Rattle.{qr_bits.specs.declared.modes.TheConstants.INPUT_MAX, std.specs.Io.KnownBytes.{Consumes, IsAtEnd, Keeps}}
 use Rattle.qrencode_cli.specs.{Input.{IsInputOf, IsReadWithin}, Steps.Command.{HasRead, StopsReading}}
 use Rattle.qrencode_cli.specs.declared.fault.Fault.TheVariants as fault
@@ -34,7 +34,7 @@ IsInputOf-read (Some x) (Some y) bytes p low (inr high) =
 
 -- counts without a fault are within bounds
 counted-well : (c : ReadCounts) (len i : ℕ) → len ≤ INPUT_MAX → i ≤ 999 → IsCounted c len i → (is_read_fault c ≡ false) × IsReadWithin c
-counted-well c len i short few k = (rw (k.failed, k.interrupted_is) (grind (arith, nat_tests)), search rules)
+counted-well c len i short few k = search arith
 
 -- before the first read there are no bytes and no interruptions
 pub reading-begins : (a : Reader) (bytes : List ℕ) → bytes ≡ [] → IsReading a a bytes 0
@@ -48,21 +48,13 @@ module _ (old a b : Reader) (bytes buf chunk : List ℕ) (n i most room : ℕ) (
   -- after one more read its bytes stand after those that were read before
   pub reading-more : (rest more : List ℕ) → more ≡ bytes ++ take n (buf ++ rest) → IsReading old b more i
   reading-more rest more m =
-      let fits : length bytes + length buf ≤ INPUT_MAX = omega (arith, length-take room chunk) in
-      let len = length-append bytes (take n buf) ∙ ap (λ k. length bytes + k) (length-take-le n buf le) in
-      rw (m, take-append-le n buf rest le) (record {
-        given = Consumes-trans old.remaining a.remaining b.remaining bytes (take n buf) h.given q;
-        bounded = omega arith;
-        few = h.few;
-        counted = λ z. let k = h.counted z in rw (e, len) (search rules);
-      })
+      search (arith, length-take, length-append, length-take-le, take-append-le, Consumes-trans)
 
   -- if memory for the bytes of this read is refused, reading stops with lack of memory
   pub stops-memory : StopsReading old b fault.Memory
   stops-memory =
       let r = reading-more [] _ refl in
-      let w = λ (z : old.counts ≡ no_reads). counted-well _ _ _ r.bounded r.few (r.counted z) in
-      record { only = inr refl; read_fault = λ z. (λ bad. cc, λ t. absurd (false≢true (sym (w z).0 ∙ t))); within = λ z. (w z).1 }
+      search (arith, counted-well, false≢true)
 
 -- one more interrupted read changes only the number of interruptions
 pub reading-again : (old a b : Reader) (bytes : List ℕ) (len i : ℕ) → IsReading old a bytes i →
@@ -79,13 +71,7 @@ stops-read old a b bytes len i Failed h small last e = search rules
 
 -- if `INPUT_MAX` bytes were read, the reader has returned the input
 pub has-read-full : (old a : Reader) (bytes : List ℕ) (i : ℕ) → IsReading old a bytes i → INPUT_MAX ≤ length bytes → HasRead old a bytes
-has-read-full old a bytes i h high = let low = h.bounded in record {
-  is_input = IsInputOf-read old.remaining a.remaining bytes h.given h.bounded (inr high);
-  short = h.bounded;
-  all = (h.given, λ z. (h.counted z).given, λ z. inr (omega arith));
-  well = λ z. (counted-well _ _ _ h.bounded h.few (h.counted z)).0;
-  within = λ z. (counted-well _ _ _ h.bounded h.few (h.counted z)).1;
-}
+has-read-full old a bytes i h high = search (arith, IsInputOf-read, counted-well)
 
 -- if a read reached the end of the device, the reader has returned the input
 pub has-read-end : (old a b : Reader) (bytes buf : List ℕ) (n i : ℕ) → IsReading old a bytes i → n ≡ 0 →
@@ -95,10 +81,4 @@ pub has-read-end : (old a b : Reader) (bytes buf : List ℕ) (n i : ℕ) → IsR
 has-read-end old a b bytes buf n i h zero some small q e =
     let none : bytes ++ take n buf ≡ bytes = rw zero (append-nil bytes) in
     let given = rw none at (Consumes-trans old.remaining a.remaining b.remaining bytes (take n buf) h.given q.0) in
-    record {
-      is_input = IsInputOf-read old.remaining b.remaining bytes given h.bounded (inl (q.1 zero some));
-      short = h.bounded;
-      all = (given, search rules, search rules);
-      well = search rules;
-      within = search rules;
-    }
+    search (arith, IsInputOf-read)

@@ -1,6 +1,6 @@
 -- A command line and an input have at most one drawing and at most one reason to be refused, and not both.
 use Rattle.qr_bits.specs.declared.interpretation.Interpretation.TheVariants.{Default}
-use Rattle.std.proofs.Common.{◌≡◌, ◌<◌, ◌≤◌, ◌∙◌, ◌&&◌, ◌==◌, inl, inr, ℕ, suc, Bool, true, false, cond, leb, List, [], length, Option, Some, None, unwrap_or, codes, Result, Ok, Err, refl, sym, subst, arith}
+use Rattle.std.proofs.Common.{◌≡◌, ◌<◌, ◌≤◌, ◌&&◌, ◌==◌, inl, inr, ℕ, suc, Bool, true, false, cond, leb, List, [], length, Option, Some, None, unwrap_or, codes, Result, Ok, Err, refl, sym, subst, arith}
 use Rattle.std.specs.{Option.option_map_or, Prelude.option_and_then}
 use borrow.Author.Tests.{leb-true}
 use Rattle.clap.specs.{Words.first_of, Words.one_of, Walk.Row, Walk.Text}
@@ -20,7 +20,7 @@ use Rattle.qrencode_cli.specs.declared.settings.UsageFault.TheVariants as usage
 
 -- a command line has at most one list of settings
 settings-one : (words : List Text) (s t : SettingsView) → settings_for words ≡ Ok s → settings_for words ≡ Ok t → s ≡ t
-settings-one words s t a b = let e : Ok s ≡ Ok t = sym a ∙ b in cc
+settings-one words s t a b = cc
 
 -- the settings ask for at most one list of squares
 squares-one : (s : SettingsView) (input : List ℕ) (g h : List Grid) → AreSymbols s input g → AreSymbols s input h → g ≡ h
@@ -28,8 +28,8 @@ squares-one s input g h (inl (a, ss, m, e)) (inl (b, ts, n, f)) = cc (series-one
 squares-one s input g h (inr (a, v, mask, square, m, e)) (inr (b, w, other, grid, n, f)) =
     let same = symbol-one input s.level (smallest_of s) (rule_for s) Default _ _ _ _ square grid m n in
     let k = same.2 in cc
-squares-one s input g h (inl a) (inr b) = let e : true ≡ false = sym a.0 ∙ b.0 in cc
-squares-one s input g h (inr a) (inl b) = let e : true ≡ false = sym b.0 ∙ a.0 in cc
+squares-one s input g h (inl a) (inr b) = cc
+squares-one s input g h (inr a) (inl b) = cc
 
 -- so the settings ask for at most one drawing
 drawing-one : (s : SettingsView) (input d e : List ℕ) → IsDrawing s input d → IsDrawing s input e → d ≡ e
@@ -42,12 +42,8 @@ answers-one words given d e a b =
 
 -- an input that has a symbol is not too long
 not-too-long : (s : SettingsView) (input : List ℕ) (squares : List Grid) → AreSymbols s input squares → IsTooLong s input → ⊥
-not-too-long s input squares (inl series) long = let e : true ≡ false = sym series.0 ∙ long.0 in cc
+not-too-long s input squares (inl series) long = cc
 not-too-long s input squares (inr (one, version, mask, square, symbol, e)) long = long.1 version symbol.version.least symbol.version.most symbol.version.fits
-
--- an input that has a series does not take too many symbols
-not-too-many : (s : SettingsView) (input : List ℕ) (squares : List Grid) → AreSymbols s input squares → IsTooMany s input → ⊥
-not-too-many s input squares x many = grind arith
 
 -- the number of the reason why a command line has no settings, or 0 if it has settings
 class_of : Result SettingsView Reason → ℕ
@@ -83,7 +79,7 @@ refusals-exclude words given d (fault.Encode encode.Empty) a h = search (arith, 
 refusals-exclude words given d (fault.Encode encode.TooLong) a h =
     let same = settings-one words h.settings a.settings h.taken a.taken in
     not-too-long a.settings (held a.settings (input_for a.settings given)) a.holds.squares a.holds.symbols (subst (λ (s : SettingsView). IsTooLong s (held s (input_for s given))) same h.holds)
-refusals-exclude words given d (fault.Encode encode.TooMany) a h = search (arith, settings-one, not-too-many)
+refusals-exclude words given d (fault.Encode encode.TooMany) a h = grind (arith, settings-one)
 refusals-exclude words given d (fault.Encode encode.Memory) a h = elim h [ ]
 refusals-exclude words given d r a h = search (arith, class-is, class_of)
 
@@ -93,16 +89,12 @@ refusals-exclude words given d r a h = search (arith, class-is, class_of)
 err-ok : (r : Reason) (s : SettingsView) → Err r ≡ Ok s → ⊥
 err-ok r s e = cc
 
--- if the check of the series succeeds, it returns the settings that it checked
-series-checked : (b : Bool) (t s : SettingsView) → cond b (Err needs_version) (Ok t) ≡ Ok s → t ≡ s
-series-checked b t s e = grind arith
-
 -- a property of all settings with a level and a type holds of the checked settings too
 checked-have : (P : SettingsView → Type 0) (l : Option Level) (k : Option Drawing) (f : Level → Drawing → SettingsView) → ((l : Level) (k : Drawing) → P (f l k))
     → (s : SettingsView) → option_map_or (λ l. option_map_or (λ k. checked_series (f l k)) k (Err unknown_type)) l (Err unknown_level) ≡ Ok s → P s
 checked-have P None k f h s e = absurd (err-ok unknown_level s e)
 checked-have P (Some l) None f h s e = absurd (err-ok unknown_type s e)
-checked-have P (Some l) (Some k) f h s e = search (arith, series-checked)
+checked-have P (Some l) (Some k) f h s e = grind arith
 
 -- a property of all settings with a level and a type holds of the settings of a command line
 pub taken-have : (P : SettingsView → Type 0) (well : Bool) (rows : List Row) → ((l : Level) (k : Drawing) → P (settings_with rows l k))
@@ -134,7 +126,7 @@ empty-not-many s input none many =
 
 -- settings do not ask for both one symbol and a series
 long-not-many : (s : SettingsView) (x y : List ℕ) → IsTooLong s x → IsTooMany s y → ⊥
-long-not-many s x y long many = let e : true ≡ false = sym many.0 ∙ long.0 in cc
+long-not-many s x y long many = cc
 
 -- two refusals of an input are about the same settings
 because-one : (words : List Text) (given : List ℕ) (P Q : SettingsView → List ℕ → Type 0) → HasRefusal words given P → HasRefusal words given Q

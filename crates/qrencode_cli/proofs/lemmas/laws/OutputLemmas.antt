@@ -29,7 +29,7 @@ margin-most words s e =
 
 -- a version of -v is at least 1
 version-least : (n : ℕ) → 1 ≤ unwrap_or (cond (leb 1 n && leb n 40) (Some n) None) 1
-version-least n = by-test (leb 1 n) (leb n 40) (λ e. grind (arith, nat_tests))
+version-least n = search arith
   where
     by-test : (a b : Bool) → (a ≡ true → 1 ≤ n) → 1 ≤ unwrap_or (cond (a && b) (Some n) None) 1
     by-test a b h = grind arith
@@ -68,18 +68,7 @@ of-outcome : (words : List Text) (in0 in1 : Reader) (out0 out1 err0 err1 : Write
     → Runs words in0 in1 out0 out1 err0 err1 outcome 0
     → (given : List ℕ) × (drawing : List ℕ) × IsInputOf in0.remaining given × DrawnWhole true out0 out1 drawing
     × HasSettingsWith words (λ s. ShowsInput s (held s (input_for s given)) drawing)
-of-outcome words in0 in1 out0 out1 err0 err1 (Ok t) run =
-    let has = run.shows.1 in (
-      run.given,
-      run.shows.0,
-      run.is_input,
-      run.shows.2,
-      record {
-        settings = has.settings;
-        taken = has.taken;
-        holds = shows-input words has.settings (held has.settings (input_for has.settings run.given)) run.shows.0 has.taken has.holds;
-      },
-    )
+of-outcome words in0 in1 out0 out1 err0 err1 (Ok t) run = search (arith, shows-input)
 of-outcome words in0 in1 out0 out1 err0 err1 (Err f) run = absurd (omega (arith, run.status_is))
 
 pub outputs-read-back : OutputsReadBack

@@ -22,4 +22,4 @@ room-status r f x S W P R is apart empty told kinds = grind arith
 
 -- an input that may not be written is not empty
 pub refused-some : (how : Interpretation) (x : List ℕ) (b : Bool) → (MayWrite how x → b ≡ true) → b ≡ false → x ≡ [] → ⊥
-refused-some how x b told refused e = let yes = told (subst (MayWrite how) (sym e) (may_write-none how)) in cc
+refused-some how x b told refused e = search (arith, may_write-none)

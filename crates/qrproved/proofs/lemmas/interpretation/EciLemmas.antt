@@ -18,5 +18,4 @@ write-next changes out i d h k =
     let len : length front ≡ i = length-take-le i told (omega (arith, many)) in
     let rest : drop i out ≡ e ∷ drop (i + 1) out = search (arith, drop-cons) in
     let put : set (front ++ e ∷ drop (i + 1) out) (length front) x ≡ front ++ x ∷ drop (i + 1) out = set-append_seam front e (drop (i + 1) out) x in
-    let more : take (i + 1) told ≡ front ++ x ∷ [] = cc (take_more told i x (omega (arith, many)), get_or-map told_eci changes i d x h) in
-    rw (rest, more, append_assoc front (x ∷ []) (drop (i + 1) out)) (rw len at put)
+    cc (take_more told i x (omega (arith, many)), get_or-map told_eci changes i d x h, append_assoc front (x ∷ []) (drop (i + 1) out))

@@ -56,25 +56,7 @@ pub given-mended : (modules : List ℕ) (side : ℕ) (before put : List ℕ) (ec
     → TellsInterpretation m.parsed ecis_before ecis_after t.eci_count t.fnc1 t.application
     → IsGivenMended modules side before (put ++ drop len before) ecis_before ecis_after t
 given-mended modules side before put ecis_before ecis_after m t len is long room same elen tells told =
-    let reading = read-told _ _ _ _ _ _ _ _ _ _ tells.version tells.level tells.mask is.read in
-    let wrong = wrong-told _ _ _ _ _ _ _ _ _ _ _ tells.version tells.level tells.mask tells.wrong_modules is.whole in record {
-      all_modules = is.all;
-      content = m.parsed;
-      changed = m.changed.items;
-      level = tells.number;
-      read = reading;
-      room = omega arith;
-      holds = cc;
-      len = elen ∙ long;
-      header = tells.header;
-      interpretation = told;
-      damage = record {
-        whole = wrong;
-        format = rw (tells.level, tells.mask) (tells.wrong_format_modules ∙ is.format);
-        most = tells.most;
-        allowed = rw (tells.version, tells.level) tells.allowed;
-      };
-    }
+    search (arith, read-told, wrong-told)
 
 -- if mending and reading the square yields more bytes than the buffer has, the call's condition for ROOM holds
 pub more-bytes : (modules : List ℕ) (side : ℕ) (buffer : List ℕ) (m : Mended) (len : ℕ) → AreModules modules side

@@ -47,8 +47,7 @@ returns-in-Err-clause-format c =
     rw c.read_status.ensures (refusals (goal.at.returns-in-Err-clause-format c).In-Err).format
 
 pub returns-in-Err-clause-check : goal.returns-in-Err-clause-check
-returns-in-Err-clause-check c =
-    rw c.read_status.ensures (refusals (goal.at.returns-in-Err-clause-check c).In-Err).check
+returns-in-Err-clause-check c = rw c.read_status.ensures (refusals (goal.at.returns-in-Err-clause-check c).In-Err).check
 
 pub returns-in-Err-clause-segments : goal.returns-in-Err-clause-segments
 returns-in-Err-clause-segments c =

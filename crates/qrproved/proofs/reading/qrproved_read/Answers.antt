@@ -43,8 +43,7 @@ returns-in-Err-clause-format c =
     rw c.read_status.ensures (refusals (goal.at.returns-in-Err-clause-format c).In-Err).format
 
 pub returns-in-Err-clause-check : goal.returns-in-Err-clause-check
-returns-in-Err-clause-check c =
-    rw c.read_status.ensures (refusals (goal.at.returns-in-Err-clause-check c).In-Err).check
+returns-in-Err-clause-check c = rw c.read_status.ensures (refusals (goal.at.returns-in-Err-clause-check c).In-Err).check
 
 pub returns-in-Err-clause-segments : goal.returns-in-Err-clause-segments
 returns-in-Err-clause-segments c =
@@ -92,13 +91,10 @@ returns-then-bytes-len-clause-segments c =
     (statuses (goal.at.returns-then-bytes-len-clause-segments c).In-Ok-read_symbol 6 (omega arith)).segments
 
 pub returns-clause-format : goal.returns-clause-format
-returns-clause-format c =
-    (statuses (goal.at.returns-clause-format c).In-Ok-read_symbol 0 (omega arith)).format
+returns-clause-format c = (statuses (goal.at.returns-clause-format c).In-Ok-read_symbol 0 (omega arith)).format
 
 pub returns-clause-check : goal.returns-clause-check
-returns-clause-check c =
-    (statuses (goal.at.returns-clause-check c).In-Ok-read_symbol 0 (omega arith)).check
+returns-clause-check c = (statuses (goal.at.returns-clause-check c).In-Ok-read_symbol 0 (omega arith)).check
 
 pub returns-clause-segments : goal.returns-clause-segments
-returns-clause-segments c =
-    (statuses (goal.at.returns-clause-segments c).In-Ok-read_symbol 0 (omega arith)).segments
+returns-clause-segments c = (statuses (goal.at.returns-clause-segments c).In-Ok-read_symbol 0 (omega arith)).segments
