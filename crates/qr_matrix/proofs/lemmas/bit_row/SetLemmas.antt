@@ -1,5 +1,5 @@
 -- Bits of a bit row that are set at once, and bits that are set one after the other.
-use Rattle.std.proofs.Common.{List, [], ◌∷◌, length, get_or, set, ◌≡◌, ℕ, zero, suc, ◌+◌, ◌-◌, ◌*◌, ◌/◌, ◌%◌, ◌^◌, ◌<◌, ◌≤◌, eqb, leb, Bool, true, false, not, ◌&&◌, ◌||◌, bit_or, refl, sym, ap, ◌∙◌, inl, inr, w64, subst, arith}
+use Rattle.std.proofs.Common.{List, [], ◌∷◌, length, get_or, set, ◌≡◌, ℕ, suc, ◌+◌, ◌-◌, ◌*◌, ◌/◌, ◌%◌, ◌^◌, ◌<◌, ◌≤◌, eqb, leb, Bool, true, false, not, ◌&&◌, ◌||◌, bit_or, sym, ap, ◌∙◌, inl, inr, w64, subst, arith}
 use Rattle.std.proofs.lemmas.Nat.{le-div, or_lt, trailing_le, leading_le, leading_top, mod_below, pow_pos, shr_below}
 use Rattle.std.proofs.lemmas.Nat.Bits.{bit_at_above, bit_at_not, bit_at_ones, bit_at-lt, bit_at-trailing_ones}
 use Rattle.{std.proofs.lemmas.Bool.{cases_lt, false≢true, Decides.nat_tests}, qr_matrix.specs.BitRow.{has, has_bit}}
@@ -172,9 +172,3 @@ inverted-bit a k l m = let e = bit_at_not w64 a k l m in let two = bit_at-lt a k
 pub inverted-row : (ws : List ℕ) (i : ℕ) → ((j : ℕ) → get_or ws j 0 < 2 ^ 64) → i < 192
     → has ((2 ^ 64 - 1 - get_or ws 0 0) ∷ (2 ^ 64 - 1 - get_or ws 1 0) ∷ (2 ^ 64 - 1 - get_or ws 2 0) ∷ []) i ≡ not (has ws i)
 inverted-row ws i w l = search (arith, has-place, words-small, inverted-bit)
-  where
-    word : (k : ℕ) → k < 3 → get_or ((2 ^ 64 - 1 - get_or ws 0 0) ∷ (2 ^ 64 - 1 - get_or ws 1 0) ∷ (2 ^ 64 - 1 - get_or ws 2 0) ∷ []) k 0 ≡ 2 ^ 64 - 1 - get_or ws k 0
-    word zero l = refl
-    word (suc zero) l = refl
-    word (suc (suc zero)) l = refl
-    word (suc (suc (suc k))) l = absurd (omega arith)

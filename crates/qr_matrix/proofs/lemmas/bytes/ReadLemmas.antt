@@ -82,9 +82,6 @@ gathered-bits f s k l =
     let one : digit b k ≡ f k = cc (item (digit b) k l, item f k l) in
     let bit = same-same (has_bit (gathered (joined (digit b))) k) (eqb (digit b k) 1) (below-at 8 (gather-at b) (below-at 256 (λ b. all_below 8 (gather-at b)) all-gather b small) k l) in
     search arith
-  where
-    binary : (n : ℕ) → n < 2 → n ≡ byte_of (eqb n 1)
-    binary n l = grind (arith, nat_tests)
 
 -- ---- words
 
@@ -117,9 +114,3 @@ read-there c side read test l e = grind (arith, nat_tests)
 -- a module whose byte is 0 or 1 is known
 pub known-module : (c side byte : ℕ) (bit : Bool) → (c < side → byte ≡ byte_of bit) → false ≡ (ltb c side && eqb byte 2)
 known-module c side byte bit e = search arith
-  where
-    inside : (t : Bool) (byte : ℕ) (bit : Bool) → byte ≡ byte_of bit → false ≡ (t && eqb byte 2)
-    inside t byte bit e = grind (arith, nat_tests)
-
-    outside : (t test : Bool) → t ≡ false → false ≡ (t && test)
-    outside t test e = grind arith

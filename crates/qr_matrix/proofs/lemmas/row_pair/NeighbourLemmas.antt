@@ -1,5 +1,5 @@
 -- Neighbouring bits of the rows of two squares that are written at once, by the words in which they are.
-use Rattle.std.proofs.Common.{◌≡◌, ◌≢◌, ◌⊎◌, inl, inr, ℕ, ◌+◌, ◌-◌, ◌*◌, ◌/◌, ◌%◌, ◌^◌, ◌<◌, ◌≤◌, List, [], ◌∷◌, length, get_or, set, Bool, true, false, not, ◌&&◌, cond, leb, ltb, eqb, bit_and, bit_xor, refl, ap, ◌∙◌, arith}
+use Rattle.std.proofs.Common.{◌≡◌, ◌⊎◌, inl, inr, ℕ, ◌+◌, ◌-◌, ◌*◌, ◌/◌, ◌%◌, ◌^◌, ◌<◌, ◌≤◌, List, [], ◌∷◌, length, get_or, set, Bool, true, false, not, ◌&&◌, cond, leb, ltb, eqb, bit_and, bit_xor, refl, ap, ◌∙◌, arith}
 use Rattle.std.proofs.lemmas.{Bool.{cases_eq, cases_lt, Decides.nat_tests}, Simd.length-zip2}
 use lib.Lanes.{zip2}
 use Rattle.qr_matrix.specs.{Grid.is_same, Steps.{IsPair, lane, word_of}, BitRow.{has, has_bit}}
@@ -26,14 +26,6 @@ chosen a b t = grind (arith, nat_tests)
 pub chosen-bits : (words : List ℕ) (m d e : ℕ) → IsPair words → (s : Bool) (i : ℕ)
     → has_bit (word_of (both-chosen words m d e) s) i ≡ cond (has_bit m i) (has_bit (cond s e d) i) (has_bit (word_of words s) i)
 chosen-bits words m d e p s i = search (arith, length-zip2, zip-word, has_bit-xor, has_bit-and, chosen)
-  where
-    either : (s : Bool) (d e : ℕ) → word_of (d ∷ e ∷ []) s ≡ cond s e d
-    either false d e = refl
-    either true d e = refl
-
-    both : (s : Bool) → word_of (m ∷ m ∷ []) s ≡ m
-    both false = refl
-    both true = refl
 
 -- if the bits t of word k are chosen, no other bit of the row changes
 pub chosen-step : (ws : List ℕ) (k y : ℕ) (t x : ℕ → Bool) → length ws ≡ 3 → ((j : ℕ) → get_or ws j 0 < 2 ^ 64) → y < 2 ^ 64 → k < 3
@@ -44,9 +36,6 @@ chosen-step ws k y t x l w m n h i = word-step ws k y (λ i. cond (eqb (i / 64) 
     let q : (64 * k + j) / 64 ≡ k = omega arith in search (arith, has-place))
     (λ i o. there i (t (i % 64)) (x (i % 64)) (has ws i) o) i
   where
-    here : (i j : ℕ) → i / 64 ≡ k → i % 64 ≡ j → cond (t j) (x j) (has ws i) ≡ cond (eqb (i / 64) k && t (i % 64)) (x (i % 64)) (has ws i)
-    here i j q r = rw r (let e : eqb (i / 64) k ≡ true = grind (arith, nat_tests) in rw e refl)
-
     there : (i : ℕ) (t x y : Bool) → (i / 64 ≡ k → ⊥) → y ≡ cond (eqb (i / 64) k && t) x y
     there i t x y o = let e : eqb (i / 64) k ≡ false = grind (arith, nat_tests) in rw e refl
 
@@ -132,9 +121,6 @@ module _ (index count m x y i : ℕ) (s old new : Bool) (em : m ≡ 2 ^ count - 
     | inl q ↦ (let t : eqb (i / 64) (index / 64) ≡ true = grind (arith, nat_tests) in rw t (in-lower index count (cond s x y) i (index / 64) (index % 64) (i % 64) m old (omega arith) (omega arith) (omega arith) em))
     | inr o ↦ search (arith, not-among)
   ])
-    where
-      outside : i / 64 ≢ index / 64 → (i < index) ⊎ (index + count ≤ i)
-      outside o = elim (cases_lt i index) [ inl k ↦ inl k | inr k ↦ inr (omega arith) ]
 
   -- the bits are in two words, the second of which is written after the first
   pub put-in-two : (rest : ℕ) (mid : Bool) → rest ≡ 64 - index % 64 → count ≤ 64
@@ -155,6 +141,3 @@ module _ (index count m x y i : ℕ) (s old new : Bool) (em : m ≡ 2 ^ count - 
               | inr p ↦ search (arith, not-among)
             ])
       ])
-    where
-      outside : i / 64 ≢ index / 64 + 1 → i / 64 ≢ index / 64 → (i < index) ⊎ (index + count ≤ i)
-      outside o p = elim (cases_lt i index) [ inl k ↦ inl k | inr k ↦ inr (omega arith) ]

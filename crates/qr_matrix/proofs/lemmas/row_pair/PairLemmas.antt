@@ -1,7 +1,6 @@
 -- Operations on the words of two bit rows at once.
 use Rattle.std.proofs.Common.{◌≡◌, ◌⊎◌, inl, inr, ℕ, ◌+◌, ◌-◌, ◌*◌, ◌/◌, ◌%◌, ◌^◌, ◌<◌, ◌≤◌, List, [], ◌∷◌, length, get_or, set, replicate, Bool, true, false, not, ◌&&◌, ◌||◌, cond, ltb, eqb, bit_and, bit_or, bit_xor, refl, sym, ap, ◌∙◌, arith}
 use Rattle.std.proofs.lemmas.Nat.{or_lt, xor_lt, le_or_l, le_or_r}
-use Rattle.std.proofs.Math.Nat.{div-le_self}
 use Rattle.std.proofs.lemmas.List.{get_or-map, get_or-replicate, length-map, length-replicate, map-set}
 use Rattle.qr_matrix.proofs.lemmas.matrix.MatrixLemmas.{dark-under}
 use Rattle.std.proofs.lemmas.Nat.Bits.{bit_at_above}
@@ -74,9 +73,6 @@ shifted-word f a k true p = zip-word f a (k ∷ k ∷ []) true p.0 refl
 -- two words that are shifted down stay words
 down-pair : (a : List ℕ) (k : ℕ) → IsPair a → IsPair (zip2 down a (k ∷ k ∷ []))
 down-pair a k p = zip-pair down a (k ∷ k ∷ []) p.0 refl (search arith)
-  where
-    small : (x : ℕ) → x < 2 ^ 64 → x / 2 ^ k < 2 ^ 64
-    small x l = omega (arith, div-le_self x (2 ^ k))
 
 up-pair : (a : List ℕ) (k : ℕ) → IsPair a → IsPair (zip2 up a (k ∷ k ∷ []))
 up-pair a k p = zip-pair up a (k ∷ k ∷ []) p.0 refl (elim [ false ↦ omega arith | true ↦ omega arith ])

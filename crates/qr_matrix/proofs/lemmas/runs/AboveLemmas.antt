@@ -28,19 +28,10 @@ module _ (join : ℕ → Bool) (n : ℕ) (a b d e f x : Bool) (h : IsAbove join 
   -- three equal modules end in the next row
   pub three-next : (t : Bool) → t ≡ (x && a) → t ≡ (ltb 0 n && (join (n - 1) && join n))
   three-next t ht = search arith
-    where
-      swap : (p q r : Bool) → (p && (q && r)) ≡ (q && (r && p))
-      swap p q r = grind (arith, nat_tests)
 
   -- five equal modules end in the next row
   pub five-next : (t v : Bool) → t ≡ (x && a) → v ≡ (t && d) → v ≡ (ltb 2 n && begin_five join (n - 3))
   five-next t v ht hv = search (arith, three-next)
-    where
-      swap : (p q r s : Bool) → ((true && (p && q)) && (true && (r && s))) ≡ (true && ((r && s) && (p && q)))
-      swap p q r s = grind (arith, nat_tests)
-
-      last : (t : Bool) → (t && false) ≡ false
-      last t = grind (arith, nat_tests)
 
   -- the modules that cost a point
   pub near-next : (u v : Bool) → u ≡ ((v || e) || f) → v ≡ (ltb 2 n && begin_five join (n - 3)) → u ≡ (ltb 2 n && is_near_five join (n - 3))
@@ -48,9 +39,6 @@ module _ (join : ℕ → Bool) (n : ℕ) (a b d e f x : Bool) (h : IsAbove join 
       let m = n - 3 in
       let e1 : n - 4 ≡ m - 1 = omega arith in
       search (arith, nat_tests)
-    where
-      common : (u p q a b d : Bool) → (((u && a) || ((u && p) && b)) || ((u && q) && d)) ≡ (u && ((a || (p && b)) || (q && d)))
-      common u p q a b d = grind (arith, nat_tests)
 
   -- what is kept of the rows above the row after the next
   pub above-next : (t v : Bool) → t ≡ (x && a) → v ≡ (t && d) → IsAbove join (n + 1) x t b v e

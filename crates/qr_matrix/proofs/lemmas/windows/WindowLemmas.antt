@@ -1,7 +1,7 @@
 -- The windows of rows and columns, found and counted on bit rows.
 use Rattle.std.proofs.Common.{◌≡◌, ℕ, zero, suc, ◌+◌, ◌-◌, ◌<◌, ◌≤◌, ltb, leb, Bool, true, false, not, ◌&&◌, ◌||◌, cond, inl, inr, refl, sym, ap, ◌∙◌, arith}
 use Rattle.{std.proofs.lemmas.Bool.{cases_lt, Decides.nat_tests}, qr_matrix.proofs.lemmas.bit_row.BoolLemmas.{and-false, false-and}}
-use Rattle.qr_matrix.specs.{Grid.is_same, Steps.{is_after_light, is_before_light, is_found, set_count, AreWindowsTo}, Sums.count_below, Sums.sum_below}
+use Rattle.qr_matrix.specs.{Steps.{is_after_light, is_before_light, is_found, set_count, AreWindowsTo}, Sums.count_below, Sums.sum_below}
 use Rattle.qr_matrix.specs.Penalty.{finder_ratio, four_light, reads, is_window, window_count}
 use Rattle.qr_matrix.proofs.lemmas.{rows.AdderLemmas.set_count-most, bit_row.SumLemmas.{count_below-cut, sum_below-add, sum_below-more, sum_below-same, sum_below-swap}}
 use Rattle.qr_matrix.proofs.lemmas.{runs.RowLemmas.size-is, runs.ColumnLemmas.guarded-size, windows.ReadingLemmas.window-is}
@@ -39,42 +39,27 @@ windows-row s line bit l h = search (arith, size-is, window-past)
 pub before-bit : (s : ℕ) (line : ℕ → Bool) (r : ℕ) (u : Bool) → r + 11 ≤ s
     → ((u && reads line r finder_ratio) && not (not (reads line (r + 7) four_light))) ≡ (u && is_before_light s line r)
 before-bit s line r u h = search arith
-  where
-    common : (u t a b : Bool) → t ≡ true → ((u && a) && not (not b)) ≡ (u && (t && (a && b)))
-    common u t a b e = grind (arith, nat_tests)
 
 -- the ratio after four light modules is a window that is found in the last row of these, if seven rows are left after it
 pub after-bit : (s : ℕ) (line : ℕ → Bool) (r : ℕ) (u : Bool) → 3 ≤ r → r + 8 ≤ s
     → ((u && reads line (r + 1) finder_ratio) && not (not (reads line (r - 3) four_light))) ≡ (u && (ltb 2 r && is_after_light s line (r - 3)))
 after-bit s line r u l h = search (arith, nat_tests)
-  where
-    common : (u v t a b : Bool) → v ≡ true → t ≡ true → ((u && a) && not (not b)) ≡ (u && (v && (t && (b && a))))
-    common u v t a b d e = grind (arith, nat_tests)
 
 -- the windows that are found in row r, if the bits of two tests of column c tell where those of the first kind and those
 -- of the second kind are
 pub found-bit : (s : ℕ) (line : ℕ → Bool) (r : ℕ) (u x y : Bool) → x ≡ (u && is_before_light s line r) → y ≡ (u && (ltb 2 r && is_after_light s line (r - 3))) → (x || y) ≡ (u && is_found s line r)
 unfolding is_found
 found-bit s line r u x y e f = search arith
-  where
-    common : (u a b x y : Bool) → x ≡ (u && a) → y ≡ (u && b) → (x || y) ≡ (u && (a || b))
-    common u a b x y e f = grind (arith, nat_tests)
 
 -- in the first three rows no window is found that begins with light modules
 pub found-top : (s : ℕ) (line : ℕ → Bool) (r : ℕ) (u x : Bool) → r < 3 → x ≡ (u && is_before_light s line r) → x ≡ (u && is_found s line r)
 unfolding is_found
 found-top s line r u x h e = search arith
-  where
-    common : (u a v b x : Bool) → v ≡ false → x ≡ (u && a) → x ≡ (u && (a || (v && b)))
-    common u a v b x e f = grind (arith, nat_tests)
 
 -- in the last ten rows no window is found that begins with the ratio
 pub found-bottom : (s : ℕ) (line : ℕ → Bool) (r : ℕ) (u x : Bool) → s < r + 11 → x ≡ (u && (ltb 2 r && is_after_light s line (r - 3))) → x ≡ (u && is_found s line r)
 unfolding is_found
 found-bottom s line r u x h e = search (arith, nat_tests)
-  where
-    common : (u v a b x : Bool) → v ≡ false → x ≡ (u && b) → x ≡ (u && ((v && a) || b))
-    common u v a b x e f = grind (arith, nat_tests)
 
 -- nor is one found in the last seven rows, or in the first three of these ten
 pub found-none : (s : ℕ) (line : ℕ → Bool) (r : ℕ) (u x : Bool) → s < r + 11 → (3 ≤ r → s < r + 8) → x ≡ false → x ≡ (u && is_found s line r)
@@ -90,23 +75,14 @@ found-row s dark r bit l h = guarded-size s bit (λ c. is_found s (λ i. dark i 
 -- the ratio begins with a dark module
 dark-first : (s : ℕ) (line : ℕ → Bool) (r : ℕ) → is_before_light s line r ≡ true → line r ≡ true
 dark-first s line r h = search arith
-  where
-    first : (t x a b : Bool) → (t && ((is_same x true && a) && b)) ≡ true → x ≡ true
-    first t x a b h = grind (arith, nat_tests)
 
 -- the first module of four light ones is light
 light-first : (s : ℕ) (line : ℕ → Bool) (r : ℕ) → is_after_light s line r ≡ true → line r ≡ false
 light-first s line r h = search arith
-  where
-    first : (t x a b : Bool) → (t && ((is_same x false && a) && b)) ≡ true → x ≡ false
-    first t x a b h = grind (arith, nat_tests)
 
 -- the last module of four light ones is light
 light-last : (s : ℕ) (line : ℕ → Bool) (r : ℕ) → 3 ≤ r → is_after_light s line (r - 3) ≡ true → line r ≡ false
 light-last s line r l h = search arith
-  where
-    last : (t a b d x y : Bool) → (t && ((a && (b && (d && (is_same x false && true)))) && y)) ≡ true → x ≡ false
-    last t a b d x y h = grind (arith, nat_tests)
 
 -- two tests that exclude each other
 either : (p q x : Bool) → (p ≡ true → x ≡ true) → (q ≡ true → x ≡ false) → cond (p || q) 1 0 ≡ cond p 1 0 + cond q 1 0
@@ -115,9 +91,6 @@ either p q x h k = grind (arith, nat_tests)
 -- one more number that passes a test after the first three
 later-more : (n : ℕ) (p : ℕ → Bool) → count_below (n + 1 - 3) p ≡ count_below (n - 3) p + cond (ltb 2 n && p (n - 3)) 1 0
 later-more n p = search (arith, sum_below-more)
-  where
-    plain : (a x : ℕ) → x ≡ 0 → a ≡ a + x
-    plain a x e = omega arith
 
 -- the windows that are found in the first n rows of a column are those of the first kind that begin there, and those of
 -- the second kind that begin before the last three of these rows

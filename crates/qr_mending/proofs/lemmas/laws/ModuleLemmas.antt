@@ -1,5 +1,5 @@
 -- A wrong module damages at most one codeword.
-use Rattle.std.proofs.Common.{◌≡◌, ℕ, ◌<◌, ◌≤◌, Bool, true, not, cond, List, [], ◌∷◌, ◌++◌, map, get_or, refl, ap, arith}
+use Rattle.std.proofs.Common.{◌≡◌, ℕ, ◌<◌, ◌≤◌, Bool, cond, List, [], ◌∷◌, ◌++◌, map, get_or, refl, ap, arith}
 use Rattle.std.proofs.lemmas.List.{Elements.{All-nil, All-cons, All-head, All-tail}, Sums.sum_by-cons}
 use Rattle.qr_field.proofs.lemmas.laws.DistanceLemmas.{difference-most, difference-same}
 use Rattle.{std.specs.List.{All, count_by, sum_by}, qr_bits.specs.Bits.{bits_of, field}}
@@ -19,9 +19,6 @@ same-bits mask g h [] e = refl
 same-bits mask g h (m ∷ ms) e =
     let more = sum_by-cons (λ (m : Place). cond (differs g h m.row m.col) 1 0) m ms in
     search (arith, same-same, same-bits mask g h ms (omega arith))
-  where
-    no-difference : (b : Bool) → ◌≡◌ {A = ℕ} (cond (not b) 1 0) 0 → b ≡ true
-    no-difference b e = grind arith
 
 -- bytes with the same eight bits are equal
 byte-one : (a b : ℕ) → a < 256 → b < 256 → field 8 a ≡ field 8 b → a ≡ b

@@ -29,14 +29,6 @@ module _ (kind : Drawing) (margin : ℕ) (squares : List Grid) (text : List ℕ)
   pub raster-wide : (8 ≤ raster_width margin (square_at squares 0)) × (raster_width margin (square_at squares 0) ≤ 687)
   raster-wide = let f = begins-at squares 0 h.begin h.some in let m = h.margin_in in (omega (arith, f.least), omega (arith, f.most))
 
-  -- the first module of the diagonal after the margin is dark
-  pub corner-at : is_dark_at margin (square_at squares 0) margin margin ≡ true
-  corner-at =
-      let f = begins-at squares 0 h.begin h.some in
-      let e : margin ≡ margin + 0 = omega arith in
-      ap (λ z. is_dark_at margin (square_at squares 0) z z) e
-      ∙ (is_dark_at-inside margin 0 0 (square_at squares 0) (omega (arith, f.least)) (omega (arith, f.least)) ∙ f.corner)
-
 -- column 7 of row 0 of the first raster is light
 pub separator-light : (margin : ℕ) (squares : List Grid) (kind : Drawing) (text : List ℕ) → IsDrawingOf kind margin squares text
     → is_dark_at margin (square_at squares 0) 0 7 ≡ false

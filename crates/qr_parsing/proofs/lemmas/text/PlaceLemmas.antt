@@ -182,9 +182,6 @@ cells-without b count lines width cell end none =
 -- a byte that is in a text has a first place
 pub position-below : (b i : ℕ) (xs : List ℕ) → i < length xs → eqb (get_or xs i 0) b ≡ true → position_or_len (λ byte. eqb byte b) xs < length xs
 position-below b i xs lt e = search (arith, fails_before_first)
-  where
-    no : true ≡ false → ⊥
-    no f = cc
 
 -- if no byte of a text is b, the position of b is the length of the text
 pub position-none : (b : ℕ) (xs : List ℕ) → ((i : ℕ) → i < length xs → eqb (get_or xs i 0) b ≡ false) → position_or_len (λ byte. eqb byte b) xs ≡ length xs
@@ -195,9 +192,6 @@ pub cells-filter : (p : ℕ → Bool) (count lines width : ℕ) (cell : ℕ → 
     → filter p (cells_text count lines width cell) ≡ cells_text count lines width (λ k y x. filter p (cell k y x))
 unfolding cells_text
 cells-filter p count lines width cell end = search (arith, texts-filter, texts_below-alike, filter-append)
-  where
-    kept : filter p (10 ∷ []) ≡ 10 ∷ []
-    kept = rw end refl
 
 -- the byte of each module of a whole raster is in the text
 pub cell-inside : (len w lines count k y x : ℕ) → lines ≡ (w + 1) / 2 → count ≡ len / (lines * (w + 1)) → 8 ≤ w → k < count → y < w → x < w

@@ -18,12 +18,6 @@ Refused r e memory P = (r ≡ Err e) ↔ ((r ≢ Err memory) × P)
 pub exactly : {X E : Type 0} (r : Result X E) (e memory : E) (P : Type 0) → (e ≡ memory → ⊥) → (r ≡ Err e → P)
     → IfOk r (λ _. P → ⊥) → IfErr r (λ g. (P → g ≡ e) ⊎ (g ≡ memory)) → Refused r e memory P
 exactly {X = X} {E = E} r e memory P other f none told = grind arith
-  where
-    back : (r : Result X E) → IfOk r (λ _. P → ⊥) → IfErr r (λ g. (P → g ≡ e) ⊎ (g ≡ memory)) →
-        r ≢ Err memory → P → r ≡ Err e
-    back (Ok x) none _ m p = absurd (none p)
-    back _ _ (inl h) m p = ap (λ f. Err f) (h p)
-    back _ _ (inr h) m p = absurd (m (ap (λ f. Err f) h))
 
 -- `TooMany` is returned exactly if the input has no series, unless memory was refused
 pub too-many-exactly : (x : List ℕ) (l : Level) (b : Rule) (how : Interpretation) (v : ℕ) (r : Result (Vec Symbol Global) EncodeFault) → MatchResult r

@@ -2,7 +2,7 @@
 use Rattle.qr_layout.specs.{Region.ring_of, Role.{finder_ring, pattern_colour, role_of}, Version.side_of}
 use Rattle.{qr_layout.specs.declared.role.Role.TheVariants.Fixed, std.proofs.lemmas.Bool.{Decides.nat_tests}}
 use Rattle.qr_symbol.{proofs.lemmas.patterns.TimingLemmas.paint-fixed, specs.Steps.Patterns.{is_in_finder_area, paint_of}}
-use Rattle.std.proofs.Common.{◌≡◌, ℕ, ◌+◌, ◌-◌, ◌<◌, ◌≤◌, Bool, true, false, not, cond, eqb, ltb, leb, ◌&&◌, sym, ◌∙◌, arith}
+use Rattle.std.proofs.Common.{◌≡◌, ℕ, ◌+◌, ◌-◌, ◌≤◌, Bool, true, false, not, cond, eqb, ltb, leb, ◌&&◌, sym, ◌∙◌, arith}
 
 -- three squares, painted one inside the other, leave only ring 2 light
 pub three-squares : (n : ℕ) (w x y z : Bool) → x ≡ cond (leb n 3) true w → y ≡ cond (leb n 2) false x → z ≡ cond (leb n 1) true y → z ≡ cond (ltb n 4) (not (eqb n 2)) w
@@ -16,9 +16,6 @@ area-tests b f q w h = grind (arith, nat_tests)
 finder-role : (v r c n : ℕ) → finder_ring (side_of v) r c ≡ n → n ≤ 4 → role_of v r c ≡ Fixed (ltb n 4 && not (eqb n 2))
 unfolding role_of pattern_colour
 finder-role v r c n e l = search (arith, nat_tests)
-  where
-    below : (n : ℕ) → n < 4 → ltb n 4 ≡ true
-    below n l = grind (arith, nat_tests)
 
 -- the places of a area are within ring 4, and the places within ring 3 are in the area
 in-area : (a b r c top left : ℕ) → top + 3 ≤ a → a ≤ top + 4 → left + 3 ≤ b → b ≤ left + 4 → (leb top r && ltb r (top + 8) && leb left c && ltb c (left + 8)) ≡ true → ring_of a b r c ≤ 4

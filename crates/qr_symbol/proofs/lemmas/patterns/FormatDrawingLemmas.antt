@@ -186,12 +186,6 @@ module _ (v : ℕ) (least : 1 ≤ v) (most : v ≤ 40) (c : ℕ) (inside : c < s
     | inl f ↦ search arith
     | inr f ↦ search arith
   ]
-    where
-      not-first : (i : ℕ) → ((c ≡ 6) ⊎ (9 ≤ c)) → 8 ≡ cond (ltb i 6) i (cond (eqb i 6) 7 8) → c ≡ cond (ltb i 8) 8 (cond (eqb i 8) 7 (14 - i)) → ⊥
-      not-first i o e f = grind (arith, nat_tests)
-
-      not-second : (i : ℕ) → 8 ≡ cond (ltb i 8) 8 (side_of v - 15 + i) → c ≡ cond (ltb i 8) (side_of v - 1 - i) 8 → ⊥
-      not-second i e f = grind (arith, nat_tests)
 
   -- three words that are written into the row are its format information
   pub across-at : (format far x y z : ℕ) (old : Bool) → far ≡ side_of v - 8 → AreInRow8 format x y z
@@ -256,7 +250,3 @@ pub both-parts : (v format : ℕ) (g0 g1 g2 : Grid)
     → g2 ≡ square (side_of v) (λ r c. cond (eqb r 8) (format_or format (role_of v r c) (colour g1 r c)) (colour g1 r c))
     → g2 ≡ square (side_of v) (λ r c. format_or format (role_of v r c) (colour g0 r c))
 both-parts v format g0 g1 g2 e f = search (arith, square-same, colour-square)
-  where
-    joined : (t : Bool) (h : Bool → Bool) (x y : Bool) → y ≡ cond t x (h x) → cond t (h y) y ≡ h x
-    joined true h x y e = ap h e
-    joined false h x y e = e

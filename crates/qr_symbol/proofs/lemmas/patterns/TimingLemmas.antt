@@ -26,12 +26,6 @@ record AreRingsOfSix (s at ring : ℕ) : Type 0 where
 six : (v r c at : ℕ) → 21 ≤ side_of v → at < side_of v → AreRingsOfSix (side_of v) at (finder_ring (side_of v) r c)
     → (7 < at → at < side_of v - 8 → role_of v r c ≡ Fixed (eqb (at % 2) 0)) → role_of v r c ≡ Fixed (is_dark_in_six (side_of v) at)
 six v r c at least inside rings off = search (arith, ring-three, ring-four)
-  where
-    dark-far : (s at : ℕ) → s - 7 ≤ at → is_dark_in_six s at ≡ true
-    dark-far s at l = grind (arith, nat_tests)
-
-    between : (s at : ℕ) → 7 ≤ at → at < s - 7 → is_dark_in_six s at ≡ eqb (at % 2) 0
-    between s at l m = grind (arith, nat_tests)
 
 -- a place beyond ring 4 is in no finder pattern
 five-on : (n : ℕ) → 5 ≤ n → (ltb n 4 ≡ false) × (eqb n 4 ≡ false)

@@ -166,10 +166,6 @@ placed-start v cw g ms s o = search (arith, done-start, outside)
 count-push : (v : ℕ) (xs : List Place) (m : Place) → length (in_region_of v (xs ++ m ∷ [])) ≡ number_after
     (is_in_region v m.row m.col) (length (in_region_of v xs))
 count-push v xs m = search (arith, kept-append, length-append)
-  where
-    told : (t : Bool) (n : ℕ) → n + length (cond t (m ∷ []) []) ≡ number_after t n
-    told true n = refl
-    told _ n = omega arith
 
 -- the number of a module of the region is the number of those before it
 place-number : (v : ℕ) (before later : List Place) (m : Place) → IsOrder v (in_region_of v (before ++ m ∷

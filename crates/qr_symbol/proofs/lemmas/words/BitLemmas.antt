@@ -87,6 +87,3 @@ next-bit cw p s w b k few l is small held =
           let f : 8 * (p + 8) + d ≡ 8 * p + s + k = omega arith in
           search (arith, codeword-at, codeword_bit)
     ]))
-  where
-    or-false : (t : Bool) → (t || false) ≡ t
-    or-false t = grind (arith, nat_tests)

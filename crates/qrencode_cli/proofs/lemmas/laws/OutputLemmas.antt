@@ -1,6 +1,6 @@
 -- What the drawing that a run writes shows by itself.
 use Rattle.qr_bits.specs.declared.interpretation.Interpretation.TheVariants.{Default}
-use Rattle.std.proofs.Common.{◌≡◌, ◌≤◌, ◌&&◌, ◌==◌, inl, inr, ℕ, Bool, true, cond, leb, List, length, Option, Some, None, unwrap_or, codes, Result, Ok, Err, sym, subst, arith}
+use Rattle.std.proofs.Common.{◌≡◌, ◌≤◌, ◌&&◌, ◌==◌, inl, inr, ℕ, true, cond, leb, List, length, Option, Some, None, unwrap_or, codes, Result, Ok, Err, sym, subst, arith}
 use Rattle.std.proofs.lemmas.Bool.Decides.{nat_tests}
 use Rattle.clap.specs.{Words.one_of, Walk.Text}
 use Rattle.qr_matrix.specs.Grid.{Grid}
@@ -30,9 +30,6 @@ margin-most words s e =
 -- a version of -v is at least 1
 version-least : (n : ℕ) → 1 ≤ unwrap_or (cond (leb 1 n && leb n 40) (Some n) None) 1
 version-least n = search arith
-  where
-    by-test : (a b : Bool) → (a ≡ true → 1 ≤ n) → 1 ≤ unwrap_or (cond (a && b) (Some n) None) 1
-    by-test a b h = grind arith
 
 -- the smallest version of settings is at least 1
 smallest-least : (words : List Text) (s : SettingsView) → settings_for words ≡ Ok s → 1 ≤ smallest_of s

@@ -1,4 +1,4 @@
-use Rattle.std.proofs.Common.{◌≡◌, ◌≢◌, ◌↔◌, ◌≤◌, ◌<◌, ℕ, ◌*◌, true, false, Err, refl, sym, ap, subst, ◌∙◌, arith, rules}
+use Rattle.std.proofs.Common.{◌≡◌, ◌≢◌, ◌↔◌, ◌<◌, ℕ, ◌*◌, true, false, Err, refl, sym, ap, subst, ◌∙◌, arith, rules}
 use Rattle.{qr_layout.specs.{Version.side_of, declared.level.Level.Level}, qr_bits.specs.Interpretation.MayWrite, qr_symbol.proofs.Facts.version-one}
 use Rattle.qr_symbol.specs.declared.fault.EncodeFault.TheVariants as fault
 use Rattle.qr_symbol.specs.{Encoding.{IsBoostedSymbol, IsSymbol}, VersionChoice.{HasNoVersion, IsVersion}, Reading.IsReadBack}

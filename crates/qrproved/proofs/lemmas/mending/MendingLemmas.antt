@@ -1,5 +1,5 @@
 -- What the struct of a mended square contains.
-use Rattle.std.proofs.Common.{◌≡◌, ℕ, ◌*◌, ◌<◌, ◌≤◌, List, ◌++◌, ◌∙◌, drop, length, take, arith}
+use Rattle.std.proofs.Common.{◌≡◌, ℕ, ◌*◌, ◌<◌, ◌≤◌, List, ◌++◌, drop, length, take, arith}
 use Rattle.std.{proofs.lemmas.List.Elements.All-weaker, specs.List.All}
 use Rattle.{qr_layout.specs.declared.level.Level.Level, qr_bits.specs.Parsing.Content, qr_matrix.specs.Grid.Grid}
 use Rattle.qr_layout.specs.Blocks.{correctable_of}
