@@ -252,8 +252,8 @@ fn chessboard(alloc: Global) -> Result<Matrix, Fail> {
 }
 
 // Returns the sizes of the writes by which the chessboard is drawn. A writer that fails from call n on, counted from 0,
-// accepts the first n writes. The function draws with such writers for n = 1, 2 and so on. What each of them accepts
-// more than the one before is the size of one write.
+// accepts the first n writes. The function draws with such writers for n = 1, 2 and so on. Each writer accepts one
+// write more than the writer before it, so the difference of the bytes that the two accepted is the size of this write.
 fn sizes_of_writes(alloc: Global, kind: Drawing, margin: u8) -> Result<Vec<usize>, Fail> {
     let symbols = [chessboard(alloc)?];
     let mut sizes = Vec::new(alloc);

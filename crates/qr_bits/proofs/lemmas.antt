@@ -1,7 +1,6 @@
 -- Lemmas, in folders by the file of src that they serve, in the order in which they are read.
 pub mod bits
 pub mod modes
-pub mod segment
 pub mod stream
 pub mod padding
 pub mod interpretation

@@ -3,8 +3,8 @@
 use Rattle.std.specs.Prelude.{ℕ, List, [], ◌∷◌, ◌++◌, codes}
 use Rattle.qr_bits.specs.declared.modes.Mode.{Mode}
 use Rattle.qr_bits.specs.declared.modes.Mode.TheVariants.{Numeric, Alphanumeric, Byte, Kanji}
-use Rattle.qr_bits.specs.declared.segment.Segment.{Segment}
-use Rattle.qr_bits.specs.declared.header.Header.{Header}
+use Rattle.qr_bits.specs.declared.segmentation.Segment.{Segment}
+use Rattle.qr_bits.specs.declared.stream.Header.{Header}
 use Rattle.qr_bits.specs.declared.interpretation.EciChange.{EciChange}
 use Rattle.qr_bits.specs.declared.interpretation.Item.{Item}
 use Rattle.qr_bits.specs.declared.interpretation.Item.TheVariants.{Data, Eci, Fnc1First, Fnc1Second}

@@ -1,7 +1,7 @@
 -- The structured append header, with which the data of each symbol of a series begin.
 use Rattle.std.specs.Prelude.{ℕ, ◌<◌, Bool, List, [], ◌++◌, Option, bit_xor, fold}
 use Rattle.std.specs.Option.{ForSome, option_map_or}
-use Rattle.qr_bits.specs.declared.header.Header.{Header}
+use Rattle.qr_bits.specs.declared.stream.Header.{Header}
 use Rattle.qr_bits.specs.Bits.{field}
 
 -- The mode indicator of structured append (ISO/IEC 18004:2015, 7.4.1, Table 2)

@@ -2,7 +2,7 @@
 -- characters, and these stand for the bytes. The characters are the bytes themselves, except in alphanumeric mode after
 -- FNC1. `ms` are the modes of the bytes `xs`.
 use Rattle.std.specs.Prelude.{ℕ, ◌+◌, ◌*◌, ◌/◌, ◌%◌, ◌<◌, Bool, true, false, ◌&&◌, ◌||◌, nat_lt, nat_le, if◌then◌else◌, List, [], ◌∷◌, ◌++◌, map, take, drop, length, ◌==◌, Option, Some, None, IsTrue}
-use Rattle.qr_bits.specs.declared.segment.Segment.{Segment}
+use Rattle.qr_bits.specs.declared.segmentation.Segment.{Segment}
 use Rattle.qr_bits.specs.declared.modes.Mode.{Mode}
 use Rattle.qr_bits.specs.declared.modes.Mode.TheVariants.{Alphanumeric}
 use Rattle.qr_bits.specs.Bits.{field}
@@ -118,16 +118,16 @@ abbrev pub character_for : Interpretation → ℕ → Mode → ℕ
 character_for written.Gs1 x Alphanumeric = if x == separator then percent else x
 character_for _ x m = x
 
--- The modes of the characters that are written for bytes of GS1 data, which come after FNC1 in first position, if these
--- bytes have the given modes. For a byte that becomes two characters, its mode is listed twice (ISO/IEC 18004:2015,
--- 7.4.8.2)
+-- The first list has the bytes of GS1 data, and the second a mode for each of them. The result has a mode for each
+-- character that is written for these bytes after FNC1 in first position. For a byte that becomes two characters, its
+-- mode is listed twice (ISO/IEC 18004:2015, 7.4.8.2)
 unfoldable pub doubled_gs1 : List ℕ → List Mode → List Mode
 doubled_gs1 [] ms = ms
 doubled_gs1 (x ∷ xs) [] = []
 doubled_gs1 (x ∷ xs) (m ∷ ms) = if is_doubled written.Gs1 x m then m ∷ m ∷ doubled_gs1 xs ms else m ∷ doubled_gs1 xs ms
 
--- The characters that are written for bytes of GS1 data, which come after FNC1 in first position, if these bytes have
--- the given modes (ISO/IEC 18004:2015, 7.4.8.2)
+-- The first list has the bytes of GS1 data, and the second a mode for each of them. The result has the characters that
+-- are written for these bytes after FNC1 in first position (ISO/IEC 18004:2015, 7.4.8.2)
 unfoldable pub characters_gs1 : List ℕ → List Mode → List ℕ
 characters_gs1 [] ms = []
 characters_gs1 (x ∷ xs) [] = x ∷ xs
@@ -135,8 +135,9 @@ characters_gs1 (x ∷ xs) (m ∷ ms) =
     let c = character_for written.Gs1 x m in
     if is_doubled written.Gs1 x m then c ∷ c ∷ characters_gs1 xs ms else c ∷ characters_gs1 xs ms
 
--- The modes of the characters that are written for the bytes `xs` under an interpretation, if the bytes have the given
--- modes. For a byte that becomes two characters, its mode is listed twice (ISO/IEC 18004:2015, 7.4.8.2)
+-- `ms` has a mode for each of the bytes `xs`. The result has a mode for each character that is written for these bytes
+-- under an interpretation. For a byte that becomes two characters, its mode is listed twice (ISO/IEC 18004:2015,
+-- 7.4.8.2)
 abbrev pub doubled : Interpretation → List ℕ → List Mode → List Mode
 doubled written.Default xs ms = ms
 doubled (written.Eci n) xs ms = ms

@@ -5,8 +5,8 @@ use Rattle.std.specs.Prelude.{◌≡◌, ◌⊎◌, ℕ, zero, suc, ◌+◌, ◌
 use Rattle.std.specs.List.{slice_index_or}
 use Rattle.qr_bits.specs.declared.modes.Mode.{Mode}
 use Rattle.qr_bits.specs.declared.modes.Mode.TheVariants.{Numeric, Alphanumeric, Byte, Kanji}
-use Rattle.qr_bits.specs.declared.segment.Segment.{Segment}
-use Rattle.qr_bits.specs.declared.header.Header.{Header}
+use Rattle.qr_bits.specs.declared.segmentation.Segment.{Segment}
+use Rattle.qr_bits.specs.declared.stream.Header.{Header}
 use Rattle.qr_bits.specs.declared.interpretation.Designator.{Designator}
 use Rattle.qr_bits.specs.declared.interpretation.EciChange.{EciChange}
 use Rattle.qr_bits.specs.declared.interpretation.Item.{Item}

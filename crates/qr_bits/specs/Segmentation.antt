@@ -7,7 +7,7 @@ use Rattle.std.specs.List.{list_all, sum_by}
 use Rattle.qr_bits.specs.declared.modes.Mode.{Mode}
 use Rattle.qr_bits.specs.declared.modes.Mode.TheVariants.{Numeric, Alphanumeric, Byte, Kanji}
 use Rattle.qr_bits.specs.declared.modes.Rule.{Rule}
-use Rattle.qr_bits.specs.declared.segment.Segment.{Segment}
+use Rattle.qr_bits.specs.declared.segmentation.Segment.{Segment}
 use Rattle.qr_bits.specs.Modes.{count_width, is_digit, payload_bits, may_use}
 use Rattle.qr_bits.specs.Stream.{Suits}
 use Rattle.qr_bits.specs.declared.interpretation.Interpretation.{Interpretation}

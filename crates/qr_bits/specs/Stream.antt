@@ -4,8 +4,8 @@
 use Rattle.std.specs.Prelude.{◌≡◌, ◌⊎◌, ℕ, ◌+◌, ◌*◌, ◌/◌, ◌%◌, ◌<◌, ◌≤◌, Bool, true, false, ◌==◌, if◌then◌else◌, List, [], ◌∷◌, length, take, drop, IsTrue, ◌-◌, ◌^◌, ◌++◌, All, Option}
 use Rattle.qr_bits.specs.declared.modes.Mode.{Mode}
 use Rattle.qr_bits.specs.declared.modes.Mode.TheVariants.{Numeric, Alphanumeric, Byte, Kanji}
-use Rattle.qr_bits.specs.declared.segment.Segment.{Segment}
-use Rattle.qr_bits.specs.declared.header.Header.{Header}
+use Rattle.qr_bits.specs.declared.segmentation.Segment.{Segment}
+use Rattle.qr_bits.specs.declared.stream.Header.{Header}
 use Rattle.qr_bits.specs.Bits.{field, bits_of}
 use Rattle.qr_bits.specs.Modes.{character_count, count_width, suits, indicator, character_value, kanji_value}
 use Rattle.qr_bits.specs.Header.{header_stream, HeaderFits}

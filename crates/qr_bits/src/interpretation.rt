@@ -12,7 +12,7 @@ ghost use Rattle.qr_bits.specs.Steps.Segmentation.{is_itself};
 ghost use Rattle.qr_bits.specs.Interpretation.{are_fields, eci_changes, fnc1_of, interpretation_bits, MayWrite, meant, meant_bytes, percent, separated, separator};
 
 use crate::modes::Mode;
-use crate::segment::Segment;
+use crate::segmentation::Segment;
 use std::alloc::{AllocError, Global};
 
 /// How the bytes of a symbol are to be interpreted.

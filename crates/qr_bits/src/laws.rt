@@ -8,8 +8,8 @@ ghost use Rattle.std.specs.Prelude.{◌≡◌, ◌-◌, ◌/◌, ◌%◌, ℕ, L
 ghost use Rattle.qr_layout.specs.declared.level.Level.{Level};
 ghost use Rattle.qr_bits.specs.declared.modes.Mode.TheVariants.{Alphanumeric, Byte, Kanji, Numeric};
 ghost use Rattle.qr_bits.specs.declared.modes.Rule.{Rule};
-ghost use Rattle.qr_bits.specs.declared.segment.Segment.{Segment};
-ghost use Rattle.qr_bits.specs.declared.header.Header.{Header};
+ghost use Rattle.qr_bits.specs.declared.segmentation.Segment.{Segment};
+ghost use Rattle.qr_bits.specs.declared.stream.Header.{Header};
 ghost use Rattle.qr_bits.specs.declared.interpretation.Interpretation.{Interpretation};
 ghost use Rattle.qr_bits.specs.Interpretation.{are_fields, characters_in, doubled, interpretation_bits, items_in, meant_bytes};
 ghost use Rattle.qr_bits.specs.Bits.{bits_of, field};
@@ -24,9 +24,9 @@ ghost use Rattle.qr_bits.specs.Laws.{BitsAreCodewordBits, CountsFitWhereBitsFit,
 ghost use Rattle.qr_bits.specs.Examples.{all_modes, eight_digits, eleven_characters, interpreted, middle, middle_data, one, modes_of_fields, segments_of_fields, three_fields, two_kanji, two_kanji_data, unreadable};
 
 use crate::fault::{BitFault, ParseFault};
-use crate::header::Header;
 use crate::modes::{INPUT_MAX, Mode, Rule};
-use crate::segment::Segment;
+use crate::segmentation::Segment;
+use crate::stream::Header;
 use std::alloc::AllocError;
 
 /// Bits are parsed as an optional structured append header and segments, without other items, exactly if they are the
@@ -85,7 +85,7 @@ pub fn fitting_inputs_are_short()
 
 /// The least segmentation of an input is what `segments` returns: segments, and the characters that they contain. The
 /// segments cover these characters, and no valid assignment of modes takes fewer bits.
-#[tactic(auto, using(crate::proofs::lemmas::segment::SegmentLemmas::least_fits))]
+#[tactic(auto, using(crate::proofs::lemmas::segmentation::SegmentLemmas::least_fits))]
 pub fn least_segmentations_fit()
     ensures { LeastSegmentationsFit }
 {}

@@ -7,7 +7,6 @@ mod best_modes;
 mod bits;
 mod fault;
 mod folding;
-mod header;
 mod interpretation;
 pub mod laws;
 mod longest_prefix;
@@ -16,13 +15,11 @@ mod modes;
 mod padding;
 mod parsing;
 mod run_state;
-mod segment;
 mod segmentation;
 mod stream;
 
 pub use fault::{BitFault, ParseFault};
 pub use folding::fold;
-pub use header::{Header, parity};
 pub use interpretation::{
     Designator, EciChange, Fnc1, Interpretation, Item, interpretation_bits, may_write,
 };
@@ -31,5 +28,5 @@ pub use lower_bound::least_bits;
 pub use modes::{INPUT_MAX, Mode, Rule};
 pub use padding::codewords;
 pub use parsing::{Parsed, parse};
-pub use segment::{Segment, bit_len, covers};
-pub use segmentation::{Segmented, segments};
+pub use segmentation::{Segment, Segmented, bit_len, covers, segments};
+pub use stream::{Header, parity};

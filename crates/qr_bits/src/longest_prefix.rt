@@ -18,10 +18,10 @@ ghost use Rattle.qr_bits.specs.Interpretation.{MayWrite};
 
 use crate::best_modes::row_of;
 use crate::fault::BitFault;
-use crate::header::HEADER_BITS;
 use crate::interpretation::{Interpretation, interpretation_bits, is_gs1};
 use crate::modes::{INPUT_MAX, Mode, Rule, count_width, is_kanji_pair, may_use};
 use crate::run_state::{FirstChoices, NO_BITS, PerState};
+use crate::stream::HEADER_BITS;
 use qr_layout::{Level, Version};
 use std::alloc::Global;
 

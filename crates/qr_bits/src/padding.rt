@@ -11,12 +11,10 @@ ghost use Rattle.std.specs.Option.{ForSome};
 
 use crate::bits::BitWriter;
 use crate::fault::BitFault;
-use crate::header::{HEADER_BITS, Header};
 use crate::interpretation::{Interpretation, interpretation_bits};
 use crate::modes::INPUT_MAX;
-use crate::segment::bit_len;
-use crate::segmentation::Segmented;
-use crate::stream::{put_header, put_interpretation, put_segments};
+use crate::segmentation::{Segmented, bit_len};
+use crate::stream::{HEADER_BITS, Header, put_header, put_interpretation, put_segments};
 use qr_layout::{Level, Version};
 use std::alloc::{AllocError, Global};
 

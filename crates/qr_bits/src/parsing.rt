@@ -11,12 +11,12 @@ ghost use Rattle.qr_bits.specs.Steps.Parsing.{IsFaultOf, IsReadOf, segment_of};
 
 use crate::bits::BitReader;
 use crate::fault::ParseFault;
-use crate::header::Header;
 use crate::interpretation::{Designator, EciChange, Fnc1, Item, fnc1_of, interpreted};
 use crate::modes::{
     CHARACTERS, ECI, FNC1_FIRST, FNC1_SECOND, Mode, byte_count, count_width, mode_of, payload_bits,
 };
-use crate::segment::Segment;
+use crate::segmentation::Segment;
+use crate::stream::Header;
 use qr_layout::Version;
 use std::alloc::Global;
 use std::marker::Model;

@@ -1,26 +1,51 @@
 //! How the bit stream of a symbol is written: a structured append header if there is one, the ECI header or FNC1 of the
 //! interpretation, and then the segments (ISO/IEC 18004:2015, 7.4.1 to 7.4.6, 7.4.8, 8.1). In contracts `writer.old`
 //! and `writer.new` are the bits that the writer has before and after the call.
+//!
+//! Each symbol of a series begins with a structured append header. The header says which symbol of the series this is,
+//! and how many symbols there are. It also has the parity data of the whole input (ISO/IEC 18004:2015, 8).
 
 ghost use Rattle.std.specs.Prelude.{All, IsTrue, OnOk, length, ◌++◌, ◌+◌, ◌-◌, ◌<◌, ◌^◌, ◌≡◌, ◌≤◌};
-ghost use Rattle.qr_bits.specs.Modes.{characters, in_twos, is_alphanumeric, is_digit, is_kanji_pair, suits};
-ghost use Rattle.qr_bits.specs.Segmentation.{Covers};
-ghost use Rattle.qr_bits.specs.Header.{header_stream};
-ghost use Rattle.qr_bits.specs.Interpretation.{designator, interpretation_stream, InterpretationFits};
 ghost use Rattle.std.specs.List.{list_all};
 ghost use Rattle.std.specs.Option.{ForSome};
+ghost use Rattle.qr_bits.specs.Modes.{characters, in_twos, is_alphanumeric, is_digit, is_kanji_pair, suits};
+ghost use Rattle.qr_bits.specs.Segmentation.{Covers};
+ghost use Rattle.qr_bits.specs.Header.{header_stream, parity_of};
+ghost use Rattle.qr_bits.specs.Interpretation.{InterpretationFits, designator, interpretation_stream};
 ghost use Rattle.qr_bits.specs.Stream.{character_bits, digit_bits, kanji_bits, segment_stream, segments_stream};
 
 use crate::bits::BitWriter;
-use crate::header::Header;
 use crate::interpretation::Interpretation;
 use crate::modes::{
     ECI, FNC1_FIRST, Mode, STRUCTURED_APPEND, character_value, count_width, indicator, kanji_value,
 };
 use crate::parsing::NUMBERS;
-use crate::segment::Segment;
+use crate::segmentation::Segment;
 use qr_layout::Version;
 use std::alloc::AllocError;
+
+// The number of bits of a header. The mode indicator, `position` and `last` have 4 bits each, and `parity` has 8 bits
+// (ISO/IEC 18004:2015, 8.1 to 8.3).
+pub(crate) const HEADER_BITS: u64 = 20;
+
+/// The structured append header of a symbol (ISO/IEC 18004:2015, 8.1).
+#[derive(Clone, Copy, Debug, PartialEq, Eq)]
+pub struct Header {
+    /// The index of the symbol in its series, from 0 to 15 (ISO/IEC 18004:2015, 8.2).
+    pub position: u8,
+    /// The number of symbols in the series less 1, from 0 to 15 (ISO/IEC 18004:2015, 8.2).
+    pub last: u8,
+    /// The parity data of the whole input of the series, as `parity` returns them (ISO/IEC 18004:2015, 8.3).
+    pub parity: u8,
+}
+
+/// Returns the parity data of a series that contains `input`: the exclusive or of all its bytes, which is 0 if there
+/// are none (ISO/IEC 18004:2015, 8.3).
+pub fn parity(input: &[u8]) -> u8
+    ensures { result ≡ parity_of input.now }
+{
+    input.iter().fold(0, |parity, byte| parity ^ *byte)
+}
 
 // Writes the header. The contract also says that the parity is a byte; this is for the prover.
 #[tactic(auto, unfolding(crate::specs::Header::header_stream))]

@@ -3,12 +3,10 @@
 #![tactic(auto)]
 
 mod bounded;
-mod counted;
 mod device;
 pub mod laws;
 mod trial;
 
 pub use bounded::Bounded;
-pub use counted::Counted;
-pub use device::{INTERRUPTIONS_MAX, ReadCounts, Sink, Source, Trouble, WriteCounts};
+pub use device::{Counted, INTERRUPTIONS_MAX, ReadCounts, Sink, Source, Trouble, WriteCounts};
 pub use trial::{Faults, Trial};

@@ -8,8 +8,7 @@ ghost use Rattle.qr_devices.specs.Device.{AppendsBeginning, IsWrittenWithin, cou
 ghost use Rattle.qr_drawing.specs.Drawing.{HaveOneSide, drawn};
 ghost use Rattle.qr_drawing.specs.Raster.{is_dark_at, raster_width};
 
-use crate::pen::{DrawFault, PEN_SIZE, Pen, WRITE_MAX};
-use crate::piece::Piece;
+use crate::pen::{DrawFault, PEN_SIZE, Pen, Piece, WRITE_MAX};
 use crate::svg::put_document;
 use crate::text::{TextStyle, put_texts};
 use qr_devices::Sink;

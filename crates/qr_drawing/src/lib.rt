@@ -5,7 +5,6 @@
 mod drawing;
 pub mod laws;
 mod pen;
-mod piece;
 mod svg;
 mod text;
 

@@ -10,8 +10,7 @@ ghost use Rattle.qr_drawing.specs.Steps.Svg.{head, tail, width_path};
 ghost use Rattle.qr_drawing.specs.Svg.{background, box_path, numbered, opening, row_path, stack_path, svg_document, symbol_path};
 
 use crate::drawing::{HasSquare, Raster};
-use crate::pen::{DrawFault, PEN_SIZE, Pen, WRITE_MAX};
-use crate::piece::Piece;
+use crate::pen::{DrawFault, PEN_SIZE, Pen, Piece, WRITE_MAX};
 use itoa::Buffer;
 use qr_devices::Sink;
 

@@ -18,8 +18,7 @@ ghost use Rattle.qr_drawing.specs.Steps.Pen.{Puts};
 ghost use Rattle.qr_drawing.specs.declared.text.TextStyle.TheVariants.{HalfBlocks, Plain};
 
 use crate::drawing::{HasSquare, Raster};
-use crate::pen::{DrawFault, PEN_SIZE, Pen, WRITE_MAX};
-use crate::piece::Piece;
+use crate::pen::{DrawFault, PEN_SIZE, Pen, Piece, WRITE_MAX};
 use qr_devices::Sink;
 use qr_symbol::Matrix;
 

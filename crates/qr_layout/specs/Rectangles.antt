@@ -2,7 +2,7 @@
 -- cover all modules outside the encoding region.
 use Rattle.std.specs.Prelude.{◌≡◌, ℕ, ◌<◌, ◌≤◌, Bool, ◌&&◌, ◌||◌, nat_lt, nat_le, List}
 use Rattle.std.specs.List.{All, list_any}
-use Rattle.qr_layout.specs.declared.rectangles.Rectangle.{Rectangle}
+use Rattle.qr_layout.specs.declared.region.Rectangle.{Rectangle}
 use Rattle.qr_layout.specs.Region.{is_corner, is_timing, is_version_information}
 use Rattle.qr_layout.specs.Version.{side_of}
 

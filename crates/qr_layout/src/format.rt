@@ -1,6 +1,7 @@
 //! The format information and the version information: their bits, and the modules that contain them (ISO/IEC
-//! 18004:2015, 7.9 and 7.10, Annexes C and D). Each of the two is in a symbol twice, in two copies. Bit 0 is the lowest
-//! bit of the number that `format_word` or `version_word` returns.
+//! 18004:2015, 7.9 and 7.10, Annexes C and D). Each symbol has two copies of the format information. From version 7 on
+//! it also has two copies of the version information. Bit 0 is the lowest bit of the number that `format_word` or
+//! `version_word` returns.
 //!
 //! The first copy of the format information goes around the top left finder pattern. Bits 0 to 7 are in column 8, from
 //! row 0 down to row 8, and bits 8 to 14 in row 8, from column 7 to the left. Bits 0 to 7 leave out row 6, and bits 8

@@ -14,7 +14,7 @@ ghost use Rattle.qr_layout.specs.Format.{five_bits, format_word_of, version_word
 ghost use Rattle.qr_layout.specs.Alignment.{centres_of};
 ghost use Rattle.qr_layout.specs.Region.{is_alignment, is_in_region, InRegion};
 ghost use Rattle.qr_layout.specs.Rectangles.{AreFixed, is_in_rectangle};
-ghost use Rattle.qr_layout.specs.declared.rectangles.Rectangle.{Rectangle};
+ghost use Rattle.qr_layout.specs.declared.region.Rectangle.{Rectangle};
 ghost use Rattle.qr_layout.specs.Order.{IsOrder, index_of, places_passing};
 ghost use Rattle.qr_layout.specs.Role.{role_of};
 ghost use Rattle.qr_layout.specs.Format.{first_place, second_place, version_place, mirror_of};
@@ -23,8 +23,7 @@ ghost use Rattle.qr_layout.specs.Laws.{all_versions, printed_correction, printed
 use crate::blocks::Blocks;
 use crate::level::Level;
 use crate::order::walk;
-use crate::rectangles::Rectangle;
-use crate::region::Place;
+use crate::region::{Place, Rectangle};
 use crate::role::Role;
 use crate::strips::Strip;
 use crate::version::Version;

@@ -1,7 +1,7 @@
 -- The lemmas that the attributes of functions name.
 use Rattle.qr_matrix.proofs.lemmas.bit_row.PlaceLemmas.{at-step, eight-step, four-step, words-small}
 use Rattle.qr_matrix.proofs.lemmas.matrix.MatrixLemmas.{dark-replicate, filled-dark, filled-light, light-square, masked-bit, masked-past, row-read, rows-long, with_row-same}
-use Rattle.qr_matrix.proofs.lemmas.transposition.TranspositionLemmas.{word-put, word-read}
+use Rattle.qr_matrix.proofs.lemmas.matrix.TranspositionLemmas.{word-put, word-read}
 
 -- reading and writing parts of a bit row
 pub ruleset bit_row_facts = (at-step, four-step, eight-step, word-read, word-put, words-small)

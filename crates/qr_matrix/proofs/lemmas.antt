@@ -2,9 +2,8 @@
 pub mod bit_row
 pub mod matrix
 pub mod bytes
-pub mod row_pair
+pub mod matrix_pair
 pub mod dark_runs
-pub mod transposition
 pub mod difference
 pub mod rows
 pub mod runs

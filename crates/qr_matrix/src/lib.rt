@@ -10,10 +10,8 @@ pub mod laws;
 mod matrix;
 mod matrix_pair;
 mod penalties;
-mod row_pair;
 mod rows;
 mod runs;
-mod transposition;
 mod windows;
 
 pub use bit_row::BitRow;

@@ -1,6 +1,6 @@
 //! Finds the level and the mask of a damaged symbol by the two copies of its format information (ISO/IEC 18004:2015,
-//! 7.9.1 and Annex C). The cost of a copy with a level and a mask is 1 for each of its modules that was not read, and 2
-//! for each that is misread if the symbol has this level and mask. A level and a mask are near to a copy if this cost
+//! 7.9.1 and Annex C). Suppose that the symbol has a certain level and mask. Then a copy costs 1 for each of its
+//! modules that was not read, and 2 for each that is misread. The level and the mask are near to the copy if this cost
 //! is at most 6.
 
 ghost use Rattle.std.specs.Prelude.{◌≡◌, ℕ, ◌+◌, ◌*◌, ◌<◌, ◌≤◌, MatchOption};

@@ -1,9 +1,9 @@
 //! Mends and reads damaged symbols (ISO/IEC 18004:2015, 7.5.1, 7.9.1 and 12). A codeword is erased if one of its
 //! modules was not read. Each codeword has a mark in `marks`, which is 0 exactly if the codeword is not erased.
 //!
-//! The cost of a copy of the format information with a level and a mask is 1 for each of its modules that was not read,
-//! and 2 for each that is misread if the symbol has this level and mask. A level and a mask are near to a copy if this
-//! cost is at most 6.
+//! Suppose that the symbol has a certain level and mask. Then a copy of the format information costs 1 for each of its
+//! modules that was not read, and 2 for each that is misread. A level and a mask are near to a copy if this cost is at
+//! most 6.
 
 ghost use Rattle.std.specs.Prelude.{◌≡◌, ◌<◌, ◌≤◌, length, IfErr, IfOk, IfSome, MatchOption, MatchResult};
 ghost use Rattle.std.specs.Bool.{OnTrue};
@@ -25,10 +25,11 @@ use qr_matrix::{Matrix, differences};
 use qr_symbol::{ReadFault, draw_symbol, read_codewords};
 use std::alloc::{AllocError, Global};
 
-// If both copies together cost at most this with one pair of level and mask, they cost more with every other pair. For
-// the format information of two pairs differs in at least seven bits of each copy. Take the cost with one pair and the
-// cost with the other. Each bit that differs adds 2 to the sum of these costs: 2 to one cost if the module of the bit
-// was read, and otherwise 1 to each cost. Both copies have at least 14 such bits, so the sum is at least 28.
+// If both copies together cost at most this with one pair of level and mask, they cost more with every other pair. The
+// reason is that the format information of two pairs differs in at least seven of its 15 bits, and each copy shows all
+// 15. Take the cost with one pair and the cost with the other. Each bit that differs adds 2 to the sum of these costs:
+// 2 to one cost if the module of the bit was read, and otherwise 1 to each cost. Both copies have at least 14 such
+// bits, so the sum is at least 28.
 const COST_CERTAIN: u8 = 13;
 
 // A symbol whose blocks were mended with this level and mask.

@@ -53,8 +53,8 @@ pub struct Drawn {
     pub squares: Vec<Matrix>,
 }
 
-// Returns what the sheet shows, if it has 1 to 16 squares of 8 to 177 modules on a side. In the contract, `text` is a
-// text with this sheet.
+// Returns what the sheet shows, if it has 1 to 16 squares of 8 to 177 modules on a side and a margin of at most 255
+// modules, and otherwise `None`. In the contract, `text` is a text with this sheet.
 fn drawn_of(alloc: Global, sheet: &Sheet) -> Result<Option<Drawn>, AllocError>
     ensures { (text : List ℕ)
         → IsSheetOf sheet.now.kind sheet.now.width sheet.now.count sheet.now.bytes.now text

@@ -10,12 +10,12 @@ use Rattle.qr_layout.specs.Format.{format_word_of}
 use Rattle.qr_layout.specs.Order.{IsOrder}
 use Rattle.qr_layout.specs.Format.{first_place}
 use Rattle.qr_bits.specs.declared.modes.Rule.{Rule}
-use Rattle.qr_bits.specs.declared.segment.Segment.{Segment}
+use Rattle.qr_bits.specs.declared.segmentation.Segment.{Segment}
 use Rattle.qr_bits.specs.Segmentation.{IsLeastSegmentation}
 use Rattle.qr_bits.specs.Bits.{bits_of}
 use Rattle.qr_bits.specs.Parsing.{Content, parse}
 use Rattle.qr_bits.specs.Interpretation.{ecis_in, fnc1_in, fnc1_of, items_in}
-use Rattle.qr_bits.specs.declared.header.Header.{Header}
+use Rattle.qr_bits.specs.declared.stream.Header.{Header}
 use Rattle.qr_bits.specs.declared.interpretation.Interpretation.{Interpretation}
 use Rattle.qr_bits.specs.declared.fault.ParseFault.{ParseFault}
 use Rattle.qr_bits.specs.declared.fault.ParseFault.TheVariants as unparsed

@@ -23,7 +23,7 @@ use std::mem;
 const SYMMETRIC_FORMAT: u32 = 1 << 7;
 
 /// The squares from which symbols are made. In `region` exactly the region is dark. `plain` is a symbol before its mask
-/// and its format information are drawn.
+/// and its own format information are drawn.
 #[derive(Drop)]
 pub(crate) struct Canvas {
     pub version: Version,

@@ -1,7 +1,7 @@
 //! Encodes an input as one symbol (ISO/IEC 18004:2015, 7.1). The version of the symbol and the segments of the input
 //! are found first (`version_choice.rt`). The segments are written as data codewords, which are interleaved with the
-//! error correction codewords. Then the symbol is drawn on a canvas (`canvas.rt`), the squares from which symbols are
-//! made.
+//! error correction codewords. Then the symbol is drawn on a canvas (`canvas.rt`). A canvas has two squares: one shows
+//! the region, and the other has the function patterns, to which the codewords are added.
 
 ghost use Rattle.std.specs.Prelude.{◌≡◌, ◌≢◌, ◌+◌, ◌<◌, ◌≤◌, ◌↔◌, ◌⊎◌, ℕ, List, [], length, Err, IfOk, IfErr, MatchResult};
 ghost use Rattle.std.specs.Option.{ForSome};
@@ -20,9 +20,9 @@ ghost use Rattle.qr_symbol.specs.VersionChoice.{HasNoVersion};
 ghost use Rattle.qr_symbol.specs.Series.{IsSymbolOf};
 
 use crate::canvas::Canvas;
-use crate::choice::build_on;
 use crate::fault::EncodeFault;
 use crate::interleaving::interleave;
+use crate::mask::build_on;
 use crate::symbol::Symbol;
 use crate::version_choice::{highest_with_room, least_fit, needed_bits};
 use qr_bits::{Header, INPUT_MAX, Interpretation, Rule, Segmented, codewords};

@@ -34,10 +34,10 @@ ghost use Rattle.qr_symbol.specs.Interleaving.{block_count, block_len, start_of,
 ghost use Rattle.qr_symbol.specs.Distance.{MessagesLieApart, DamagedMessagesAreOne};
 ghost use Rattle.qr_symbol.specs.Laws.{all_masks, bits_down, computed_rows, first_rows};
 
-use crate::choice::build;
 use crate::fault::{EncodeFault, ReadFault};
 use crate::interleaving::BlockSizes;
 use crate::joining::read_series;
+use crate::mask::build;
 use crate::reading::read_symbol;
 use crate::symbol::{Symbol, build_masked};
 use qr_bits::{INPUT_MAX, Parsed};

@@ -22,7 +22,6 @@
 #![tactic(auto)]
 
 mod canvas;
-mod choice;
 mod collecting;
 mod encoding;
 mod fault;
@@ -39,11 +38,11 @@ mod symbol;
 mod version_choice;
 mod words;
 
-pub use choice::build;
 pub use encoding::{encode, encode_boosted};
 pub use fault::{EncodeFault, ReadFault};
 pub use interleaving::{BlockSizes, deinterleave, interleave};
 pub use joining::{join, read_series};
+pub use mask::build;
 pub use qr_bits::{INPUT_MAX, Interpretation, Rule, may_write};
 pub use qr_layout::{Level, Version};
 pub use qr_matrix::{Matrix, penalty};

@@ -110,8 +110,8 @@ pub(crate) fn draw_both_formats(pair: &mut MatrixPair, version: Version, formats
         let dark = (is_bit_set(formats.0, bit), is_bit_set(formats.1, bit));
         pair.set(place.row, place.col, dark);
     }
-    // Row 8 has the bits in reverse order, from left to right. The first copy has bits 14 to 9 in columns 0 to 5, then a
-    // module of the timing pattern, and then bits 8 and 7. The second copy has bits 7 to 0 in the last eight columns.
+    // Row 8 has the bits in reverse order, from left to right. The first copy has bits 14 to 9 in columns 0 to 5, then
+    // a module of the timing pattern, and then bits 8 and 7. The second copy has bits 7 to 0 in the last eight columns.
     let first = reversed(u64::from(formats.0)) >> 49;
     let second = reversed(u64::from(formats.1)) >> 49;
     pair.set_columns(8, 0, 6, (first, second));

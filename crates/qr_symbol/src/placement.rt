@@ -71,8 +71,8 @@ fn draw_columns(
 }
 
 // Draws all codewords into the transposed square. Outside the region the square keeps its colours. From each strip the
-// two columns are taken, the region in them is made light, they are drawn, and put back. `draw_columns` is called in two
-// places, so that the compiler makes separate code for strips that are filled upward and for those that are filled
+// two columns are taken, the region in them is made light, they are drawn, and put back. `draw_columns` is called in
+// two places, so that the compiler makes separate code for strips that are filled upward and for those that are filled
 // downward.
 pub(crate) fn draw_codewords(
     across: &mut Matrix,

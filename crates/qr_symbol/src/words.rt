@@ -160,8 +160,9 @@ pub(crate) fn joined(right: u64, left: u64, upward: bool, count: u8) -> u64
     }
 }
 
-// The bits of the eight codewords from index `first` on, with the first bit as the highest. Each codeword after the last
-// one counts as 0. The bound on `first` follows from the bound on `number` in `bits_at`, since a codeword has eight bits.
+// The bits of the eight codewords from index `first` on, with the first bit as the highest. Each codeword after the
+// last one counts as 0. The bound on `first` follows from the bound on `number` in `bits_at`, since a codeword has
+// eight bits.
 #[inline(never)]
 fn last_codewords(codewords: &[u8], first: usize) -> u64
     requires { first ≤ 5000 }

@@ -1,23 +1,53 @@
 //! A run of the command. It reads its settings from the arguments, gets its input, makes all symbols, and writes their
 //! drawing. If one of these steps fails, it writes the line of the fault. The first three steps make a drawing job: the
 //! symbols and how they are drawn.
+//!
+//! Reads the input to its end, or to `INPUT_MAX` bytes, which are more than 16 symbols can hold.
 
-ghost use Rattle.std.specs.Prelude.{◌≤◌, MatchResult, length, map};
+ghost use Rattle.std.specs.Prelude.{MatchResult, length, map, ◌≤◌};
 ghost use Rattle.std.specs.String.{string_bytes};
 ghost use Rattle.qrencode_cli.specs.Command.{RunsTo, held};
-ghost use Rattle.qrencode_cli.specs.Steps.Command.{AreDrawnFor, Attempts, IsInputFault, IsJobFor, Prepares};
+ghost use Rattle.qrencode_cli.specs.Steps.Command.{AreDrawnFor, Attempts, HasRead, IsInputFault, IsJobFor, Prepares, StopsReading};
 
 use crate::drawing_job::DrawingJob;
 use crate::fault::Fault;
-use crate::input::read_input;
 use crate::settings::{Settings, options};
 use qr_bits::{INPUT_MAX, Interpretation, Rule, fold};
-use qr_devices::{Sink, Source};
+use qr_devices::{INTERRUPTIONS_MAX, Sink, Source, Trouble};
 use qr_drawing::{draw, write_text};
 use qr_layout::Version;
 use qr_symbol::{encode, encode_series};
 use std::alloc::Global;
 use std::borrow::CowSlice;
+
+// The most bytes that one read asks for.
+const CHUNK: usize = 4096;
+
+/// Returns the bytes that it has read. Interrupted reads are tried again, at most `INTERRUPTIONS_MAX` times in all. The
+/// label of the loop is for the prover.
+pub(crate) fn read_input<R: Source>(alloc: Global, input: &mut R) -> Result<Vec<u8>, Fault>
+    ensures { MatchResult result (λ bytes. HasRead (R.device input.old) (R.device input.new) bytes.items)
+        (StopsReading (R.device input.old) (R.device input.new)) }
+{
+    let mut bytes = Vec::new(alloc);
+    let mut chunk = [0u8; CHUNK];
+    let mut interrupted: u16 = 0;
+    'reads: while bytes.len() < INPUT_MAX {
+        let room = CHUNK.min(INPUT_MAX - bytes.len());
+        match input.read(&mut chunk[..room]) {
+            Ok(0) => break,
+            Ok(given) => bytes.extend_from_slice(&chunk[..given])?,
+            Err(Trouble::Interrupted) => {
+                if interrupted == INTERRUPTIONS_MAX {
+                    return Err(Fault::Read);
+                }
+                interrupted += 1;
+            }
+            Err(Trouble::Failed) => return Err(Fault::Read),
+        }
+    }
+    Ok(bytes)
+}
 
 // Makes the symbols of `input`. With `-i` the input is folded first. Without `-S` it becomes one symbol, and with `-S`
 // one symbol or a series.

@@ -6,7 +6,6 @@ mod arguments;
 mod command;
 mod drawing_job;
 mod fault;
-mod input;
 pub mod laws;
 mod settings;
 

@@ -28,8 +28,8 @@ squares_of_bytes side (suc count) bytes = square_of_bytes side bytes ∷ squares
 abbrev pub drawing_of_bytes : (side count drawing margin : ℕ) → List ℕ → List ℕ
 drawing_of_bytes side count drawing margin bytes = drawn (drawing_of drawing) margin (squares_of_bytes side count bytes)
 
--- The text is in the buffer, which is `before` before the call and `after` after it. `after` begins with `text`, whose
--- length is `len`, and the rest of the buffer is unchanged [own]
+-- The call has put the text into the buffer. `before` has the bytes of the buffer before the call, and `after` those
+-- after the call: first `text`, whose length is `len`, and then the bytes that are unchanged [own]
 pub record HoldsText (text before after : List ℕ) (len : ℕ) : Type 0 where
   pub room : length text ≤ length before
   pub holds : after ≡ text ++ drop (length text) before

@@ -2,7 +2,7 @@
 -- each of its modules, row by row. The byte 0 is a light module, and any other byte a dark one.
 use Rattle.std.specs.Prelude.{◌≡◌, ℕ, ◌*◌, ◌<◌, ◌≤◌, List, ◌++◌, drop, length, Option, None, Some}
 use Rattle.qr_layout.specs.Version.{side_of}
-use Rattle.qr_bits.specs.declared.header.Header.{Header}
+use Rattle.qr_bits.specs.declared.stream.Header.{Header}
 use Rattle.qr_bits.specs.Parsing.{Content}
 use Rattle.qr_symbol.specs.declared.fault.ReadFault.{ReadFault}
 use Rattle.qr_symbol.specs.Reading.{IsReading, IsUnread}

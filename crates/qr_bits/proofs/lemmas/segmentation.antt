@@ -14,3 +14,7 @@ pub mod DoubledRunLemmas
 pub mod MarkedLemmas
 -- An assignment to bytes is valid exactly if its modes are allowed, one after the other.
 pub mod AssignedLemmas
+-- Segments that cover bytes, one after the other.
+pub mod CoverLemmas
+-- Lists of segments: their bits, their lengths, and what they cover.
+pub mod SegmentLemmas

@@ -1,7 +1,7 @@
 -- What the functions that read a part of the bits return, and how they append the bytes that they read.
 use Rattle.std.specs.Prelude.{◌≡◌, ◌⊎◌, ℕ, Bool, List, ◌++◌, drop, Result, Ok, Err, MatchResult}
 use Rattle.qr_bits.specs.declared.modes.Mode.{Mode}
-use Rattle.qr_bits.specs.declared.segment.Segment.{Segment}
+use Rattle.qr_bits.specs.declared.segmentation.Segment.{Segment}
 use Rattle.qr_bits.specs.declared.fault.ParseFault.{ParseFault}
 use Rattle.qr_bits.specs.declared.fault.ParseFault.TheVariants.{Memory}
 use Rattle.qr_bits.specs.Modes.{byte_count, payload_bits}

@@ -1,4 +1,4 @@
--- What a call does that writes through a pen: it changes the writer from `old` to `new` and the pen from `before` to
+-- What a call that writes through a pen does. It changes the writer from `old` to `new` and the pen from `before` to
 -- `after`, and returns `r`.
 use Rattle.std.specs.Prelude.{ℕ, ◌++◌, List, Result, MatchResult}
 use Rattle.qr_devices.specs.Device.{Writer}

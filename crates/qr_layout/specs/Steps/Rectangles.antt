@@ -2,7 +2,7 @@
 -- square dark, and then these rectangles light, one after the other.
 use Rattle.std.specs.Prelude.{ℕ, ◌≤◌, ◌+◌, ◌-◌, nat_lt, if◌then◌else◌, List, [], ◌∷◌, ◌++◌, map}
 use Rattle.qr_layout.specs.declared.region.Place.{Place}
-use Rattle.qr_layout.specs.declared.rectangles.Rectangle.{Rectangle}
+use Rattle.qr_layout.specs.declared.region.Rectangle.{Rectangle}
 use Rattle.qr_layout.specs.Version.{side_of}
 use Rattle.qr_layout.specs.Alignment.{centres_of, alignment_places}
 

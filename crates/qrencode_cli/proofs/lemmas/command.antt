@@ -2,3 +2,5 @@
 pub mod AskingLemmas
 -- The parts of a run make a correct run.
 pub mod RunningLemmas
+-- The invariant of the loop that reads the input.
+pub mod ReadingLemmas

@@ -1,4 +1,4 @@
-use Rattle.qr_bits.proofs.lemmas.segment.SegmentLemmas.{segmentation-one}
+use Rattle.qr_bits.proofs.lemmas.segmentation.SegmentLemmas.{segmentation-one}
 use Rattle.qr_bits.proofs.laws.segmentations_are_one.Goals as goal
 
 pub returns : goal.returns

@@ -1,7 +1,7 @@
 -- What the characters of items stand for, item by item.
 use Rattle.std.proofs.Common.{◌≡◌, ℕ, ◌+◌, ◌<◌, ◌≤◌, Bool, false, List, [], ◌∷◌, ◌++◌, length, take, drop, get_or, Option, None, refl, sym, arith}
 use Rattle.std.{proofs.Math.Seq.drop-cons, proofs.lemmas.List.{take-append-drop, drop_all}}
-use Rattle.qr_bits.specs.declared.{modes.Mode.Mode, segment.Segment.Segment, header.Header.Header}
+use Rattle.qr_bits.specs.declared.{modes.Mode.Mode, segmentation.Segment.Segment, stream.Header.Header}
 use Rattle.qr_bits.specs.declared.interpretation.{Item.Item, Item.TheVariants.{Data}}
 use Rattle.qr_bits.specs.{Stream.Suits, Interpretation.{plain, meant, meant_bytes, eci_changes, fnc1_of}, Parsing.{content_of, plain_content}}
 

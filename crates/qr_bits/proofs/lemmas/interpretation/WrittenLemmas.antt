@@ -4,7 +4,7 @@ use Rattle.std.proofs.lemmas.{Bool.cond_both, Bool.and_parts, Bool.and_from, Lis
 use Rattle.qr_bits.specs.declared.modes.Mode.{Mode, TheVariants.{Numeric, Byte, Kanji}}
 use Rattle.qr_bits.specs.declared.interpretation.Interpretation.{Interpretation, TheVariants.{Default, Gs1, Eci}}
 use Rattle.qr_bits.specs.Interpretation.{is_doubled, character_for, doubled_gs1, characters_gs1, doubled, characters_in, are_fields, MayWrite}
-use Rattle.qr_bits.specs.declared.{modes.Rule.Rule, segment.Segment.Segment}
+use Rattle.qr_bits.specs.declared.{modes.Rule.Rule, segmentation.Segment.Segment}
 use Rattle.qr_bits.specs.Segmentation.{rank, least_sixths, IsLeastSegmentation}
 
 -- the modes of the characters of one byte more

@@ -2,7 +2,7 @@
 use Rattle.std.proofs.Common.{◌≡◌, ℕ, zero, suc, ◌+◌, ◌-◌, ◌*◌, ◌/◌, ◌%◌, ◌<◌, ◌≤◌, min, Bool, true, false, All, List, [], ◌++◌, length, replicate, Ok, Option, refl, ap, ⊎_elim, arith, append_assoc, length-append, append-nil}
 use Rattle.std.proofs.lemmas.{Bool.lt-ltb, Bool.cases_lt, Bool.or_right, List.length-replicate, List.drop_all}
 use Rattle.qr_layout.specs.{declared.level.Level.Level, Blocks.data_codewords_of}
-use Rattle.qr_bits.specs.{declared.{segment.Segment.Segment, header.Header.Header}, Parsing.{content_of, plain_content, ends, parse}}
+use Rattle.qr_bits.specs.{declared.{segmentation.Segment.Segment, stream.Header.Header}, Parsing.{content_of, plain_content, ends, parse}}
 use Rattle.qr_bits.specs.{Bits.bits_of, Segmentation.bits, Header.header_bits, Stream.IsStream}
 use Rattle.qr_bits.specs.Interpretation.{interpretation_bits, items_in}
 use Rattle.qr_bits.specs.declared.interpretation.Interpretation.{Interpretation}

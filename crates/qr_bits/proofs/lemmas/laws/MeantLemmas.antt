@@ -2,12 +2,12 @@
 use Rattle.std.proofs.Common.{◌≡◌, ℕ, ◌+◌, ◌≤◌, true, List, [], ◌∷◌, ◌++◌, length, take, drop, sum_by, Option, None, refl, sym, arith}
 use Rattle.std.proofs.Math.Nat.{le_refl}
 use Rattle.std.proofs.lemmas.{List.Sums.sum_by-cons, List.nil_from_length, List.{take-append-drop, take-append-le, drop-append-le, take_all, drop_all, length-drop}}
-use Rattle.qr_bits.specs.declared.{modes.Mode.Mode, modes.Rule.Rule, segment.Segment.Segment, header.Header.Header}
+use Rattle.qr_bits.specs.declared.{modes.Mode.Mode, modes.Rule.Rule, segmentation.Segment.Segment, stream.Header.Header}
 use Rattle.qr_bits.specs.declared.modes.Mode.TheVariants.{Numeric, Alphanumeric, Byte, Kanji}
 use Rattle.qr_bits.specs.declared.interpretation.Interpretation.{Interpretation, TheVariants.{Default, Gs1, Eci}}
 use Rattle.qr_bits.specs.Interpretation.{plain, items_in, ecis_in, fnc1_in, fnc1_of, eci_changes, meant, meant_bytes, are_fields, characters_gs1, doubled_gs1, MayWrite}
 use Rattle.qr_bits.specs.{Segmentation.{runs_of, IsLeastSegmentation}, Steps.Segmentation.{written, written_in}, Parsing.content_of}
-use Rattle.qr_bits.proofs.lemmas.segment.CoverLemmas.{covers-suits}
+use Rattle.qr_bits.proofs.lemmas.segmentation.CoverLemmas.{covers-suits}
 use Rattle.qr_bits.proofs.lemmas.segmentation.{BackLemmas.sum_by-runs_of, BytesOnlyLemmas.assignment-length, RunLemmas.{runs-written, segments_of}}
 use Rattle.qr_bits.proofs.lemmas.parsing.FieldLemmas.{fields_again}
 use Rattle.qr_bits.proofs.lemmas.interpretation.{MeaningLemmas.{meant-plain, ecis-plain}, WrittenLemmas.{fields-drop, fields-take}}

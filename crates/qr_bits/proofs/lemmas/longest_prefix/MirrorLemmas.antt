@@ -7,7 +7,7 @@ use Rattle.std.proofs.lemmas.Bool.{and_parts, and_from}
 use Rattle.std.proofs.lemmas.List.{reverse-append, reverse-reverse, take_more, take_all, drop_all, take-append-le, drop-append-le, take-append-drop, length-append, length-take-le, length-reverse, get_or-reverse}
 use Rattle.qr_bits.specs.declared.modes.{Mode.Mode, Mode.TheVariants.Kanji, Rule.Rule}
 use Rattle.qr_bits.specs.declared.interpretation.Interpretation.{Interpretation, TheVariants.{Default, Gs1, Eci}}
-use Rattle.qr_bits.specs.declared.{segment.Segment.Segment, run_state.PerState.PerState}
+use Rattle.qr_bits.specs.declared.{segmentation.Segment.Segment, run_state.PerState.PerState}
 use Rattle.qr_bits.specs.declared.run_state.RunState.{RunState, TheVariants.Start}
 use Rattle.qr_bits.specs.Interpretation.{characters_gs1, doubled_gs1, characters_in, doubled}
 use Rattle.qr_bits.proofs.lemmas.interpretation.WrittenLemmas.{characters-reverse, doubled-reverse}
@@ -16,7 +16,7 @@ use Rattle.qr_bits.proofs.lemmas.segmentation.AssignedLemmas.{allowed-assigned, 
 use Rattle.qr_bits.specs.{Segmentation.{bits, prepend_mode, runs_of, HasFit}, Modes.{in_twos, is_kanji_pair, may_use}}
 use Rattle.qr_bits.{specs.Steps.Segmentation.append_mode}
 use Rattle.qr_bits.specs.Steps.{RunState.{swapped, begins_with_pair, may_end, may_take_in, allowed_in, cost_of_all, state_in}, BestModes.{bits_at, follow_in, IsRow}}
-use Rattle.qr_bits.proofs.lemmas.segment.CoverLemmas.{by-covers, suits_by, CoversBy}
+use Rattle.qr_bits.proofs.lemmas.segmentation.CoverLemmas.{by-covers, suits_by, CoversBy}
 use Rattle.qr_bits.proofs.lemmas.run_state.BestLemmas.{BestBelow, same-rank}
 use Rattle.qr_bits.proofs.lemmas.segmentation.BackLemmas.{runs_of-push, append_mode-last}
 use Rattle.qr_bits.proofs.lemmas.run_state.AssignmentLemmas.{IsAssignmentBy, can-take, is-assignment}

@@ -2,14 +2,14 @@
 use Rattle.std.proofs.Common.{◌≡◌, ℕ, ◌*◌, ◌≤◌, Bool, true, cond, nat_le, List, [], ◌∷◌, length, take, drop, sum_by, ap, arith, IsTrue}
 use Rattle.std.{proofs.lemmas.Bool.{and_parts, false≢true, le-leb}, specs.List.list_all}
 use Rattle.std.proofs.lemmas.List.{length-take-le, Sums.sum_by-cons, Sums.sum_by-take-drop}
-use Rattle.qr_bits.specs.declared.{modes.Mode.Mode, modes.Rule.Rule, segment.Segment.Segment}
+use Rattle.qr_bits.specs.declared.{modes.Mode.Mode, modes.Rule.Rule, segmentation.Segment.Segment}
 use Rattle.qr_bits.specs.declared.interpretation.Interpretation.{Interpretation}
 use Rattle.qr_bits.specs.Interpretation.{characters_in}
 use Rattle.qr_bits.proofs.lemmas.interpretation.WrittenLemmas.{characters-sixths}
 use Rattle.qr_bits.specs.Modes.{is_kanji_pair, is_digit, is_alphanumeric, suits, payload_bits}
 use Rattle.qr_bits.specs.Segmentation.{bits, HasFit, least_sixths, least_bits}
-use Rattle.qr_bits.proofs.lemmas.segment.CoverLemmas.{CoversBy, covers-by}
-use Rattle.qr_bits.proofs.lemmas.{modes.CharacterLemmas.past_z, segment.SegmentLemmas.payload-least}
+use Rattle.qr_bits.proofs.lemmas.segmentation.CoverLemmas.{CoversBy, covers-by}
+use Rattle.qr_bits.proofs.lemmas.{modes.CharacterLemmas.past_z, segmentation.SegmentLemmas.payload-least}
 
 most : (digit low : Bool) → cond digit 20 (cond low 33 39) ≤ 39
 most digit low = grind arith

@@ -4,14 +4,14 @@ use Rattle.std.proofs.lemmas.{Bool.le-leb, Bool.lt-leb, Bool.and_parts, List.len
 use borrow.Author.Tests.{leb-true}
 use Rattle.qr_layout.{specs.{declared.level.Level.Level, Version.total_codewords_of}, proofs.Facts.{below, below-at}}
 use Rattle.qr_layout.specs.Blocks.{correction_len_of, block_count_of, data_codewords_of}
-use Rattle.qr_bits.specs.declared.{modes.Mode.Mode, modes.Rule.Rule, segment.Segment.Segment}
+use Rattle.qr_bits.specs.declared.{modes.Mode.Mode, modes.Rule.Rule, segmentation.Segment.Segment}
 use Rattle.qr_bits.specs.Modes.{is_kanji_pair, character_count, count_width}
 use Rattle.qr_bits.specs.declared.interpretation.Interpretation.{Interpretation}
 use Rattle.qr_bits.specs.Interpretation.{characters_in}
 use Rattle.qr_bits.proofs.lemmas.interpretation.WrittenLemmas.{characters-longer}
 use Rattle.qr_bits.specs.{Segmentation.{segment_bits, bits, Covers, HasFit}, Stream.CountsFit, Padding.capacity_of}
-use Rattle.qr_bits.proofs.lemmas.segment.SegmentLemmas.{segment-least, bits-least}
-use Rattle.qr_bits.proofs.lemmas.segment.CoverLemmas.{CoversBy, covers-suits, covers-by, by-covers}
+use Rattle.qr_bits.proofs.lemmas.segmentation.SegmentLemmas.{segment-least, bits-least}
+use Rattle.qr_bits.proofs.lemmas.segmentation.CoverLemmas.{CoversBy, covers-suits, covers-by, by-covers}
 
 -- the most data codewords of the versions to 9, to 26 and to 40
 abbrev most_data : ℕ → ℕ

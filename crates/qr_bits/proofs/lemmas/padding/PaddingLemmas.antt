@@ -2,7 +2,7 @@
 use Rattle.std.proofs.Common.{◌≡◌, ℕ, zero, suc, ◌+◌, ◌-◌, ◌*◌, ◌%◌, ◌<◌, ◌≤◌, min, ◌==◌, Bool, cond, List, [], ◌∷◌, ◌++◌, length, length-append, refl, arith, All}
 use Rattle.{std.specs.Prelude.Option, qr_bits.specs.Padding.{capacity_of, filled, pads, padded, IsData}}
 use Rattle.qr_layout.specs.{declared.level.Level.Level, Blocks.data_codewords_of}
-use Rattle.qr_bits.specs.{declared.segment.Segment.Segment, declared.header.Header.Header, Bits.field, Bits.bits_of}
+use Rattle.qr_bits.specs.{declared.segmentation.Segment.Segment, declared.stream.Header.Header, Bits.field, Bits.bits_of}
 use Rattle.qr_bits.specs.{Header.header_stream, Header.header_bits, Stream.IsStream}
 use Rattle.qr_bits.specs.declared.interpretation.Interpretation.{Interpretation}
 use Rattle.qr_bits.specs.Interpretation.{interpretation_stream, interpretation_bits, designator, designator_codewords}

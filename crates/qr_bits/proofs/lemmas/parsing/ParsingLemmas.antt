@@ -2,7 +2,7 @@
 use Rattle.std.proofs.Common.{◌≡◌, ℕ, zero, suc, ◌+◌, ◌≤◌, Bool, true, false, cond, List, [], ◌∷◌, ◌++◌, length, take, drop, Result, Ok, Err, refl, ap, ⊎_elim, arith}
 use Rattle.std.proofs.lemmas.Bool.{lt-ltb, le-ltb, ltb-false, or_parts, or_left, and_parts, cases_Bool}
 use Rattle.{std.proofs.lemmas.List.{append-nil, append_assoc, length-drop}, qr_bits.specs.Steps.Parsing.IsFaultOf}
-use Rattle.qr_bits.specs.declared.{modes.Mode.Mode, segment.Segment.Segment, interpretation.Designator.Designator, interpretation.Item.Item, fault.ParseFault.ParseFault}
+use Rattle.qr_bits.specs.declared.{modes.Mode.Mode, segmentation.Segment.Segment, interpretation.Designator.Designator, interpretation.Item.Item, fault.ParseFault.ParseFault}
 use Rattle.qr_bits.specs.Interpretation.{may_follow}
 use Rattle.qr_bits.specs.{declared.fault.ParseFault.TheVariants.{Memory}, Bits.value, Modes.count_width}
 use Rattle.qr_bits.specs.Parsing.{◌>>=◌, IsResultOf, mode_of, ends, leading_number, payload_at, segment_at, designator_at, application_at, item_at, items_at, items_of, begins_header, header_at}

@@ -3,10 +3,10 @@ use Rattle.std.proofs.Common.{◌≡◌, ℕ, suc, ◌+◌, ◌<◌, Bool, true,
 use Rattle.std.{proofs.lemmas.Bool.Decides.nat_tests, specs.List.list_all}
 use Rattle.std.proofs.lemmas.Bool.{cond_both, and_parts, and_from, false≢true, eqb-true}
 use Rattle.qr_bits.specs.declared.modes.{Mode.Mode, Mode.TheVariants.Kanji, Rule.Rule}
-use Rattle.qr_bits.specs.{declared.segment.Segment.Segment, Modes.may_use, Segmentation.{rank, prepend_mode, runs_of}}
+use Rattle.qr_bits.specs.{declared.segmentation.Segment.Segment, Modes.may_use, Segmentation.{rank, prepend_mode, runs_of}}
 use Rattle.qr_bits.specs.declared.run_state.RunState.{RunState, TheVariants.HalfPair, TheVariants.WholePair}
 use Rattle.qr_bits.specs.Steps.RunState.{state_after, begins_with_pair, may_begin, may_take, may_end, allowed}
-use Rattle.qr_bits.proofs.lemmas.{segment.CoverLemmas.{suits_by, CoversBy}, run_state.BestLemmas.same-rank}
+use Rattle.qr_bits.proofs.lemmas.{segmentation.CoverLemmas.{suits_by, CoversBy}, run_state.BestLemmas.same-rank}
 use Rattle.qr_bits.proofs.lemmas.best_modes.ChoiceLemmas.{take-begin, state_after-whole}
 
 -- a valid assignment, where two bytes are a pair if they pass the test

@@ -6,7 +6,7 @@ use Rattle.qr_bits.specs.Interpretation.{characters_in, doubled}
 use Rattle.qr_bits.specs.Modes.{is_kanji_pair, may_use}
 use Rattle.qr_bits.specs.Segmentation.{bits, runs_of, IsAssignment, IsBestAssignment}
 use Rattle.qr_bits.specs.Steps.{RunState.{allowed_in, cost_of_all, may_end}, BestModes.{follow_in, IsBestTable}}
-use Rattle.qr_bits.proofs.lemmas.segment.CoverLemmas.{covers-by, by-covers}
+use Rattle.qr_bits.proofs.lemmas.segmentation.CoverLemmas.{covers-by, by-covers}
 use Rattle.qr_bits.proofs.lemmas.run_state.{CostLemmas.bits-runs_of, DoubledLemmas.{allowed-written, cost-written, list_all-doubled}}
 use Rattle.qr_bits.proofs.lemmas.run_state.AssignmentLemmas.{can-take, is-assignment}
 use Rattle.qr_bits.proofs.lemmas.best_modes.TableLemmas.{bytes-rest}

@@ -2,7 +2,7 @@
 use Rattle.std.proofs.Common.{◌≡◌, ℕ, zero, suc, ◌+◌, true, ◌==◌, false, List, [], ◌∷◌, ◌++◌, ◌≤◌, ◌<◌, length, replicate, reverse, refl, sym, ◌∙◌, append_assoc, arith, rules}
 use Rattle.std.proofs.lemmas.{Bool.Decides.nat_tests, List.Sums.sum_by-cons, Bool.and_from, Bool.cond_both, Bool.ne_eqb, Bool.false≢true}
 use Rattle.{qr_bits.specs.{declared.modes.Mode.Mode, contracts.modes.Mode.the_type}, std.specs.List.{list_all, sum_by}}
-use Rattle.qr_bits.specs.{declared.modes.Rule.Rule, declared.segment.Segment.Segment, Modes.may_use}
+use Rattle.qr_bits.specs.{declared.modes.Rule.Rule, declared.segmentation.Segment.Segment, Modes.may_use}
 use Rattle.qr_bits.specs.{Segmentation.{rank, prepend_mode, runs_of}, Steps.Segmentation.{one_segment, append_mode}}
 use Rattle.qr_bits.specs.{declared.run_state.RunState.RunState, Steps.RunState.state_after, Steps.RunState.state_on, Steps.BestModes.follow, Steps.BestModes.mode_at}
 use denote.Enum.Bare.{sameb, same_true}

@@ -8,7 +8,7 @@ use Rattle.qr_bits.specs.declared.interpretation.Interpretation.{Interpretation}
 use Rattle.qr_bits.proofs.lemmas.interpretation.WrittenLemmas.{characters-bytes, doubled-bytes, length-written}
 use Rattle.qr_bits.specs.Segmentation.{bits, HasFit, IsAssignment, IsNotAfter, IsLeastSegmentation, IsLongestFit}
 use Rattle.qr_bits.specs.{Modes.may_use, Modes.count_width, Steps.Segmentation.one_segment}
-use Rattle.qr_bits.proofs.lemmas.segment.{CoverLemmas.one-covers, SegmentLemmas.covers-all, SegmentLemmas.least_fits}
+use Rattle.qr_bits.proofs.lemmas.segmentation.{CoverLemmas.one-covers, SegmentLemmas.covers-all, SegmentLemmas.least_fits}
 use Rattle.qr_bits.proofs.lemmas.segmentation.BackLemmas.{sum_by-runs_of, runs_of-replicate, all-used}
 
 only-bytes : (ks : List Mode) → list_all (may_use BytesOnly) ks ≡ true → ks ≡ replicate (length ks) Byte

@@ -2,14 +2,14 @@
 use Rattle.std.proofs.Common.{◌≡◌, ℕ, zero, suc, ◌+◌, ◌*◌, ◌/◌, ◌<◌, ◌≤◌, true, List, [], ◌∷◌, length, drop, replicate, length-drop, sym, ap, arith, inl, lit<, IsTrue}
 use Rattle.std.proofs.lemmas.Bool.Decides.{nat_tests}
 use Rattle.qr_bits.specs.declared.modes.{Mode.Mode, Mode.TheVariants.Numeric, Rule.Rule}
-use Rattle.qr_bits.specs.{declared.segment.Segment.Segment, Steps.Segmentation.one_segment}
+use Rattle.qr_bits.specs.{declared.segmentation.Segment.Segment, Steps.Segmentation.one_segment}
 use Rattle.qr_bits.specs.Modes.{is_kanji_pair, suits, may_use, count_width, payload_bits}
 use Rattle.qr_bits.specs.declared.interpretation.Interpretation.{Interpretation}
 use Rattle.qr_bits.specs.Interpretation.{characters_in}
 use Rattle.qr_bits.proofs.lemmas.interpretation.WrittenLemmas.{characters-digits, characters-longer, doubled-digits}
 use Rattle.qr_bits.proofs.lemmas.segmentation.BytesOnlyLemmas.{assignment-length}
 use Rattle.qr_bits.specs.Segmentation.{bits, IsNotAfter, IsLeastSegmentation}
-use Rattle.qr_bits.proofs.lemmas.segment.{CoverLemmas.{CoversBy, covers-by, one-covers}}
+use Rattle.qr_bits.proofs.lemmas.segmentation.{CoverLemmas.{CoversBy, covers-by, one-covers}}
 use Rattle.qr_bits.proofs.lemmas.segmentation.BackLemmas.{runs_of-replicate, all-used}
 
 digits-bits : (n : ℕ) → payload_bits Numeric n ≡ (10 * n + 2) / 3

@@ -1,7 +1,7 @@
 -- The segments and characters of GS1 data, byte by byte.
 use Rattle.std.proofs.Common.{◌≡◌, ℕ, ◌+◌, ◌*◌, ◌-◌, ◌<◌, ◌≤◌, Bool, true, false, cond, List, [], ◌∷◌, ◌++◌, length, get_or, map, take, drop, reverse, append_assoc, refl, sym, ap, ◌∙◌, arith}
 use Rattle.std.proofs.lemmas.{Bool.{cond_both, eqb-true}, List.{append-nil, drop_more, get_or-drop, length-append, length-drop, length-take-le, reverse-append, take_more}}
-use Rattle.qr_bits.specs.declared.{modes.Mode.{Mode, TheVariants.Alphanumeric}, segment.Segment.Segment, run_state.RunState.{RunState}}
+use Rattle.qr_bits.specs.declared.{modes.Mode.{Mode, TheVariants.Alphanumeric}, segmentation.Segment.Segment, run_state.RunState.{RunState}}
 use Rattle.qr_bits.specs.declared.interpretation.Interpretation.{TheVariants.{Gs1}}
 use Rattle.qr_bits.specs.Interpretation.{character_for, characters_gs1, doubled_gs1, is_doubled, percent}
 use Rattle.qr_bits.specs.Segmentation.{runs_of}

@@ -5,7 +5,7 @@ use Rattle.std.proofs.lemmas.{Bool.and_parts, List.{append-nil, drop-drop, drop-
 use Rattle.std.proofs.Math.Seq.{take-add}
 use borrow.Rule.Slice.PartMut.{put_mid, same_len_mid}
 use Rattle.std.specs.List.{list_all}
-use Rattle.qr_bits.specs.declared.{modes.Mode.Mode, modes.Mode.TheVariants.{Alphanumeric}, modes.Rule.Rule, segment.Segment.Segment, run_state.RunState.{RunState, TheVariants.Start}}
+use Rattle.qr_bits.specs.declared.{modes.Mode.Mode, modes.Mode.TheVariants.{Alphanumeric}, modes.Rule.Rule, segmentation.Segment.Segment, run_state.RunState.{RunState, TheVariants.Start}}
 use Rattle.qr_bits.specs.declared.interpretation.Interpretation.{TheVariants.{Default, Gs1}}
 use Rattle.qr_bits.specs.Interpretation.{character_for, doubled_gs1, is_doubled}
 use Rattle.qr_bits.specs.Modes.{is_kanji_pair}

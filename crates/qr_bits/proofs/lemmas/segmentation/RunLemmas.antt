@@ -2,7 +2,7 @@
 use Rattle.std.proofs.Common.{◌≡◌, ℕ, ◌+◌, Bool, true, false, cond, ◌==◌, List, [], ◌∷◌, ◌++◌, length, map, take, drop, refl, ⊎_elim, arith, suc}
 use Rattle.std.proofs.lemmas.{Bool.{and_parts, cases_Bool, cond_both, eqb-true}}
 use Rattle.std.specs.List.{list_all}
-use Rattle.qr_bits.specs.declared.{modes.Mode.Mode, segment.Segment.Segment}
+use Rattle.qr_bits.specs.declared.{modes.Mode.Mode, segmentation.Segment.Segment}
 use Rattle.qr_bits.specs.declared.interpretation.Interpretation.{TheVariants.{Gs1}}
 use Rattle.qr_bits.specs.Interpretation.{escaped, is_doubled, character_for, characters_gs1, doubled_gs1}
 use Rattle.qr_bits.specs.{Segmentation.{rank, prepend_mode, runs_of}, Steps.Segmentation.{written_in, is_single, marked, written}}

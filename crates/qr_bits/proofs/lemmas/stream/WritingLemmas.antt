@@ -2,7 +2,7 @@
 use Rattle.std.proofs.Common.{◌≡◌, ℕ, ◌+◌, ◌-◌, ◌*◌, ◌/◌, ◌<◌, ◌≤◌, Bool, true, ◌&&◌, List, [], ◌∷◌, ◌++◌, length, get_or, take, drop, refl, sym, ◌∙◌, arith, length-append, append_assoc}
 use Rattle.std.proofs.lemmas.{Bool.and_parts, Bool.false≢true, List.length-take-le, List.drop_all, List.take-append-drop, List.Folds.list_all-append}
 use Rattle.{std.{proofs.Math.Seq.drop-cons, specs.List.list_all}, qr_bits.specs.Segmentation.{segment_bits, bits}}
-use Rattle.qr_bits.specs.{declared.modes.Mode.Mode, declared.segment.Segment.Segment, Bits.field}
+use Rattle.qr_bits.specs.{declared.modes.Mode.Mode, declared.segmentation.Segment.Segment, Bits.field}
 use Rattle.qr_bits.specs.declared.modes.Mode.TheVariants.{Numeric, Alphanumeric, Kanji}
 use Rattle.qr_bits.specs.Modes.{payload_bits, in_twos, is_kanji_pair, suits, kanji_value, character_value}
 use Rattle.qr_bits.specs.Stream.{kanji_bits, digit_bits, character_bits, payload, segment_stream, segments_stream, Suits}

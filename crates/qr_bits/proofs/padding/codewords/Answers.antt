@@ -2,8 +2,8 @@ use Rattle.std.proofs.Common.{◌≡◌, ℕ, ◌+◌, ◌*◌, ◌^◌, ◌<◌
 use Rattle.std.specs.Cow.{cow_slice_items}
 use Rattle.qr_bits.specs.{Header.header_bits, Header.header_stream, Stream.segments_stream, Stream.IsStream}
 use Rattle.qr_bits.specs.Interpretation.{interpretation_stream}
-use Rattle.qr_bits.proofs.lemmas.segment.SegmentLemmas.{covers-all, bits-most, bits-least}
-use Rattle.qr_bits.proofs.lemmas.{stream.WritingLemmas.length-segments_stream, segment.CoverLemmas.covers-suits}
+use Rattle.qr_bits.proofs.lemmas.segmentation.SegmentLemmas.{covers-all, bits-most, bits-least}
+use Rattle.qr_bits.proofs.lemmas.{stream.WritingLemmas.length-segments_stream, segmentation.CoverLemmas.covers-suits}
 use Rattle.qr_bits.proofs.lemmas.padding.PaddingLemmas.{is-data, length-header_stream, length-interpretation_stream}
 use Rattle.qr_bits.proofs.lemmas.padding.CountLemmas.{capacity-most, counts_fit}
 use Rattle.qr_bits.proofs.padding.codewords.Goals.{in-None, in-Some}

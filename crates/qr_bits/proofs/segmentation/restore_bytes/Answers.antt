@@ -1,7 +1,7 @@
 use Rattle.std.proofs.Common.{◌≡◌, ◌+◌, ◌∷◌, take, drop, get_or, arith, refl, rules}
 use Rattle.std.proofs.lemmas.List.{drop_all, drop_more}
 use Rattle.qr_bits.specs.Steps.Segmentation.{written}
-use Rattle.qr_bits.proofs.lemmas.segment.SegmentLemmas.{past_end}
+use Rattle.qr_bits.proofs.lemmas.segmentation.SegmentLemmas.{past_end}
 use Rattle.qr_bits.proofs.lemmas.segmentation.MarkedLemmas.{IsRestored, restored-marked, restored-copied, restored-all}
 use Rattle.qr_bits.proofs.segmentation.restore_bytes.Goals as goal
 use Rattle.qr_bits.proofs.segmentation.restore_bytes.Goals.{in-Alphanumeric, in-Numeric}

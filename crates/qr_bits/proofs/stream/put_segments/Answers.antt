@@ -1,6 +1,6 @@
 use Rattle.std.proofs.Common.{◌<◌, ℕ, append_assoc, arith, append-nil, rules}
 use Rattle.std.proofs.lemmas.List.Elements.{All-from_get_or}
-use Rattle.qr_bits.proofs.lemmas.segment.SegmentLemmas.{covers-next, past_end}
+use Rattle.qr_bits.proofs.lemmas.segmentation.SegmentLemmas.{covers-next, past_end}
 use Rattle.qr_bits.proofs.lemmas.stream.WritingLemmas.{stream-next, stream-end, append-next}
 use Rattle.qr_bits.proofs.stream.put_segments.Goals as goal
 

@@ -5,7 +5,7 @@ use Rattle.std.proofs.lemmas.{Bool.Decides.nat_tests, List.Elements.{All-nil, Al
 use Rattle.std.proofs.lemmas.{Bool.and_parts, List.Folds.list_any-append}
 use Rattle.std.specs.List.{All, list_all, list_any, flat_map}
 use Rattle.qr_layout.specs.Region.{is_corner, is_timing, is_version_information, is_alignment, ring_of, is_in_region}
-use Rattle.qr_layout.specs.{declared.rectangles.Rectangle.Rectangle, Rectangles.AreFixed, Rectangles.is_in_rectangle}
+use Rattle.qr_layout.specs.{declared.region.Rectangle.Rectangle, Rectangles.AreFixed, Rectangles.is_in_rectangle}
 use Rattle.qr_layout.specs.Steps.Rectangles.{IsCentreInside, IsInside, alignment_rectangles, fixed_list, rectangle_around, taken_rectangles}
 use Rattle.qr_layout.specs.{declared.region.Place.Place, Version.side_of}
 use Rattle.qr_layout.specs.Alignment.{centres_of, is_corner_pair, alignment_places}

@@ -2,7 +2,7 @@
 use Rattle.std.proofs.Common.{◌≡◌, ℕ, zero, suc, ◌+◌, ◌-◌, ◌<◌, ◌≤◌, min, max, Bool, true, false, not, ◌&&◌, cond, eqb, ltb, leb, List, [], ◌∷◌, refl, ap, ◌∙◌, inl, inr, arith}
 use Rattle.std.proofs.Math.Nat.{min-eq_left, min-eq_right, max-eq_left, max-eq_right}
 use Rattle.std.{proofs.lemmas.Bool.{cases_lt, Decides.nat_tests}, specs.List.{list_any, filter}}
-use Rattle.qr_layout.specs.{Region.is_in_region, declared.rectangles.Rectangle.Rectangle, Order.places_passing}
+use Rattle.qr_layout.specs.{Region.is_in_region, declared.region.Rectangle.Rectangle, Order.places_passing}
 use Rattle.qr_layout.specs.Version.{total_codewords_of, remainder_bits_of, module_count_of}
 use Rattle.qr_layout.specs.{Rectangles.is_in_rectangle, Steps.Rectangles.taken_rectangles, Version.side_of, Alignment.centres_of}
 use Rattle.qr_layout.proofs.lemmas.alignment.{AlignmentLemmas.region-taken, TableLemmas.below}

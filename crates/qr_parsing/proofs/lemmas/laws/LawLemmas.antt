@@ -3,7 +3,7 @@ use Rattle.std.proofs.Common.{◌≡◌, ◌≤◌, ◌<◌, ◌+◌, ◌∙◌,
 use Rattle.std.proofs.lemmas.List.{length-map, Elements.{All-cons, All-nil}}
 use Rattle.std.specs.List.{All}
 use Rattle.qr_layout.specs.{Version.side_of, Role.{pattern_colour, role_of}, declared.level.Level.Level}
-use Rattle.qr_bits.specs.{declared.header.Header.Header, declared.modes.Rule.Rule}
+use Rattle.qr_bits.specs.{declared.stream.Header.Header, declared.modes.Rule.Rule}
 use Rattle.qr_bits.specs.declared.interpretation.Interpretation.{Interpretation}
 use Rattle.qr_matrix.specs.Grid.{Grid, light}
 use Rattle.qr_matrix.proofs.Facts.{colour-square, square-same}

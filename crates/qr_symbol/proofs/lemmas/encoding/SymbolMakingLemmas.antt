@@ -6,9 +6,9 @@ use Rattle.qr_bits.proofs.Facts.{capacity-least, length-stream, least_fits, data
 use Rattle.qr_bits.specs.Header.{header_bits}
 use Rattle.qr_bits.specs.Padding.{IsData, capacity_of, room_of}
 use Rattle.qr_bits.specs.Segmentation.{bits, HasFit, IsLeastSegmentation}
-use Rattle.qr_bits.specs.declared.header.Header.{Header}
+use Rattle.qr_bits.specs.declared.stream.Header.{Header}
 use Rattle.qr_bits.specs.declared.modes.Rule.{Rule}
-use Rattle.qr_bits.specs.declared.segment.Segment.{Segment}
+use Rattle.qr_bits.specs.declared.segmentation.Segment.{Segment}
 use Rattle.qr_layout.specs.declared.level.Level.{Level}
 use Rattle.qr_matrix.specs.Grid.{Grid}
 use Rattle.qr_symbol.proofs.lemmas.fault.ExactLemmas.{exactly}

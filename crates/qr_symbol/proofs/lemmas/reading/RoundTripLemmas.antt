@@ -1,7 +1,7 @@
 -- A symbol is read as its input.
 use Rattle.qr_bits.specs.declared.interpretation.Interpretation.{Interpretation}
 use Rattle.qr_bits.specs.Interpretation.{MayWrite}
-use Rattle.qr_bits.{proofs.Facts.{data-again, least-meant, length-data}, specs.{Bits.bits_of, Parsing.{Content, parse}, declared.header.Header.Header}}
+use Rattle.qr_bits.{proofs.Facts.{data-again, least-meant, length-data}, specs.{Bits.bits_of, Parsing.{Content, parse}, declared.stream.Header.Header}}
 use Rattle.{qr_bits.specs.declared.modes.Rule.Rule, qr_layout.specs.declared.{blocks.Blocks.Blocks, level.Level.Level}}
 use Rattle.{qr_matrix.specs.Grid.Grid, qr_symbol.proofs.lemmas.interleaving.MessageLemmas.final-whole}
 use Rattle.qr_symbol.proofs.lemmas.reading.FormatLemmas.{format-one, format-read}

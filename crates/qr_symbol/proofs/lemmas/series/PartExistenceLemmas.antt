@@ -9,7 +9,7 @@ use Rattle.qr_bits.specs.declared.modes.Mode.TheVariants.{Numeric, Alphanumeric,
 use Rattle.qr_bits.specs.declared.modes.Rule.{Rule}
 use Rattle.qr_bits.specs.declared.interpretation.Interpretation.{Interpretation}
 use Rattle.qr_bits.specs.Interpretation.{characters_in, doubled, MayWrite}
-use Rattle.qr_bits.specs.declared.segment.Segment.{Segment}
+use Rattle.qr_bits.specs.declared.segmentation.Segment.{Segment}
 use Rattle.qr_layout.specs.declared.level.Level.{Level}
 use Rattle.std.proofs.Common.{◌≡◌, ℕ, zero, suc, ◌<◌, ◌≤◌, ◌⊎◌, Bool, true, false, List, [], ◌∷◌, length, take, drop, refl, subst, inl, inr, length-drop, arith, ◌*◌}
 use Rattle.std.proofs.lemmas.Bool.{cases_lt}

@@ -3,7 +3,7 @@ use Rattle.qr_bits.specs.declared.interpretation.Interpretation.{Interpretation}
 use Rattle.qr_bits.specs.Interpretation.{MayWrite}
 use Rattle.qr_symbol.proofs.lemmas.version_choice.FitLemmas.{version-short}
 use Rattle.qr_bits.{proofs.Facts.{empty-fits, least-meant, may_write-drop, may_write-take}, specs.{Header.parity_of, Parsing.Content}}
-use Rattle.{qr_bits.specs.declared.{header.Header.Header, modes.Rule.Rule}, qr_layout.specs.declared.level.Level.Level}
+use Rattle.{qr_bits.specs.declared.{stream.Header.Header, modes.Rule.Rule}, qr_layout.specs.declared.level.Level.Level}
 use Rattle.qr_matrix.specs.Grid.{Grid}
 use Rattle.qr_symbol.proofs.lemmas.encoding.SymbolMakingLemmas.{symbol-at-one}
 use Rattle.qr_symbol.proofs.lemmas.{encoding.SymbolMakingLemmas.symbol-fits, reading.RoundTripLemmas.symbol-read}

@@ -1,7 +1,7 @@
 use Rattle.std.proofs.{Common.{◌≡◌, ◌<◌, ℕ, Bool, false, true, ◌+◌, ◌*◌, ◌/◌, ◌%◌, ◌&&◌, ◌||◌, ◌∙◌, cond, eqb, ltb, get_or, [], length, sym, ap, inl, inr, refl, arith}, lemmas.Bool.{cases_lt, Decides.nat_tests}, Math.ListN.length-set, lemmas.List.get_or_read}
 use Rattle.qr_matrix.specs.{Grid.{Grid}, BitRow.{dark_in, has, has_bit}, Steps.bit_in}
 use Rattle.qr_matrix.proofs.lemmas.{matrix.{GridLemmas.square-same, MatrixLemmas.line-set}}
-use Rattle.qr_matrix.proofs.lemmas.transposition.TranspositionLemmas.{all-stages, mask-at, row-more, tile-bit, tile-past, tile-read, zero-at}
+use Rattle.qr_matrix.proofs.lemmas.matrix.TranspositionLemmas.{all-stages, mask-at, row-more, tile-bit, tile-past, tile-read, zero-at}
 use Rattle.qr_matrix.proofs.matrix.Matrix.set_transposed.Goals as goal
 
 pub loop-line-init : goal.loop-line-init

@@ -1,7 +1,7 @@
 use Rattle.std.proofs.Common.{rules}
 use Rattle.std.proofs.{Common.{◌≡◌, ◌∙◌, ℕ, Bool, ap, set, cond, ltb, leb, ◌+◌, ◌-◌, ◌&&◌, ◌≤◌, false, arith}, lemmas.Bool.Decides.nat_tests, Math.ListN.length-set}
 use Rattle.qr_matrix.specs.{Grid.{one_of}, BitRow.{has, has_bit, dark_in}, Steps.{lane, lanes}}
-use Rattle.qr_matrix.proofs.lemmas.{matrix.MatrixLemmas.{line-set, line-inside, line-write, row-of-square, row-past}, row_pair.PairLemmas.{lane-read, lanes-long, lanes-set, one-view, side-of, square-of}}
+use Rattle.qr_matrix.proofs.lemmas.{matrix.MatrixLemmas.{line-set, line-inside, line-write, row-of-square, row-past}, matrix_pair.PairLemmas.{lane-read, lanes-long, lanes-set, one-view, side-of, square-of}}
 use Rattle.qr_matrix.proofs.matrix_pair.MatrixPair.set_columns.Goals as goal
 
 pub put_bits-requires-clause-index_in : goal.put_bits-requires-clause-index_in

@@ -1,6 +1,6 @@
 use Rattle.std.proofs.{Common.{ℕ, List, Bool, ◌≡◌, ◌<◌, ◌≤◌, ◌%◌, ◌*◌, ◌∙◌, ◌&&◌, length, ltb, eqb, not, cond, ap, set, sym, false, true, refl, arith}, lemmas.Bool.Decides.nat_tests, Math.ListN.length-set}
 use Rattle.qr_matrix.specs.{Grid.{colour, is_same, square}, BitRow.{has, has_bit, dark_in}, Steps.{lane, lanes}}
-use Rattle.qr_matrix.proofs.lemmas.{matrix.{GridLemmas.{colour-square, square-same}, MatrixLemmas.{line-inside, line-set, masked-past, row-past}}, row_pair.{PairLemmas.{lane-read, lanes-long, lanes-set, one-view, side-of, square-of}, TurnLemmas.{all-passed, passed-step}}}
+use Rattle.qr_matrix.proofs.lemmas.{matrix.{GridLemmas.{colour-square, square-same}, MatrixLemmas.{line-inside, line-set, masked-past, row-past}}, matrix_pair.{PairLemmas.{lane-read, lanes-long, lanes-set, one-view, side-of, square-of}, TurnLemmas.{all-passed, passed-step}}}
 use Rattle.qr_matrix.proofs.matrix_pair.MatrixPair.set_rows_masked_in.Goals as goal
 
 -- the bits of a row of each square that is the same row of one square

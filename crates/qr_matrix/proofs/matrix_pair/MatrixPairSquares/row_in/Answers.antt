@@ -1,6 +1,6 @@
 use Rattle.std.proofs.Common.{◌<◌, length, ◌*◌, ◌&&◌, ap, ◌∙◌, false, refl, arith}
 use Rattle.qr_matrix.specs.{Grid.one_of, BitRow.has, Steps.{lane, lanes}}
-use Rattle.qr_matrix.proofs.lemmas.{bit_row.BoolLemmas.false-and, matrix.MatrixLemmas.{row-of-square, row-past, words-kept}, row_pair.PairLemmas.{lane-read, lanes-long, side-of, square-of}}
+use Rattle.qr_matrix.proofs.lemmas.{bit_row.BoolLemmas.false-and, matrix.MatrixLemmas.{row-of-square, row-past, words-kept}, matrix_pair.PairLemmas.{lane-read, lanes-long, side-of, square-of}}
 use Rattle.qr_matrix.proofs.matrix_pair.MatrixPairSquares.row_in.Goals as goal
 
 pub returns-clause-colours : goal.returns-clause-colours

@@ -1,6 +1,0 @@
-use Rattle.{std.proofs.Common.{◌≡◌, ◌+◌, drop}, qr_bits.specs.Segmentation.bits}
-use Rattle.qr_bits.proofs.segment.bit_len.Given as goal
-
--- the bits so far and those of the rest
-abbrev pub invariant-loop-segment : goal.invariant-loop-segment
-invariant-loop-segment l = l.bits + bits l.version (drop l.segment-index l.segs) ≡ bits l.version l.segs

@@ -1,0 +1,21 @@
+use Rattle.std.proofs.Common.{arith, rules}
+use Rattle.std.proofs.lemmas.{Bool.false≢true, Bool.eqb-true, Bool.eq-eqb, List.nil_from_length}
+use Rattle.qr_bits.proofs.lemmas.segmentation.SegmentLemmas.{covers-next, next-covers, covers-end, past_end}
+use Rattle.qr_bits.proofs.segmentation.covers.Goals as goal
+
+pub returns-then-len-eq0 : goal.returns-then-len-eq0
+returns-then-len-eq0 c = (
+  λ e. absurd (false≢true e),
+  λ k.
+      let next = covers-next c.loop-segment.rest.now c.args.segs.now c.loop-segment.segment-index past_end c.loop-segment-test.true (c.loop-segment.invariant.rest k) in
+      search rules,
+)
+
+pub returns-then-not-suits : goal.returns-then-not-suits
+returns-then-not-suits c = search (rules, false≢true, covers-next, past_end)
+
+pub loop-segment-preserved : goal.loop-segment-preserved
+loop-segment-preserved c = search (arith, past_end, next-covers, covers-next)
+
+pub returns : goal.returns
+returns c = search (rules, covers-end, nil_from_length, eqb-true, eq-eqb)

@@ -1,2 +1,0 @@
--- What is in a piece after a copy.
-pub mod CopyLemmas

@@ -1,6 +1,0 @@
-use Rattle.std.proofs.Common.{rules}
-use Rattle.qr_matrix.proofs.lemmas.row_pair.PairLemmas.{no-bits}
-use Rattle.qr_matrix.proofs.row_pair.RowPairRows.is_empty.Goals as goal
-
-pub returns : goal.returns
-returns c = search (rules, no-bits)

@@ -1,2 +1,0 @@
--- The invariant of the loop that reads the input.
-pub mod ReadingLemmas
