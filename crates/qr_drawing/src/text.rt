@@ -259,6 +259,8 @@ fn put_line<W: Sink>(
         push_cell(text, style, upper, lower);
     }
     push_light(text, style, margin);
+    // Only for the prover: the pen contains at most `WRITE_MAX` bytes, with the newline too.
+    prove!(text.len < WRITE_MAX);
     text.push_all(b"\n");
     Ok(())
 }

@@ -1,4 +1,4 @@
-use Rattle.std.proofs.{Math.Nat.add-mul, Common.{◌≡◌, ◌+◌, ◌*◌, ◌/◌, ◌%◌, ◌++◌, List, ℕ, append_assoc, arith, rules}, lemmas.Result.err_from_is_err_and}
+use Rattle.std.proofs.{Math.Nat.add-mul, Common.{◌≡◌, ◌+◌, ◌*◌, ◌/◌, ◌%◌, ◌++◌, List, ℕ, append_assoc, ap, length, arith, rules}, lemmas.{List.length-take, Result.err_from_is_err_and}}
 use Rattle.qr_drawing.specs.Steps.Text.{cell_at, cell_room, top_row}
 use Rattle.qr_drawing.proofs.lemmas.pen.WritingLemmas.{formed, stops-between, stops-first, writes-on}
 use Rattle.qr_drawing.proofs.lemmas.text.LineLemmas.{added-next, added-none}
@@ -56,12 +56,18 @@ push_light-requires-2 g c =
     let few = cells-length _ _ _ (c.args.raster.now.matrix.now.side % 4) (cell_room c.args.style) _ (λ k. cell-length c.args.style _ _) c.loop-done.invariant (omega arith) in
     rw c.from-margin.ensures (omega (arith, few, fits))
 
-pub push_all-requires : goal.push_all-requires
-push_all-requires g c =
+pub prove-unreachable-requires : goal.prove-unreachable-requires
+prove-unreachable-requires g c =
     let room : c.match-style.most.0 ≡ cell_room c.args.style = elim c.match-style.branch [ in-Plain w ↦ search rules | in-HalfBlocks w ↦ search rules ] in
     let fits = rw (c.from-3.ensures, c.from-side.ensures, c.side.ensures.value, c.from-margin.ensures, room, add-mul) at c.in_ok-reserve-3.ensures.room in
     let few = cells-length _ _ _ (c.args.raster.now.matrix.now.side % 4) (cell_room c.args.style) _ (λ k. cell-length c.args.style _ _) c.loop-done.invariant (omega arith) in
-    (omega arith, omega (arith, few, fits, rw c.from-margin.ensures at c.push_light-2.ensures.len))
+    let long = length-take c.text.inside.len c.text.inside.bytes in
+    omega (arith, few, fits, rw c.from-margin.ensures at c.push_light-2.ensures.len, long, ap length c.text.view_is, c.text.invariant.0, c.text.invariant.1, c.if-prove.true)
+
+pub push_all-requires : goal.push_all-requires
+push_all-requires g c =
+    let long = length-take c.text.inside.len c.text.inside.bytes in
+    (omega arith, omega (arith, long, ap length c.text.view_is, c.text.invariant.0, c.text.invariant.1, c.if-prove.false))
 
 pub returns : goal.returns
 returns g c =
