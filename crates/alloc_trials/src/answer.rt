@@ -15,8 +15,8 @@ pub enum Answer {
 }
 
 impl Answer {
-    /// Returns the answer of a call that did not report lack of memory. `is_worked` says whether the call returned what
-    /// was worked out for it.
+    /// Returns the answer of a call that did not report lack of memory. `is_worked` says whether the call returned the
+    /// value that was worked out for it.
     pub fn of(is_worked: bool) -> Answer {
         if is_worked {
             Answer::Ordinary

@@ -56,7 +56,7 @@ static NAMES: [&str; 35] = [
     "run_kanji",
 ];
 
-// Runs a trial. It fails if memory for the arguments of the call is refused.
+// Runs a trial. Returns an error if memory for the arguments of the call is refused.
 fn trial(alloc: Global, name: &str) -> Result<Answer, AllocError> {
     match name {
         "Matrix::new" => Ok(symbols::matrix(alloc)),

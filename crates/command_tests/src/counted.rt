@@ -1,5 +1,5 @@
 //! Tests of `Counted` and of `Bounded`. `Counted` passes calls on to a `Read` or a `Write` of the standard library, and
-//! returns its errors as `Trouble`. `Bounded` is a writer in memory.
+//! turns the errors that they return into `Trouble`. `Bounded` is a writer in memory.
 
 use qr_devices::Bounded;
 use qrencode_cli::{Counted, Sink, Source, Trouble};

@@ -78,8 +78,8 @@ fn readers_fail_in_turn(rt: HostRuntime) -> Result<(), Fail> {
     Ok(())
 }
 
-// The writer takes at most 100 bytes in a call. From call `call` on, counted from 0, it fails or takes no byte. If the
-// drawing needs at most `call` writes, the command succeeds.
+// The writer takes at most 100 bytes in a call. From the call with the number `call` on, counted from 0, it fails or
+// takes no byte. If the drawing needs at most `call` writes, the command succeeds.
 #[test]
 fn writers_fail_in_turn(rt: HostRuntime) -> Result<(), Fail> {
     let want = drawing(rt.alloc())?;

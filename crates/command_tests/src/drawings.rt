@@ -10,7 +10,7 @@ use qrencode_cli::{Drawing, Faults, Trial, draw};
 use std::alloc::Global;
 use std::test::Fail;
 
-// The codewords of `01234567` at 1-M.
+// The codewords of the input `01234567` at version 1 and level M (1-M).
 static CODEWORDS: [u8; 26] = [
     0x10, 0x20, 0x0C, 0x56, 0x61, 0x80, 0xEC, 0x11, 0xEC, 0x11, 0xEC, 0x11, 0xEC, 0x11, 0xEC, 0x11,
     0xA5, 0x24, 0xD4, 0xC1, 0xED, 0x36, 0xC7, 0x87, 0x2C, 0x55,
@@ -35,7 +35,7 @@ fn one(alloc: Global, kind: Drawing, margin: u8) -> Result<Trial, Fail> {
     Ok(out)
 }
 
-// Returns a line of the text, or an empty one if there are fewer lines.
+// Returns the line with this index, or an empty line if the text has fewer lines.
 fn line(text: &[u8], index: usize) -> &[u8] {
     text.split(|byte| *byte == b'\n').nth(index).unwrap_or(&[])
 }
@@ -201,8 +201,9 @@ fn by_words(rt: HostRuntime) -> Result<(), Fail> {
     Ok(())
 }
 
-// In trial `call` the writer takes at most 100 bytes in a call, and fails from call `call` on, counted from 0. In the
-// last trial the drawing needs fewer calls, so it succeeds. The writer has always accepted a prefix of the drawing.
+// For each number `call` the writer takes at most 100 bytes in a write, and fails from the write with this number on,
+// counted from 0. With the last number the drawing needs fewer writes, so drawing succeeds. In each case the writer has
+// accepted a prefix of the drawing.
 #[test]
 fn writers_fail_in_turn(rt: HostRuntime) -> Result<(), Fail> {
     let symbols = [symbol(rt.alloc())?];

@@ -1,4 +1,4 @@
-//! The drawing of `A` at 1-L with mask 0. Another encoder made its modules.
+//! The drawing of the input `A` at version 1 and level L with mask 0. Another encoder made the symbol that it shows.
 
 use crate::runs::{DRAW, Devices, run_with};
 use std::alloc::{AllocError, Global};

@@ -6,8 +6,8 @@ use qr_layout::{Level, Version};
 use qr_symbol::{EncodeFault, encode_series, read_series};
 use std::test::Fail;
 
-// At 1-H, 7 bytes take one symbol, 8 take two, 80 take 16, and 81 take more. A symbol is drawn in 29 lines of 58
-// characters.
+// At version 1 and level H, 7 bytes take one symbol, 8 take two, 80 take 16, and 81 take more. A symbol is drawn in 29
+// lines of 58 characters.
 #[test]
 fn of_version_1_h(rt: HostRuntime) -> Result<(), Fail> {
     let words = ["-S", "-8", "-v", "1", "-l", "H", "-t", "ASCII"];
@@ -32,7 +32,8 @@ fn of_version_1_h(rt: HostRuntime) -> Result<(), Fail> {
     Ok(())
 }
 
-// The largest series in byte mode has 16 symbols at 40-L with 2,951 bytes each. One byte more is refused.
+// The largest series in byte mode has 16 symbols of version 40 and level L with 2,951 bytes each. One byte more is
+// refused.
 #[test]
 fn of_version_40_l(rt: HostRuntime) -> Result<(), Fail> {
     let letters = vec![in rt.alloc(); b'a'; 47_217]?;

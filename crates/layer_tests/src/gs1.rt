@@ -98,8 +98,8 @@ fn fit(rt: &HostRuntime, input: &[u8], interpretation: Interpretation) -> Result
     )?)
 }
 
-// At 1-H a structured append header leaves 52 bits for the segments. If FNC1 comes before them, 48 are left, after ECI
-// 26 there are 40, and after ECI 999,999 there are 24.
+// At version 1 and level H a structured append header leaves 52 bits for the segments. FNC1 takes 4 of these bits, and
+// leaves 48. ECI 26 takes 12 and leaves 40, and ECI 999,999 takes 28 and leaves 24.
 #[test]
 fn prefixes_at_1_h(rt: HostRuntime) -> Result<(), Fail> {
     assert_eq!(rt;

@@ -238,8 +238,8 @@ fn prefixes_at_1_h(rt: HostRuntime) -> Result<(), Fail> {
     Ok(())
 }
 
-// At 1-M a structured append header leaves 108 bits. Seven kanji pairs take 103 bits, but six pairs and one more byte
-// take 110.
+// At version 1 and level M a structured append header leaves 108 bits. Seven kanji pairs take 103 bits, but six pairs
+// and one more byte take 110.
 #[test]
 fn pairs_at_1_m(rt: HostRuntime) -> Result<(), Fail> {
     let pairs = b"\x93\x5F\x93\x5F\x93\x5F\x93\x5F\x93\x5F\x93\x5F\x93\x5F\x93\x5F";

@@ -90,7 +90,7 @@ abbrev pub is_write_fault : WriteCounts → Bool
 is_write_fault c = nat_lt 0 c.failed || (nat_lt 0 c.zeros || nat_le 1000 c.interrupted)
 
 -- At most one call went wrong: it failed, or it was a write that accepted no byte. At most 1,000 writes were
--- interrupted. The counts are so if writing stops at the first fault [own]
+-- interrupted. This holds of the counts if writing stops at the first fault [own]
 pub record IsWrittenWithin (c : WriteCounts) : Type 0 where
   pub faults : c.failed + c.zeros ≤ 1
   pub interrupted : c.interrupted ≤ INTERRUPTIONS_MAX + 1

@@ -28,7 +28,7 @@ pub fn interruptions_are_limited()
     ensures { INTERRUPTIONS_MAX ≡ 999 }
 {}
 
-/// Examples of counts, and of what a trial device returns, which were worked out by hand.
+/// Examples, worked out by hand, of counts and of what a trial device returns.
 pub fn counts_compute()
     ensures ends { (read_counted 4 (Ok 0) no_reads).ends ≡ 1 × (read_counted 0 (Ok 0) no_reads).ends ≡ 0 }
     ensures past { (read_counted 4 (Ok 3) (read_counted 4 (Ok 0) no_reads)).past_end ≡ 1 }

@@ -1,5 +1,5 @@
-//! Devices are readers and writers that count their calls, and what came of each call. `Counted` is a device over any
-//! reader or writer of the standard library, such as a file or a pipe. `Trial` is a device in memory, for tests.
+//! Devices are readers and writers that count their calls and the results of these calls. `Counted` is a device over
+//! any reader or writer of the standard library, such as a file or a pipe. `Trial` is a device in memory, for tests.
 #![tactic(auto)]
 
 mod bounded;

@@ -79,7 +79,7 @@ impl Trial {
     ///
     /// # Errors
     ///
-    /// Returns an error if memory for `room` bytes is refused. It is requested when the device is made.
+    /// Returns an error if memory for `room` bytes is refused. This memory is requested when the device is made.
     pub fn writer(alloc: Global, room: usize, faults: Faults) -> Result<Trial, AllocError>
         ensures held { IfOk result (λ t. bytes_held t ≡ []) }
         ensures unwritten { IfOk result (λ t. t.writes ≡ no_writes) }

@@ -1,4 +1,4 @@
--- Steps of the code. Only private contracts use them.
+-- What the code does step by step. Only private contracts use these definitions.
 pub mod Pen
 pub mod Writing
 pub mod Text

@@ -11,7 +11,7 @@ ascii_module dark = if dark then 35 ∷ 35 ∷ [] else 32 ∷ 32 ∷ []
 
 -- The character, in UTF-8, that shows two modules, of which `upper` is above `lower`. Its filled parts are light
 -- modules: it is a space if both are dark, U+2584 if only `lower` is light, U+2580 if only `upper` is light, and U+2588
--- if both are [own]
+-- if both are light [own]
 abbrev pub half_blocks : Bool → Bool → List ℕ
 half_blocks upper lower =
     if upper then (if lower then 32 ∷ [] else 0xE2 ∷ 0x96 ∷ 0x84 ∷ [])

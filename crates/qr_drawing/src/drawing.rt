@@ -130,7 +130,7 @@ pub fn draw<S: HasSquare, W: Sink>(
         },
         interrupted: 0,
     };
-    // Afterwards the pen may still contain the last bytes of the drawing.
+    // When the calls of this `match` are done, the pen may still contain the last bytes of the drawing.
     let put = match kind {
         Drawing::Ascii => put_texts(&mut pen, out, TextStyle::Plain, symbols, margin),
         Drawing::AsciiInverse => put_texts(&mut pen, out, TextStyle::Inverse, symbols, margin),

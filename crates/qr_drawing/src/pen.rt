@@ -83,7 +83,7 @@ impl<const CAP: usize> Piece<CAP> {
 pub const WRITE_MAX: usize = 1200;
 
 // The size of the pen's buffer. It is eight bytes more than the pen may contain, because `Piece::push_first` copies
-// eight bytes even if it appends fewer. The others may lie beyond `WRITE_MAX`.
+// eight bytes even if it appends fewer. Those that it copies but does not append may lie beyond `WRITE_MAX`.
 pub(crate) const PEN_SIZE: usize = WRITE_MAX + 8;
 
 /// Why a drawing was not written to its end.

@@ -25,7 +25,7 @@ const HEAD_MAX: usize = 300;
 const TAIL: usize = 11;
 
 // `push_digit` and the three functions after it append numbers digit by digit, which takes fewer instructions than the
-// crate `itoa` does. They are used for the row of a box, and for its width if it has ten modules or more. Smaller
+// crate `itoa` does. They are used for the row of a box, and for its width if the box has ten modules or more. Smaller
 // widths come from the table `SHORT_RUNS`, and the digits of a column from the table `TWO_DIGITS`. `itoa` formats the
 // numbers before the path.
 fn push_digit<const CAP: usize>(text: &mut Piece<CAP>, digit: u16)
@@ -135,7 +135,7 @@ static SHORT_RUNS: [[u8; 8]; 10] = [
     *b"h9v1h-9z",
 ];
 
-// Appends what follows the row in the text of a box around `modules` modules.
+// Appends what follows the number of the row in the text of a box that is `modules` modules wide.
 #[tactic(auto, unfolding(crate::specs::Svg::numbered, crate::specs::Steps::Svg::width_path))]
 fn push_width(text: &mut Piece<PEN_SIZE>, modules: u16)
     requires modules { modules < 1000 }
@@ -154,8 +154,8 @@ fn push_width(text: &mut Piece<PEN_SIZE>, modules: u16)
     }
 }
 
-// Appends the box around `modules` dark modules, of which the first is in column `x` of the document. `row` is the row
-// as a text, which `text_of_row` made.
+// Appends the box around `modules` dark modules, of which the first is in column `x` of the document. `row` is the text
+// that `text_of_row` makes of the number of the box's row.
 #[inline(always)]
 #[tactic(auto, unfolding(crate::specs::Svg::box_path, crate::specs::Svg::numbered, crate::specs::Steps::Svg::width_path))]
 fn push_box(text: &mut Piece<PEN_SIZE>, x: u16, row: &Piece<8>, modules: u16)
@@ -169,8 +169,8 @@ fn push_box(text: &mut Piece<PEN_SIZE>, x: u16, row: &Piece<8>, modules: u16)
     push_width(text, modules);
 }
 
-// Returns the part of a box that states its row, `y`: a space and this number. It is the same in all boxes of the row,
-// so it is made once.
+// Returns the part of the text of a box that states its row, which is `y`: a space and this number. It is the same in
+// all boxes of a row, so it is made once for each row.
 #[tactic(auto, unfolding(crate::specs::Svg::numbered))]
 fn text_of_row(y: u16) -> Piece<8>
     ensures { result ≡ numbered (codes " ") y }

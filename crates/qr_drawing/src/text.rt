@@ -7,7 +7,7 @@
 //! and a bit that is 1 is dark.
 //!
 //! A raster has fewer than 1,000 rows (`drawing.rt` says why). So the number of a line, counted from 0, is below 1,000.
-//! The first row of modules that it shows has a number below 2,000.
+//! The first row of modules that a line shows has a number below 2,000.
 
 ghost use Rattle.std.specs.Prelude.{◌≡◌, ℕ, ◌≤◌, ◌<◌, ◌+◌, ◌-◌, ◌*◌, ◌/◌, ◌%◌, ◌++◌, ◌∷◌, [], false, length, map, IfSome};
 ghost use Rattle.std.specs.List.{flat_map};
@@ -224,9 +224,9 @@ fn push_columns(text: &mut Piece<PEN_SIZE>, style: TextStyle, raster: &Raster, r
     }
 }
 
-// Writes line `y` in three parts, because the pen may have too little room for the whole line at once: the left margin,
-// then the columns that `push_columns` appends, and then the columns that it leaves out, one by one, with the right
-// margin and the newline.
+// Writes line `y` in three parts, because the pen may have too little room for the whole line at once. The first part
+// is the left margin, and the second the columns that `push_columns` appends. The third part is the columns that
+// `push_columns` leaves out, one by one, with the right margin and the newline.
 #[inline(always)]
 fn put_line<W: Sink>(
     pen: &mut Pen,

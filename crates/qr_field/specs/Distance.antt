@@ -1,6 +1,6 @@
--- In at least how many codewords two blocks differ, and with how much damage it is still certain which block was read.
--- A block is its data codewords `d` followed by its `n` error correction codewords `e`. In a list of what was read,
--- `None` stands for a codeword that could not be read.
+-- The least number of codewords in which two blocks differ, and how much damage a block may have so that what was read
+-- still determines it. A block is its data codewords `d` followed by its `n` error correction codewords `e`. In a list
+-- of what was read, `None` stands for a codeword that could not be read.
 use Rattle.std.specs.Prelude.{◌≡◌, ℕ, ◌+◌, ◌*◌, ◌≤◌, ◌==◌, if◌then◌else◌, Option, None, Some, List, [], ◌∷◌, ◌++◌, length}
 use Rattle.qr_field.specs.Polynomial.{IsCorrection}
 
@@ -35,8 +35,8 @@ errors (r ∷ rs) [] = length (r ∷ rs)
 errors (None ∷ rs) (y ∷ ys) = errors rs ys
 errors (Some x ∷ rs) (y ∷ ys) = difference x y + errors rs ys
 
--- Let a block have at most 255 codewords, of which k could not be read and at most t were misread. If k + 2t is at most
--- n, then what was read determines the data codewords (ISO/IEC 18004:2015, 7.5.1)
+-- Let a block have at most 255 codewords, of which n are error correction codewords, k could not be read, and at most t
+-- were misread. If k + 2t is at most n, then what was read determines the data codewords (ISO/IEC 18004:2015, 7.5.1)
 abbrev pub ErasuresAreUnambiguous : Type 0
 ErasuresAreUnambiguous =
     (n t : ℕ) (d e d' e' : List ℕ) (read : List (Option ℕ)) → IsCorrection d n e → IsCorrection d' n e' →

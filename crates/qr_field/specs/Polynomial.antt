@@ -47,8 +47,8 @@ pub record IsMultiple (g p : List ℕ) : Type 0 where
   pub bytes : All IsByte quotient
   pub whole : times quotient g ≡ p
 
--- The list e is the n error correction codewords of the data codewords d: the list of d followed by e is a multiple of
--- the generator polynomial (ISO/IEC 18004:2015, 7.5.2)
+-- The list e has the n error correction codewords of the data codewords d: the polynomial with the coefficients d,
+-- followed by e, is a multiple of the generator polynomial (ISO/IEC 18004:2015, 7.5.2)
 pub record IsCorrection (d : List ℕ) (n : ℕ) (e : List ℕ) : Type 0 where
   pub count : length e ≡ n
   pub bytes : All IsByte e

@@ -77,7 +77,7 @@ impl Divisor {
         self.count
     }
 
-    // Returns the register after one more codeword. In the contract `m` are the data codewords of the block. If the
+    // Returns the register after one more codeword. In the contract, `m` lists the data codewords of the block. If the
     // register held the remainder for the first `i` of them, the result holds the remainder for the first `i + 1`.
     #[inline(always)]
     fn step(&self, register: Register, codeword: u8) -> Register

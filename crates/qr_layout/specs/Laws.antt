@@ -59,9 +59,10 @@ alignment_size k = if nat_lt k 2 then 0 else 25 * (k ^ 2 - 3) - 10 * (k - 2)
 abbrev pub version_size : ℕ → ℕ
 version_size v = if nat_lt v 7 then 0 else 36
 
--- How many modules the encoding region has. From all modules of the symbol five numbers are subtracted: the modules of
--- the three corners with a finder pattern (81, 72 and 72), of the two timing patterns between the corners, of the
--- alignment patterns, and of the version information (ISO/IEC 18004:2015, 6.3.7, 7.7.3)
+-- How many modules the encoding region has. From the number of all modules of the symbol four numbers are subtracted:
+-- those of the modules of the three corners with a finder pattern (81, 72 and 72, together 225), of the two timing
+-- patterns between the corners, of the alignment patterns, and of the version information (ISO/IEC 18004:2015, 6.3.7,
+-- 7.7.3)
 abbrev pub region_size : ℕ → ℕ
 region_size v =
     side_of v ^ 2 - 225 - 2 * (side_of v - 17) - alignment_size (length (centres_of v)) - version_size v

@@ -1,3 +1,4 @@
--- Steps of the code. Only proofs, private contracts and the model of the iterator `Places` use them.
+-- What the code does step by step. Only proofs, private contracts and the model of the iterator `Places` use these
+-- definitions.
 pub mod Order
 pub mod Rectangles

@@ -1,7 +1,7 @@
 //! The centres of the alignment patterns (ISO/IEC 18004:2015, 6.3.6 and Annex E). For each version the standard lists
-//! up to seven numbers, which are called `centres` below. If the row and the column of a place are both among these
-//! numbers, the place is the centre of an alignment pattern. Only three such places are no centres, because they are in
-//! the corners with a finder pattern. `side` is the number of modules on a side.
+//! up to seven numbers, which are called `centres` below. A place whose row and column are both among these numbers is
+//! the centre of an alignment pattern, unless it is in one of the three corners with a finder pattern. `side` is the
+//! number of modules on a side.
 
 ghost use Rattle.std.specs.Prelude.{◌≡◌, ◌≤◌, ◌-◌, ◌+◌, ◌&&◌, not, nat_le, nat_lt};
 ghost use Rattle.std.specs.List.{list_any};
@@ -88,8 +88,8 @@ impl Version {
     }
 }
 
-// Whether row `at` crosses the alignment patterns whose centres are in row `centre`. The same holds for columns in
-// place of rows. A pattern reaches two rows and two columns beyond its centre.
+// Whether row `at` crosses the alignment patterns whose centres are in row `centre`. `at` and `centre` may also both be
+// columns. A pattern reaches two rows and two columns beyond its centre.
 fn is_near(centre: u8, at: u8) -> bool
     ensures { result ≡ (nat_le (centre - 2) at && nat_lt at (centre + 3)) }
 {

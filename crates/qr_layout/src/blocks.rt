@@ -1,6 +1,6 @@
 //! How the codewords of a symbol are divided into blocks, each of which has its own error correction codewords (ISO/IEC
-//! 18004:2015, 7.5.1, Table 9). All blocks of a symbol have equally many of these. A block is short or long: a long one
-//! has one data codeword more.
+//! 18004:2015, 7.5.1, Table 9). All blocks of a symbol have equally many error correction codewords. A block is short
+//! or long: a long one has one data codeword more.
 
 ghost use Rattle.std.specs.Prelude.{◌≡◌, ◌≤◌};
 ghost use Rattle.qr_layout.specs.Blocks.{correction_len_of, block_count_of, data_codewords_of, capacity_of, blocks_of, protection_of, spare_of, correctable_of};

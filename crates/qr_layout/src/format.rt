@@ -20,8 +20,8 @@ use crate::version::Version;
 pub const FORMAT_BITS: u8 = 15;
 
 // The format information for each level and mask: five data bits and ten error correction bits, all combined with
-// 101010000010010 by exclusive or (ISO/IEC 18004:2015, Annex C, Table C.1). The index is the two bits of the level,
-// then the three bits of the mask.
+// 101010000010010 by exclusive or (ISO/IEC 18004:2015, Annex C, Table C.1). The index of a word has five bits: the two
+// of the level, and then the three of the mask.
 static FORMAT_WORDS: [u16; 32] = [
     0x5412, 0x5125, 0x5E7C, 0x5B4B, 0x45F9, 0x40CE, 0x4F97, 0x4AA0, 0x77C4, 0x72F3, 0x7DAA, 0x789D,
     0x662F, 0x6318, 0x6C41, 0x6976, 0x1689, 0x13BE, 0x1CE7, 0x19D0, 0x0762, 0x0255, 0x0D0C, 0x083B,

@@ -34,8 +34,8 @@ pub fn order_is_one(version: Version)
     ensures { (ms ns : List Place) → IsOrder version ms → IsOrder version ns → ms ≡ ns }
 {}
 
-/// The order has a module for each bit of the codewords and for each remainder bit. At most it has 29,648 modules, in
-/// version 40.
+/// The order has a module for each bit of the codewords and for each remainder bit. It has at most 29,648 modules,
+/// which is its length in version 40.
 pub fn order_is_full(version: Version)
     ensures count { (ms : List Place) → IsOrder version ms → length ms ≡ module_count_of version }
     ensures most { module_count_of version ≤ 29648 }
@@ -87,9 +87,10 @@ pub fn nth_place(version: Version, index: usize) -> Option<Place>
 }
 
 /// For the versions 2 to 40, the rows of the centres of alignment patterns are those that a rule gives. The first is
-/// row 6, and the last is the seventh row from the bottom. From the second to the last they lie at equal distances.
-/// This distance is the least even number for which the second row is no further away from row 6. Version 32 is an
-/// exception: it has 26, where the rule would give 28.
+/// row 6, and the last is the seventh row from the bottom. From the second row of centres on, neighbouring rows are at
+/// equal distances. This distance is the least even number that, multiplied by the number of rows of centres less 1, is
+/// at least the distance from row 6 to the last row. Version 32 is an exception: its distance is 26, where the rule
+/// would give 28.
 #[tactic(auto, unfolding(crate::specs::Alignment::centres_of))]
 pub fn centres_are_spaced()
     ensures { map centres_of (range_with_len 2 39) ≡ map spaced_centres (range_with_len 2 39) }
@@ -105,7 +106,8 @@ pub fn data_codewords_compute()
 {}
 
 /// A block has two error correction codewords for each misread codeword that can be corrected, and in versions 1 to 3
-/// up to three more that only detect errors (misdecode protection). Table 9 of the standard prints both numbers.
+/// up to three more that only detect errors (misdecode protection). With the numbers of correctable codewords that
+/// Table 9 of the standard prints, this rule yields `correction_len_of`.
 #[tactic(auto, unfolding(crate::specs::Blocks::correction_len_of))]
 pub fn correction_lens_compute()
     ensures l { map (λ v. correction_len_of v L) all_versions ≡ map (printed_correction L) all_versions }
@@ -152,8 +154,8 @@ pub fn blocks_are_short(version: Version, level: Level)
 {}
 
 /// Let t be half of the number of error correction codewords of a block, rounded down. Then t is at least 9 % of all
-/// its codewords at level L, 17 % at M, 23 % at Q and 30 % at H. By the laws of `qr_field`, what was read determines
-/// the block if at most t codewords are misread and none is erased.
+/// codewords of the block at level L, 17 % at M, 23 % at Q and 30 % at H. By the laws of `qr_field`, what was read
+/// determines the block if at most t codewords are misread and none is erased.
 pub fn blocks_stand_damage(version: Version, level: Level)
     ensures { damage_of level * longest_of (blocks_of version level)
         ≤ 100 * ((blocks_of version level).ec_len / 2) }

@@ -8,7 +8,7 @@
 //!     14 13   4  3
 //!     16 15   2  1
 //!
-//! It yields the places that are in the encoding region, and passes over the others.
+//! The walk yields the places that are in the encoding region, and passes over the others.
 
 ghost use Rattle.std.specs.Prelude.{◌≡◌, ◌<◌, ◌≤◌, ◌↔◌, IfSome, IsSome, List, length};
 ghost use Rattle.std.specs.Iterator.{YieldsFirst, item_count};

@@ -1,5 +1,5 @@
 //! The strips of a symbol: each is two neighbouring columns that codewords fill together (ISO/IEC 18004:2015, 7.7.3).
-//! They are numbered from 1 at the left. Column 6, which has a timing pattern, is in no strip:
+//! Strips are numbered from 1 at the left. Column 6, which has a timing pattern, is in no strip:
 //!
 //!     column  0 1  2 3  4 5  6  7 8  9 10
 //!     strip    1    2    3       4    5

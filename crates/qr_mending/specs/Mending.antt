@@ -1,7 +1,7 @@
 -- How a damaged symbol is mended and read. `g` is the square of modules as it was read, and `unknown` is dark where a
 -- module was not read. `v`, `l` and `mask` are the version, the level and the mask of the symbol, `message` its data
 -- codewords, and `changed` lists for each block how many codewords were misread; erased ones do not count. A level and
--- a mask are near to a copy of the format information if its cost with them is at most 6.
+-- a mask are near to a copy of the format information if the copy costs at most 6 with them.
 use Rattle.std.specs.Prelude.{◌≡◌, ◌≢◌, ℕ, ◌+◌, ◌*◌, ◌≤◌, ◌||◌, Result, Ok, Err, List}
 use Rattle.qr_layout.specs.declared.level.Level.{Level}
 use Rattle.qr_layout.specs.Format.{format_word_of}
@@ -44,8 +44,8 @@ rank_of First cost = 2 * cost
 rank_of Second cost = 2 * cost + 1
 
 -- The square has to be read with the level `l` and the mask `mask`. They are near to a copy of the format information.
--- Among the levels and masks that are near to a copy, and with which all blocks can be mended, none have a lower rank
--- (ISO/IEC 18004:2015, 7.9.1, 12)
+-- Of all pairs of level and mask that are near to a copy, and with which all blocks can be mended, none has a lower
+-- rank (ISO/IEC 18004:2015, 7.9.1, 12)
 pub record HasFormat (unknown : Grid) (v : ℕ) (g : Grid) (l : Level) (mask : ℕ) : Type 0 where
   pub copy : FormatCopy
   pub near : IsNearFormat unknown copy g l mask
@@ -101,8 +101,8 @@ pub record HasWrongModules (unknown g : Grid) (v : ℕ) (l : Level) (mask : ℕ)
   pub form : IsDamagedForm unknown g v l mask message changed
   pub differs : DiffersFromSymbol unknown g v l mask message wrong
 
--- The square has the side of a version. Some level and mask are near to a copy of its format information, but with no
--- such level and mask can all blocks be mended (ISO/IEC 18004:2015, 7.5.1, 7.9.1, 12)
+-- The square has the side of a version. Some level and mask are near to a copy of its format information, but with each
+-- such level and mask some block cannot be mended (ISO/IEC 18004:2015, 7.5.1, 7.9.1, 12)
 pub record IsBeyondMending (unknown g : Grid) : Type 0 where
   pub version : ℕ
   pub sized : IsOfVersion g version

@@ -14,7 +14,7 @@ use Rattle.qr_mending.specs.Mending.{IsDamagedForm, IsMendedReading, IsUnmended}
 abbrev pub IsMendedContent : Grid → Content → Type 0
 IsMendedContent g content = (v : ℕ) × (l : Level) × (mask : ℕ) × (changed : List ℕ) × IsMendedReading (light g.side) g v l mask content changed
 
--- The squares can be mended and read. There is either one content, which is plain, or the contents are those of a whole
+-- The squares can be mended and read. Either there is one content, which is plain, or the contents are those of a whole
 -- series. `bytes` are the bytes of all contents, one content after the other (ISO/IEC 18004:2015, 8.1 to 8.3, 12)
 abbrev pub IsMendedSeries : List Grid → List ℕ → Type 0
 IsMendedSeries squares bytes = IsJoinedBy IsMendedContent squares bytes

@@ -1,9 +1,9 @@
 //! Mends damaged blocks (ISO/IEC 18004:2015, 7.5.1 and Annex B). The codewords of a block are the coefficients of a
 //! polynomial, that of the highest power first. If the block is undamaged, the generator polynomial divides this
-//! polynomial. Codewords of which this is true are called a block of the code. The syndromes of a damaged block are the
-//! values of its polynomial at 2^0, 2^1 and so on, as many as there are error correction codewords. If the polynomial
-//! is divided by the generator polynomial, the remainder has the same syndromes, and fewer coefficients. So the
-//! syndromes are computed from the remainder, and only as many as are needed.
+//! polynomial. Codewords whose polynomial it divides are called a block of the code. The syndromes of a damaged block
+//! are the values of its polynomial at 2^0, 2^1 and so on, as many as there are error correction codewords. If the
+//! polynomial of a damaged block is divided by the generator polynomial, the remainder has the same syndromes and fewer
+//! coefficients. So the syndromes are computed from the remainder, and only as many of them as are needed.
 //!
 //! A candidate for the mended block is computed from the syndromes. It is taken only if it is a block of the code, and
 //! differs in few enough codewords from what was read.
@@ -61,7 +61,7 @@ fn sum(xs: &[u8], ys: &[u8]) -> ArrayVec<u8, 30>
 }
 
 // Divides the polynomial of the codewords by the generator polynomial, and returns the remainder. Returns `None` if the
-// remainder is 0, so that the codewords are a block of the code.
+// remainder is 0, that is, if the codewords are a block of the code.
 pub(crate) fn remainder(divisor: &Divisor, codewords: &[u8]) -> Option<ArrayVec<u8, 30>>
     requires { divisor.now ≤ length codewords.now }
     ensures block { IfNone result (IsBlock divisor.now codewords.now) }

@@ -21,10 +21,10 @@ use crate::sums::{dot, syndromes};
 use arrayvec::ArrayVec;
 use qr_field::Divisor;
 
-// The modified syndromes, which are also called Forney's syndromes. They are the syndromes of another error polynomial.
-// It is made from that of the block: for each m, the coefficient of x^m is multiplied by the value of `polynomial` at
-// 2^m. If `polynomial` is the erasure locator, this value is 0 for each erased codeword, so the errors of the erased
-// codewords are gone.
+// The modified syndromes, which are also called Forney's syndromes. They are the syndromes of another error polynomial,
+// which is made from the error polynomial of the block: for each m, the coefficient of x^m is multiplied by the value
+// of `polynomial` at 2^m. If `polynomial` is the erasure locator, this value is 0 for each erased codeword, so the
+// errors of the erased codewords are gone.
 #[tactic(auto, using(crate::proofs::Named::erasure_facts))]
 fn modified_syndromes(polynomial: &[u8], syndromes: &[u8]) -> ArrayVec<u8, 30>
     requires least { 1 ≤ length polynomial.now }
@@ -42,8 +42,8 @@ fn modified_syndromes(polynomial: &[u8], syndromes: &[u8]) -> ArrayVec<u8, 30>
 }
 
 // Returns the mended block. If `damaged` cannot be mended, returns some list of codewords, which the caller has to
-// refuse. The product of the erasure locator and the error locator has a root for each codeword that is erased or
-// misread.
+// refuse. The list `both` is the product of the erasure locator and the error locator, so it has a root for each
+// codeword that is erased or misread.
 //
 // The function is not inlined, so that its lists are on the stack only while it runs, and not while `mend` runs.
 #[inline(never)]
@@ -88,9 +88,9 @@ fn count_misread(codewords: &[u8], erased: &[bool], mended: &[u8]) -> usize
 /// erased if `erased` is true at its index, and its value then has no effect. Returns how many of the other codewords
 /// were misread (ISO/IEC 18004:2015, 7.5.1 and Annex B).
 ///
-/// An erased codeword uses up one error correction codeword, and a misread one uses up two. If more than `spare` are
-/// needed, returns `None` and changes nothing. `divisor` determines the number of error correction codewords of the
-/// block. In a symbol, `spare` is the number that `Version::spare` returns.
+/// An erased codeword uses up one error correction codeword, and a misread one uses up two. If the block needs more
+/// than `spare` of them, returns `None` and changes nothing. `divisor` determines the number of error correction
+/// codewords of the block. In a symbol, `spare` is the number that `Version::spare` returns.
 #[tactic(auto, using(crate::proofs::Named::mend_with_erasures_facts))]
 pub fn mend_with_erasures(
     divisor: &Divisor,

@@ -24,8 +24,8 @@ use arrayvec::ArrayVec;
 use qr_field::{div, exponent_of, mul, power_of};
 
 // Divides a polynomial by x + `root` by Horner's rule, and returns the value of the quotient at `root`. `terms` lists
-// the coefficients of the polynomial, that of the lowest power first. They are replaced by those of the quotient, which
-// has one coefficient less, so the last of `terms` becomes 0. The remainder is not returned.
+// the coefficients of the polynomial, that of the lowest power first. They are replaced by the coefficients of the
+// quotient. The quotient has one coefficient less, so the last of `terms` becomes 0. The remainder is not returned.
 #[tactic(auto, using(crate::proofs::Named::division_facts))]
 fn divide(terms: &mut [u8], root: u8) -> u8
     ensures quotient { terms.new ≡ quotient root terms.old }
@@ -78,7 +78,8 @@ fn remove(syndromes: &mut [u8], error: u8, location: u8)
 // The search for the errors of a block. It tries the codewords one by one. `locator` and `syndromes` belong to the
 // errors of those codewords that it has still to try. The values of the locator are computed for sixteen locations at
 // once, and `values` has them for the locations from `first` on. After a division of the locator they need not be
-// computed again. If the locator was 0 for a location that is still to be tried, the divided locator is 0 for it too.
+// computed again: at the locations that are still to be tried, the divided locator is 0 exactly where the locator was
+// 0.
 #[derive(Drop)]
 pub(crate) struct Removal {
     locator: ArrayVec<u8, 31>,
@@ -141,7 +142,7 @@ impl Removal {
     }
 
     // Removes the last error from the codewords that were not tried yet. If the locator is 1, no error is left. If it
-    // is x + r, one error is left: its location is the logarithm of r, and its value is the first syndrome.
+    // is x + r, at most one error is left: its location is the logarithm of r, and its value is the first syndrome.
     fn finish(&self, codewords: &mut [u8])
         requires removal { IsRemoval (length codewords.old) self.now }
         requires few { array_vec_len self.now.locator ≤ 2 }
@@ -161,8 +162,8 @@ impl Removal {
 }
 
 // Returns the codewords without their errors. Adding an error to its codeword removes the error, since equal elements
-// of the field add up to 0. The search ends as soon as at most one error is left. When the search starts,
-// no value of the locator has been computed yet. So `removal.first` is above all locations, and the first `next_error`
+// of the field add up to 0. The search ends as soon as at most one error is left. When the search starts, no value of
+// the locator has been computed yet. So `removal.first` is above all locations, and the first call of `next_error`
 // computes values.
 //
 // The lists have room for what is copied into them, so `try_extend_from_slice` cannot fail. `removal` is made here, and

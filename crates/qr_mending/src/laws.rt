@@ -42,15 +42,16 @@ use qr_matrix::Matrix;
 use qr_symbol::ReadFault;
 use std::alloc::Global;
 
-/// A damaged block of at most 255 codewords is mended to at most one block. For this, the number of misread codewords
-/// that mending allows for must be at most half the number of error correction codewords.
+/// A damaged block of at most 255 codewords is mended to at most one block. This holds if mending corrects at most half
+/// as many misread codewords as the block has error correction codewords.
 pub fn mended_blocks_are_one()
     ensures { (n t : ℕ) (damaged b c : List ℕ) → length damaged ≤ 255 → 2 * t ≤ n
         → IsMended n t damaged b → IsMended n t damaged c → b ≡ c }
 {}
 
-/// A damaged block of at most 255 codewords, some of them erased, is mended to at most one block if it has enough error
-/// correction codewords: one for each erased codeword and two for each misread one.
+/// A damaged block of at most 255 codewords, some of them erased, is mended to at most one block. This holds if mending
+/// uses up no more error correction codewords than the block has: one for each erased codeword, and two for each
+/// misread one.
 pub fn blocks_mended_with_erasures_are_one()
     ensures { (n spare : ℕ) (read : List (Option ℕ)) (b c : List ℕ) → length read ≤ 255 → spare ≤ n
         → IsMendedWithErasures n spare read b → IsMendedWithErasures n spare read c → b ≡ c }
@@ -63,9 +64,10 @@ pub fn blocks_without_erasures_are_mended_alike()
         → IsMendedWithErasures n spare (read_of damaged (replicate k false)) mended ↔ IsMended n (spare / 2) damaged mended }
 {}
 
-/// A block of at most 255 codewords is also a block if fewer of its last codewords, but at least one, count as error
-/// correction codewords: the generator polynomial of the lower degree divides that of the higher degree. For example, a
-/// symbol of version 1 has one block at every level, so only the format information says which level is meant.
+/// Take a block of at most 255 codewords, and count fewer of its last codewords as error correction codewords, but at
+/// least one. Then it is still a block, since the generator polynomial of the lower degree divides that of the higher
+/// degree. For example, a symbol of version 1 has one block at every level. Its codewords at level H are also a block
+/// of level L, so only the format information says which level is meant.
 #[tactic(auto, using(crate::proofs::Named::law_facts))]
 pub fn blocks_are_those_of_weaker_levels()
     ensures { (n m : ℕ) (block : List ℕ) → 1 ≤ n → n ≤ m → length block ≤ 255 → IsBlock m block → IsBlock n block }
@@ -82,8 +84,8 @@ pub fn format_words_lie_apart()
         → 28 ≤ format_cost unknown g l m + format_cost unknown g k n }
 {}
 
-/// At most one pair of level and mask is near to a copy of the format information, that is, the copy costs at most 6
-/// with it. So the two copies together have at most two near pairs, and mending tries no others.
+/// At most one pair of level and mask is near to a copy of the format information. A pair is near if the copy costs at
+/// most 6 with it. So the two copies together have at most two near pairs, and mending tries no others.
 #[tactic(auto, using(crate::proofs::Named::law_facts))]
 pub fn near_format_is_one()
     ensures one { (unknown : Grid) (copy : FormatCopy) (g : Grid) (l k : Level) (m n : ℕ) → IsNearFormat unknown copy g l m
@@ -95,8 +97,8 @@ pub fn near_format_is_one()
 
 /// In the cost of a copy, a module that was not read counts once, and a misread one twice. In the number of wrong
 /// modules each of them counts once. `format_cost` and `wrong_format_modules` add up the numbers of both copies. The
-/// example is a light square that is compared with the format information of level M and mask 0. One module of its
-/// first copy was not read. A level and a mask are near to a copy at a cost of 6, and not at 7.
+/// example is a light square of 21 rows that is compared with the format information of level M and mask 0. One module
+/// of its first copy was not read. A level and a mask are near to a copy at a cost of 6, and not at 7.
 pub fn format_costs_compute()
     ensures near { (unknown g : Grid) (copy : FormatCopy) (l : Level) (mask : ℕ) → mask < 8
         → copy_cost unknown copy g l mask ≡ 6 → IsNearFormat unknown copy g l mask }

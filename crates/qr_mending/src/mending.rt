@@ -25,11 +25,11 @@ use qr_matrix::{Matrix, differences};
 use qr_symbol::{ReadFault, draw_symbol, read_codewords};
 use std::alloc::{AllocError, Global};
 
-// If both copies together cost at most this with one pair of level and mask, they cost more with every other pair. The
+// If both copies together cost at most 13 with one pair of level and mask, they cost more with every other pair. The
 // reason is that the format information of two pairs differs in at least seven of its 15 bits, and each copy shows all
-// 15. Take the cost with one pair and the cost with the other. Each bit that differs adds 2 to the sum of these costs:
-// 2 to one cost if the module of the bit was read, and otherwise 1 to each cost. Both copies have at least 14 such
-// bits, so the sum is at least 28.
+// 15. Take the cost with one pair and the cost with the other. Each bit in which their format information differs adds
+// 2 to the sum of these costs: 2 to one of the costs if the module of the bit was read, and otherwise 1 to each. Both
+// copies together have at least 14 such bits, so the sum is at least 28.
 const COST_CERTAIN: u8 = 13;
 
 // A symbol whose blocks were mended with this level and mask.
@@ -227,9 +227,9 @@ pub struct Mended {
 ///
 /// # Errors
 ///
-/// Returns `Side` if no version has the side of `matrix`, `Format` if no level and mask are near to a copy, `Check` if
-/// there are near pairs, but with each of them some block cannot be mended, `Segments` if the mended data codewords
-/// cannot be parsed, and `Memory` if memory is refused.
+/// Returns `Side` if no version has the side of `matrix`; `Format` if no level and mask are near to a copy; `Check` if
+/// there are near pairs, but with each of them some block cannot be mended; `Segments` if the mended data codewords
+/// cannot be parsed; and `Memory` if memory is refused.
 #[tactic(auto, using(crate::proofs::Named::size_facts))]
 pub fn mend_symbol_with_unknown(
     alloc: Global,

@@ -1,4 +1,4 @@
-//! Mends the message of a damaged symbol, that is its data codewords, block by block (ISO/IEC 18004:2015, 7.5.1, 7.6
+//! Mends the message of a damaged symbol, which is its data codewords, block by block (ISO/IEC 18004:2015, 7.5.1, 7.6
 //! and 7.7.3). A codeword is erased if one of its modules was not read.
 
 ghost use Rattle.std.specs.Prelude.{◌≡◌, ℕ, ◌+◌, ◌*◌, ◌<◌, ◌≤◌, ◌==◌, ◌⊎◌, ◌++◌, ◌∷◌, [], false, not, map, take, drop, List, length, Err, IfOk, IfErr, IfSome, IfNone};

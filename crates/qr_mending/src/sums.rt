@@ -13,8 +13,9 @@ ghost use Rattle.qr_mending.specs.Steps.Values.{sum_at};
 use arrayvec::ArrayVec;
 use qr_field::{doubled, exponent_of, mul, power_of};
 
-// Item 4 * j + d has sixteen products, one in each byte, the first in the lowest byte. They are the products of d and 2
-// to the powers 0, j, 2 * j and so on up to 15 * j. Here d is 0 to 3, and j is 0 to 30.
+// The table has an item for each digit d from 0 to 3 and each number j from 0 to 30, at the index 4 * j + d. Such an
+// item has sixteen products, one in each byte, the first in the lowest byte: the products of d and 2 to the powers 0,
+// j, 2 * j and so on up to 15 * j.
 static MULTIPLES: [u128; 124] = [
     0,
     0x01010101_01010101_01010101_01010101,
@@ -220,9 +221,9 @@ fn fourfold(elements: u128) -> u128
 }
 
 // Sixteen sums of products. One factor of each product is cut into four digits to the base 4, which have the weights
-// 64, 16, 4 and 1. The table `MULTIPLES` has the products of the digits and the other factor. Each field has sixteen
-// sums of such products, one in each byte, for the digits of one weight. Only at the end, in `values`, are the four
-// fields multiplied by their weights, and added.
+// 64, 16, 4 and 1. The other factor is a power of 2, and the table `MULTIPLES` has its products with the digits. Each
+// of the four numbers has sixteen sums of such products, one in each byte, for the digits of one weight. Only at the
+// end, in `values`, are the four numbers multiplied by their weights, and added.
 #[derive(Clone, Copy)]
 pub(crate) struct Sums {
     pub(crate) ones: u128,

@@ -7,7 +7,7 @@ ghost use Rattle.qr_parsing.specs.Laws.{DrawingsAreOne, SeriesAreDrawings, Symbo
 use crate::parsing::DrawingFault;
 use std::alloc::AllocError;
 
-/// A text is the drawing of at most one type, one margin and one list of squares.
+/// A text is the drawing of at most one type, one margin and one list of squares that `parse_drawing` can return.
 pub fn drawings_are_one()
     ensures { DrawingsAreOne }
 {}

@@ -1,6 +1,6 @@
 //! This crate parses drawings: it finds the type, the margin and the squares of a text or an SVG document. It accepts
-//! exactly the drawings that `qr_drawing` makes of squares that, as all symbols do, have a dark module at the top left
-//! and a light one in column 7 of row 0.
+//! exactly the drawings that `qr_drawing` makes of squares of 8 to 177 modules on a side that begin as symbols do: the
+//! module at the top left is dark, and the one in column 7 of row 0 is light.
 //!
 //! The parse assumes that the text is a drawing, and reads each module at the place where a drawing would have it. Then
 //! it draws the result again, and compares this drawing with the text. So no other check of the text is needed: if the

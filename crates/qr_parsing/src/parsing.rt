@@ -1,5 +1,5 @@
-//! The parse of a drawing, in two steps. The first guesses the type, the margin and the squares of the only drawing
-//! that the text can be. The second draws what was guessed, and compares the result with the text.
+//! Parses a drawing in two steps. The first step guesses the type, the margin and the squares of the only drawing that
+//! the text can be. The second step draws what was guessed, and compares the result with the text.
 
 ghost use Rattle.std.specs.Prelude.{◌≡◌, ◌⊎◌, ℕ, List, IfOk, IfErr, MatchOption};
 ghost use Rattle.std.specs.Bool.{Decides};
@@ -23,8 +23,8 @@ use thiserror::Error;
 /// Why a text is not parsed.
 #[derive(Clone, Copy, Debug, PartialEq, Eq, Error)]
 pub enum DrawingFault {
-    /// The text is no drawing of squares that have, as every symbol has, a dark module in row 0 and column 0 and a
-    /// light module in row 0 and column 7.
+    /// The text is no drawing of squares of 8 to 177 modules on a side that begin as symbols do: with a dark module in
+    /// row 0 and column 0, and a light one in row 0 and column 7.
     #[error("not a drawing of symbols")]
     NotADrawing = 1,
     /// Memory was refused.
@@ -183,10 +183,10 @@ fn is_drawing_of(alloc: Global, text: &[u8], shown: &Drawn) -> Result<bool, Allo
 
 /// Returns what the drawing `text` shows.
 ///
-/// It accepts the drawings that `qr_drawing::draw` makes, of each type and with a margin of 0 to 255 modules, if they
-/// show 1 to 16 squares with the same side, of 8 to 177 modules. As in every symbol, the module at the top left of each
-/// square has to be dark, and the one in column 7 of row 0 has to be light (ISO/IEC 18004:2015, 6.3.3, 6.3.4). Such a
-/// text is the drawing of only one type, one margin and one list of squares.
+/// The function accepts the drawings that `qr_drawing::draw` makes, of each type and with a margin of 0 to 255 modules,
+/// if they show 1 to 16 squares with the same side, of 8 to 177 modules. As in every symbol, the module at the top left
+/// of each square has to be dark, and the one in column 7 of row 0 has to be light (ISO/IEC 18004:2015, 6.3.3, 6.3.4).
+/// Such a text is the drawing of only one type, one margin and one list of squares.
 ///
 /// # Errors
 ///

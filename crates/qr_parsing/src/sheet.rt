@@ -111,8 +111,8 @@ fn is_sign(signs: (u8, u8), byte: u8) -> bool
 
 // Writes the modules of a row into `modules`, a byte for each. The byte of `bytes` at the index `first` shows the first
 // module, the byte at the index `first + step` the second, and so on. A byte shows a dark module if it is one of the
-// two signs. This function is inlined into a call for each type of drawing. There `step` is a constant, so the compiled
-// loop compares many bytes at once.
+// two `signs`. This function is inlined into a call for each type of drawing. There `step` is a constant, so the
+// compiled loop compares many bytes at once.
 #[inline(always)]
 fn write_by(bytes: &[u8], first: usize, step: usize, signs: (u8, u8), modules: &mut [u8])
     requires step_in { step ≤ 2 }

@@ -186,8 +186,9 @@ fn paint(bytes: &mut [u8], width: usize, height: usize, x: usize, y: usize, modu
 {
     if y < height {
         let end = (x + modules).min(width);
-        // Three of four runs of dark modules have only one or two modules. The first two are written before the loop,
-        // because the compiler turns the loop into a call that fills memory.
+        // Three out of four runs of dark modules have only one or two modules. The first two modules are written before
+        // the loop, because the compiler turns the loop into a call that fills memory. The short runs then need no such
+        // call.
         if x < end {
             bytes[y * width + x] = 1;
             if x + 1 < end {

@@ -100,8 +100,8 @@ pub(crate) fn cells_in(alloc: Global, text: &[u8]) -> Result<Vec<u8>, AllocError
     Ok(cells)
 }
 
-/// Returns the sheet of a UTF8 text. Its bytes are `cells`, which `cells_in` has made of the text. Returns `None` only
-/// if no drawing can be as wide as this text, or have as many rasters.
+/// Returns the sheet of a UTF8 text. The bytes of the sheet are `cells`, which `cells_in` has made from the text.
+/// Returns `None` only if no drawing can be as wide as this text, or have as many rasters.
 pub(crate) fn cell_sheet(cells: &[u8]) -> Option<Sheet<'_>>
     ensures { (text : List ℕ) → kind_in text ≡ Drawing.Utf8 → cells.now ≡ cells_in text
         → MatchOption result (HasNoSheet text) (λ s. IsSheetOf s.kind s.width s.count s.bytes.now text) }

@@ -142,7 +142,8 @@ pub record Runs (words : List Text) (in0 in1 : Reader) (out0 out1 err0 err1 : Wr
   pub err_within : err0.counts ≡ no_writes → IsWrittenWithin err1.counts
   pub offered : out1.counts.offered ≤ max out0.counts.offered WRITE_MAX
 
--- A run with these arguments can end with this exit status, whatever its outcome is [own]
+-- With some outcome, a run with these arguments can end with this exit status, and can change the three devices in this
+-- way [own]
 abbrev pub RunsTo : List Text → Reader → Reader → Writer → Writer → Writer → Writer → ℕ → Type 0
 RunsTo words in0 in1 out0 out1 err0 err1 status =
     (outcome : Result (Unit {0}) Fault) × Runs words in0 in1 out0 out1 err0 err1 outcome status

@@ -1,3 +1,3 @@
--- Steps of the code. Only private contracts use them.
+-- What the code does step by step. Only private contracts use these definitions.
 pub mod Command
 pub mod Fault

@@ -2,7 +2,7 @@
 //! drawing. If one of these steps fails, it writes the line of the fault. The first three steps make a drawing job: the
 //! symbols and how they are drawn.
 //!
-//! Reads the input to its end, or to `INPUT_MAX` bytes, which are more than 16 symbols can hold.
+//! The input is read to its end, or to `INPUT_MAX` bytes, which are more than 16 symbols can hold.
 
 ghost use Rattle.std.specs.Prelude.{MatchResult, length, map, ◌≤◌};
 ghost use Rattle.std.specs.String.{string_bytes};
@@ -123,8 +123,8 @@ fn run_to_result<R: Source, W: Sink>(
 /// of a fault to `err`. Returns the exit status, 0 or 1. The first of `words` is the program's name.
 ///
 /// The input is the string among the arguments, or else all bytes of `input`. Only its first 113,425 bytes are taken,
-/// one more than 16 symbols can hold. `-8` encodes them in byte mode alone. Without `-8`, `-k` allows kanji mode. `-i`
-/// folds small letters to capitals. With `-k` it leaves kanji pairs unchanged, and with `-8` it leaves all bytes
+/// which are more than 16 symbols can hold. `-8` encodes them in byte mode alone. Without `-8`, `-k` allows kanji mode.
+/// `-i` folds small letters to capitals. With `-k` it leaves kanji pairs unchanged, and with `-8` it leaves all bytes
 /// unchanged.
 ///
 /// A run that returns 0 has written the whole drawing to `out`, flushed it once after that, and written nothing to
@@ -135,9 +135,9 @@ fn run_to_result<R: Source, W: Sink>(
 /// other fault nothing was written to `out`, and it was not flushed.
 ///
 /// A read fault is reported exactly if a read failed or 1,000 reads were interrupted. A write fault is reported exactly
-/// if a write of the drawing or the flush failed, a write took no byte, or 1,000 writes were interrupted. Until then
-/// interrupted reads and writes are tried again. The interruptions of the input, of the drawing and of the line are
-/// counted separately.
+/// if a write of the drawing or the flush failed, a write took no byte, or 1,000 writes were interrupted. Before the
+/// 1,000th interruption, interrupted reads and writes are tried again. The interruptions of the input, of the drawing
+/// and of the line are counted separately.
 ///
 /// An input is refused as too long only if its shortest encoding is too long for every allowed version. With `-S` it is
 /// refused for too many symbols only if it does not fit one symbol and would be cut into more than 16 parts.

@@ -12,8 +12,9 @@ pub fn command_lines()
     ensures { CommandLines }
 {}
 
-/// At most 113,425 bytes of input are read (`INPUT_MAX`), a write offers at most 1,200 bytes (`WRITE_MAX`), and at most
-/// 999 interrupted calls of a device are tried again (`INTERRUPTIONS_MAX`).
+/// These are the values of three limits that the contract of `run` uses: the most bytes of input that are read
+/// (`INPUT_MAX`), the most bytes that one write of the drawing offers (`WRITE_MAX`), and the most interrupted calls of
+/// a device that are tried again (`INTERRUPTIONS_MAX`).
 pub fn limits()
     ensures input { INPUT_MAX ≡ 113425 }
     ensures piece { WRITE_MAX ≡ 1200 }

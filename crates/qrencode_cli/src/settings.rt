@@ -169,7 +169,7 @@ fn number_in(matches: &ArgMatches<'_>, id: &str, otherwise: u8) -> u8
     match matches.try_get_one::<u8>(id) {
         Ok(Some(number)) => number,
         Ok(None) => otherwise,
-        // `clap` accepts `-0` as a number in the range, but `-0` does not parse as a `u8`.
+        // `clap` accepts `-0` as a number in the range, but `-0` does not parse as a `u8`. So it is taken for 0 here.
         Err(_) => 0,
     }
 }

@@ -22,9 +22,8 @@ rule_of n = if n == 0 then rule.Auto else (if n == 1 then rule.BytesOnly else ru
 abbrev pub interpretation_of : ℕ → Interpretation
 interpretation_of n = if nat_lt n 1000000 then Eci n else (if n == 1000000 then Default else Gs1)
 
--- Kanji mode may be allowed with this interpretation, which has no ECI, or ECI 20, that is, Shift JIS. Readers take
--- each kanji pair for Shift JIS. Under another ECI, two bytes that are not one character could look like a kanji pair
--- [own]
+-- Kanji mode may be allowed with this interpretation: it has no ECI, or ECI 20, which is Shift JIS. Readers take each
+-- kanji pair for Shift JIS. Under another ECI, two bytes that are not one character could look like a kanji pair [own]
 abbrev pub MayAllowKanji : Interpretation → Type 0
 MayAllowKanji (Eci n) = n ≡ 20
 MayAllowKanji _ = Unit {0}

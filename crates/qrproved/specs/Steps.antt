@@ -1,2 +1,2 @@
--- Steps of the code. Only private contracts use them.
+-- What the code does step by step. Only private contracts use these definitions.
 pub mod Status

@@ -1,7 +1,7 @@
 //! A library for C, and for each language that can call C functions. Its functions are named calls here, and are
 //! declared in `include/qrproved.h`. They encode an input as a symbol or a series, read symbols, mend damaged ones,
-//! draw squares of modules, and parse drawings. A call writes modules, bytes and texts to a buffer of the caller, and
-//! numbers to a struct of the caller. It keeps no memory, so there is nothing to free.
+//! draw squares of modules, and parse drawings. A call writes modules, bytes, ECI headers and texts to buffers of the
+//! caller, and numbers to a struct or a variable of the caller. It keeps no memory, so there is nothing to free.
 //!
 //! The promises hold if the caller fulfils the conditions under 'What the caller owes' in `docs/LIBRARY.md`. If a
 //! buffer is longer than the result, the bytes after the result stay as they are. On each status but 0 the buffer and

@@ -170,7 +170,7 @@ fn masks_of_least_penalty(rt: HostRuntime) -> Result<(), Fail> {
     Ok(())
 }
 
-// The rows of the symbol of `01234567` at 1-M with mask 0, from the top down. A dark module is 1.
+// The rows of the symbol of `01234567` at version 1 and level M with mask 0, from the top down. A dark module is 1.
 static ROWS: [u32; 21] = [
     0b111111100011101111111,
     0b100000101110001000001,

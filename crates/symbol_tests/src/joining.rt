@@ -9,7 +9,8 @@ use qr_matrix::Matrix;
 use qr_symbol::{ReadFault, Symbol, read_series};
 use std::test::Fail;
 
-// Returns a symbol of the series of `ABCDEFGH` at 1-H. At position 0 it contains `ABCDE`, and at position 1 `FGH`.
+// Returns a symbol of the series of `ABCDEFGH` at version 1 and level H. At position 0 it contains `ABCDE`, and at
+// position 1 `FGH`.
 fn part(rt: &HostRuntime, position: u8) -> Result<Symbol, Fail>
     requires { position < 2 }
 {

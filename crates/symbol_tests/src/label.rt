@@ -16,7 +16,7 @@ fn a_letter_at_1_l(rt: HostRuntime) -> Result<(), Fail> {
     Ok(())
 }
 
-// A symbol at 40-L contains at most 2,953 bytes (Table 7).
+// A symbol of version 40 and level L contains at most 2,953 bytes (Table 7).
 #[test]
 fn refusals(rt: HostRuntime) -> Result<(), Fail> {
     let fault = label(rt.alloc(), b"", Level::L, Version::FIRST);

@@ -3,9 +3,9 @@ use qr_field::Divisor;
 use qr_mending::{mend, mend_with_erasures};
 use std::process::Abort;
 
-// Mends the block of `01234567` at 1-M. `damage` has the index of each misread codeword, counted from 0, and the value
-// that was read. At most `t` codewords may be corrected. Returns how many were corrected, or `None` if the block cannot
-// be mended.
+// Mends the block of the input `01234567` at version 1 and level M. `damage` has the index of each misread codeword,
+// counted from 0, and the value that was read. At most `t` codewords may be corrected. Returns how many were corrected,
+// or `None` if the block cannot be mended.
 fn mended_count(rt: &impl Abort, t: usize, damage: &[(usize, u8)]) -> Option<usize> {
     let mut damaged = EIGHT_DIGITS;
     for (place, codeword) in damage {

@@ -8,8 +8,9 @@ use qr_mending::{mend_series, mend_symbol, mend_symbol_with_unknown};
 use qr_symbol::{ReadFault, build_masked, encode_series};
 use std::test::Fail;
 
-// Mends the symbol of `01234567` at 1-M with these modules inverted. Returns the number of misread codewords, the
-// number of wrong modules in the format information, and the number of wrong modules in the whole square.
+// Mends the symbol of the input `01234567` at version 1 and level M (1-M) with these modules inverted. Returns the
+// number of misread codewords, the number of wrong modules in the format information, and the number of wrong modules
+// in the whole square.
 fn mend_inverted(
     rt: &HostRuntime,
     modules: &[(u8, u8)],
@@ -174,8 +175,8 @@ fn eight_digits_with_unread_modules(rt: HostRuntime) -> Result<(), Fail> {
     Ok(())
 }
 
-// Returns the two symbols of `ABCDEFGH` at 1-H, which contain `ABCDE` and `FGH`, each with an inverted module. At 1-H
-// eight misread codewords can be corrected.
+// Returns the two symbols of `ABCDEFGH` at version 1 and level H, which contain `ABCDE` and `FGH`, each with an
+// inverted module. At this level eight misread codewords can be corrected.
 fn damaged_parts(rt: &HostRuntime) -> Result<Vec<Matrix>, Fail> {
     let symbols = encode_series(
         rt.alloc(),

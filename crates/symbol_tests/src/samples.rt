@@ -10,7 +10,8 @@ use qr_symbol::{Symbol, build, interleave};
 use std::borrow::CowSlice;
 use std::test::Fail;
 
-/// The codewords of `01234567` at 1-M: 16 data codewords, and then 10 error correction codewords.
+/// The codewords of the input `01234567` at version 1 and level M (1-M): 16 data codewords, and then 10 error
+/// correction codewords.
 pub static EIGHT_DIGITS: [u8; 26] = [
     0x10, 0x20, 0x0C, 0x56, 0x61, 0x80, 0xEC, 0x11, 0xEC, 0x11, 0xEC, 0x11, 0xEC, 0x11, 0xEC, 0x11,
     0xA5, 0x24, 0xD4, 0xC1, 0xED, 0x36, 0xC7, 0x87, 0x2C, 0x55,

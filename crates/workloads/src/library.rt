@@ -112,7 +112,7 @@ fn changes(
         let is_long = block >= usize::from(sizes.short);
         let len = usize::from(sizes.short_len) + usize::from(is_long) + usize::from(sizes.ec_len);
         let mut rank = 1u8;
-        // If a codeword was drawn before, another is drawn in its place. 1,000 tries are always enough.
+        // If a codeword was drawn before, another is drawn in its place. 1,000 tries are far more than are needed.
         for _ in 0..1000 {
             if rank > bound {
                 break;

@@ -2,7 +2,7 @@
 //! a job, how many inputs the job takes, and the seed. With the name `all` it does each job with this number of inputs.
 //! It prints a line for each job, with a digest of all results of the job. `bench/run` measures how long the program
 //! takes. Where a result can never be too large for its type, `saturating_add` and `saturating_mul` stand for `+` and
-//! `*`, because the prover does not know that.
+//! `*`, because the prover does not know that the result fits.
 #![tactic(auto)]
 
 mod checking;

@@ -82,7 +82,7 @@ impl Text {
         self.put_of(random, &DIGITS, 3)
     }
 
-    /// A serial number, of 12 to 37 digits and capitals.
+    /// A serial number of 12 to 37 characters: capitals and digits, a hyphen, and digits.
     pub fn put_serial(&mut self, random: &mut Random) -> Result<(), AllocError> {
         let count = random.between(6, 20);
         self.put_of(random, &CAPITALS, count)?;
@@ -199,8 +199,8 @@ impl Text {
         Ok(())
     }
 
-    /// Runs of digits, of capitals and of small letters, until the text has at least `count` bytes. A segment of its
-    /// own saves few bits or none for such a run.
+    /// Runs of digits, of capitals and of small letters, until the text has at least `count` bytes. Each run is so
+    /// short that a segment of its own saves few bits or none.
     pub fn put_runs(&mut self, random: &mut Random, count: usize) -> Result<(), AllocError> {
         for _ in 0..count {
             if self.bytes.len() >= count {

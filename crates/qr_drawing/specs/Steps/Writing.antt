@@ -1,4 +1,4 @@
--- What happens to the writer while a part of a text is written. It is `old` before this and `new` after it.
+-- What happens to the writer while a part of a text is written. The writer is `old` before this, and `new` after it.
 use Rattle.std.specs.Prelude.{◌≡◌, ◌≤◌, ◌<◌, ◌+◌, ◌^◌, ◌++◌, ℕ, max, length, List, true}
 use Rattle.std.specs.Io.KnownBytes.{Appends}
 use Rattle.qr_devices.specs.Device.{AppendsBeginning, IsWrittenWithin, Writer, counted, is_write_fault}

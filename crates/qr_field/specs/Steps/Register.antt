@@ -6,13 +6,13 @@ use Prim.Native.Nat.{zero, suc}
 use Rattle.qr_field.specs.declared.register.Register.{Register}
 use Rattle.qr_field.specs.Polynomial.{scaled, generator_of, IsCorrection}
 
--- The coefficients of the list as one number. Each has eight bits, and the first coefficient has the lowest ones
+-- The coefficients of the list as one number. Each takes eight bits, and the first coefficient takes the lowest eight
 abbrev pub packed : List ℕ → ℕ
 packed [] = 0
 packed (b ∷ bs) = packed bs * 2 ^ 8 + b
 
--- The first n coefficients that the number v contains. Each has eight bits, and the first coefficient has the lowest
--- ones
+-- The first n coefficients that the number v contains. Each takes eight bits, and the first coefficient takes the
+-- lowest eight
 unfoldable pub unpacked : ℕ → ℕ → List ℕ
 unpacked zero v = []
 unpacked (suc n) v = v % 2 ^ 8 ∷ unpacked n (v / 2 ^ 8)
@@ -35,8 +35,8 @@ pub record HasMultiples (g : List ℕ) (shift bound : ℕ) (rows : List Register
   pub many : length rows ≡ 16
   pub each : (f : ℕ) → f < bound → value_of (slice_index_or rows f zero_register) ≡ packed (scaled (f * 2 ^ shift) g)
 
--- The number v contains the n error correction codewords of the data codewords d. Each has eight bits, and the first
--- codeword has the lowest ones
+-- The number v contains the n error correction codewords of the data codewords d. Each takes eight bits, and the first
+-- codeword takes the lowest eight
 pub record IsHeld (d : List ℕ) (n v : ℕ) : Type 0 where
   pub items : List ℕ
   pub correction : IsCorrection d n items

@@ -11,8 +11,8 @@ use Rattle.qr_layout.specs.Version.{side_of}
 use Rattle.qr_layout.specs.Order.{column_without_timing}
 use Rattle.qr_layout.specs.Strips.{strip_at}
 
--- How many modules of the cursor's row and strip the walk visits before the one at the cursor. It visits the right
--- module of the two first, so this is 0 at the right module, and 1 at the left one
+-- How many modules of the cursor's row and strip the walk visits before the one at the cursor. It visits the right one
+-- of the two modules first, so this is 0 at the right module, and 1 at the left one
 abbrev pub half_of : Bool → ℕ
 half_of at_left = if at_left then 1 else 0
 

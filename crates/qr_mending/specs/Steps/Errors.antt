@@ -29,8 +29,8 @@ pub record IsLocated (p e : List ℕ) : Type 0 where
   pub most : length e ≤ 255
   pub roots : (m : ℕ) → m < length e → (eval (power m) p ≡ 0 → ⊥) → coefficient m e ≡ 0
 
--- `e` lists the errors of `n` codewords, one for each. The polynomial `p` locates them. `s` lists the first of their
--- syndromes: item k is the value of the error polynomial at 2^k.
+-- `e` lists the errors of `n` codewords, one for each. The polynomial `p` locates them. `s` lists the first syndromes
+-- of these codewords: item k is the value of the error polynomial at 2^k.
 pub record AreErrors (n : ℕ) (p s e : List ℕ) : Type 0 where
   pub count : length e ≡ n
   pub located : IsLocated p e

@@ -24,7 +24,7 @@ abbrev pub list_of : ℕ → Marks → List ℕ
 list_of n interleaved.AllZero = zeros n
 list_of n (interleaved.Each marks) = marks.items
 
--- The given `MarksInBlocks` are the same marks of a symbol as the given `Marks`. `MarksInBlocks` lists the marks block
+-- The given `MarksInBlocks` has the same marks of a symbol as the given `Marks`. `MarksInBlocks` lists the marks block
 -- by block, and `Marks` lists them in the order of the final sequence. If one of the two has no list, since every
 -- module was read, the other has none either
 abbrev pub AreMarksInBlocks : Blocks → Marks → MarksInBlocks → Type 0

@@ -17,8 +17,8 @@ rooted [] p = p
 rooted (true ∷ erased) p = times_root (power (length erased)) 0 (rooted erased p)
 rooted (false ∷ erased) p = rooted erased p
 
--- The quotient of the polynomial `p` by x + `root`, without the remainder. It has one coefficient less than `p`, so a 0
--- is appended.
+-- The quotient of the polynomial `p` and x + `root`, without the remainder. The quotient has one coefficient less than
+-- `p`, so a 0 is appended.
 abbrev pub quotient : ℕ → List ℕ → List ℕ
 quotient root [] = []
 quotient root (a ∷ p) = eval root p ∷ quotient root p

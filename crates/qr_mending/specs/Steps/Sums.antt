@@ -16,8 +16,8 @@ abbrev pub eval : ℕ → List ℕ → ℕ
 eval x [] = 0
 eval x (a ∷ p) = bit_xor a (product x (eval x p))
 
--- The sum of the items of `p`, each multiplied by a value of the polynomial `e`: item k, counted from 0, by the value
--- at 2 to the power `i` + k.
+-- The sum of the items of `p`, each multiplied by a value of the polynomial `e`: item k, counted from 0, is multiplied
+-- by the value at 2 to the power `i` + k.
 abbrev pub blend : List ℕ → ℕ → List ℕ → ℕ
 blend [] i e = 0
 blend (a ∷ p) i e = bit_xor (product a (value_at i e)) (blend p (i + 1) e)
