@@ -4,14 +4,14 @@
  * compares this file with the exports of the library.
  *
  * A module is a byte in a buffer of the caller, in which the modules are row by row, from the top left. The buffer does not
- * contain the quiet zone, which is the four light modules that a drawing needs on each side; qrproved_draw adds a margin of
- * the width that it is passed. After a call the library keeps no state, no file and no lock. A call allocates memory by
+ * contain the quiet zone, which is the four light modules that a drawing needs on each side; qrproved_draw adds a margin,
+ * whose width the caller passes. After a call the library keeps no state, no file and no lock. A call allocates memory by
  * malloc and realloc, and frees all of it before it returns.
  *
  * At each call the caller has to meet these conditions:
  * - each pointer with a length beside it points to as many bytes as the length says, or for `ecis` to as many structs; each
  *   other pointer points to a struct or a number; a pointer with the length 0 is not used;
- * - no buffer overlaps another buffer or the struct;
+ * - no buffer overlaps another buffer, or the struct or number that the call writes;
  * - during the call nothing else writes to the buffers or the struct, and nothing else reads a buffer or a struct to which
  *   the call writes;
  * - malloc, realloc and free belong to one allocator, which returns memory that is aligned for every type that fits in it,
@@ -37,7 +37,7 @@ extern "C" {
 #define QRPROVED_SYMBOL_MAX 31329  /* bytes that suffice for the modules of any symbol: 177 times 177 */
 #define QRPROVED_COUNT_MAX 16      /* symbols in the longest series */
 #define QRPROVED_SERIES_MAX 501264 /* bytes that suffice for the modules of any series or drawing: 16 times 31,329 */
-#define QRPROVED_BYTES_MAX 7089    /* bytes that suffice for the content of any symbol: digits in version 40, level L */
+#define QRPROVED_BYTES_MAX 7089    /* bytes that suffice for the content of any symbol: so many digits fit version 40, level L */
 #define QRPROVED_ECIS_MAX 1970     /* structs that suffice for the ECI headers of any symbol: version 40, level L has 23,648
                                     * bits of data, and each header takes at least 12 of them */
 #define QRPROVED_MARGIN_MAX 100    /* the widest light margin on each side of a drawing, in modules */
@@ -61,8 +61,8 @@ extern "C" {
 #define QRPROVED_INTERPRETATION_GS1 1000001     /* the input is GS1 data, values with their application identifiers: the symbol
                                                  * has FNC1 in first position, and the byte 1D (hexadecimal) separates fields */
 
-/* The position of FNC1 in a symbol, which says what the content is. After FNC1 in either position the byte 1D (hexadecimal)
- * separates fields. */
+/* Whether a symbol has FNC1, and in which position. The position says what the content is. After FNC1 in either position the
+ * byte 1D (hexadecimal) separates fields. */
 #define QRPROVED_FNC1_NONE 0   /* the symbol has no FNC1 */
 #define QRPROVED_FNC1_FIRST 1  /* first position: the content is GS1 data, values with their application identifiers */
 #define QRPROVED_FNC1_SECOND 2 /* second position: the content follows the rules of the application that the application
@@ -75,8 +75,9 @@ extern "C" {
 #define QRPROVED_SVG 3    /* a whole SVG document, in which a module is one unit wide */
 
 /* The statuses, of which each call except qrproved_version returns one. The comment at each call has the exact causes of its
- * statuses, in the order in which the call checks them. On every status but 0 the caller's buffers and struct are unchanged.
- * Later versions may add statuses, and do not change the meaning of these. */
+ * statuses, in the order in which the call checks them. On every status but 0 the caller's buffers and struct are unchanged;
+ * but on ROOM qrproved_draw sets the number `written`. Later versions may add statuses, and do not change the meaning of
+ * these. */
 #define QRPROVED_DONE 0     /* the result is written */
 #define QRPROVED_EMPTY 1    /* the input has no byte */
 #define QRPROVED_TOO_LONG 2 /* the input fits no version from the smallest allowed version on */
@@ -134,7 +135,7 @@ struct qrproved_content {
 struct qrproved_mended {
 	size_t len;                   /* number of bytes of the content */
 	size_t eci_count;             /* number of all ECI headers of the symbol, even if some were not written */
-	uint32_t wrong_modules;       /* number of modules that are wrong or not known; if 0, the square is the symbol */
+	uint32_t wrong_modules;       /* number of modules that are wrong or not known; if 0, each module is right */
 	uint8_t version;              /* from 1 to 40 */
 	uint8_t has_header;           /* 1 for a symbol of a series; 0 for a plain symbol, and then the next three fields are 0 */
 	uint8_t position;             /* position of the symbol in its series, from 0 to 15 */
@@ -212,7 +213,7 @@ QRPROVED_HOLDS(offsetof(struct qrproved_drawn, side) == 3);
 #undef QRPROVED_HOLDS
 
 /* The caller has to use the result of a call, and may not pass NULL as the pointer to a struct or to a number. Compilers that
- * know these attributes warn of a call that does not. */
+ * know the attributes of QRPROVED_CALL warn of a call that breaks one of these rules. */
 #if defined(__GNUC__)
 #define QRPROVED_CALL(pointer) __attribute__((warn_unused_result, nonnull(pointer)))
 #else
@@ -226,21 +227,21 @@ uint32_t qrproved_version(void);
 /* Encodes the input as a symbol and writes its modules: modules[row * side + column] is 1 if the module in this row and
  * column is dark, and 0 if it is light. Bytes of the buffer after the last module are unchanged.
  *
- * version  the smallest allowed version, from 1 to 40; the symbol has the least allowed version that the input fits at this
- *          level
+ * version  the smallest allowed version, from 1 to 40; the symbol has the least allowed version that the input fits at the
+ *          level that is passed
  * level    QRPROVED_LEVEL_L to QRPROVED_LEVEL_H
  * rule     QRPROVED_RULE_AUTO to QRPROVED_RULE_WITH_KANJI
- * interpretation  the number of an ECI, QRPROVED_INTERPRETATION_DEFAULT or QRPROVED_INTERPRETATION_GS1. The symbol says it
- *          before its data. This takes 12 bits for an ECI below 128, 20 bits for one below 16,384, 28 bits for a greater one,
- *          and 4 bits for GS1 data. The bytes of the input are written as they are passed; the call does not check whether
- *          they are text in this ECI
+ * interpretation  the number of an ECI, QRPROVED_INTERPRETATION_DEFAULT or QRPROVED_INTERPRETATION_GS1. Before its data the
+ *          symbol says that they have this ECI, or nothing, or that they are GS1 data. This takes 12 bits for an ECI below
+ *          128, 20 bits for one from 128 to 16,383, 28 bits for one from 16,384 on, and 4 bits for GS1 data. The call does not
+ *          convert the bytes of the input, and does not check whether they are text in this ECI
  * boost    0: the symbol has the level that is passed; 1: the symbol has the version that it would have without boost, and the
  *          highest level, at least the one that is passed, at which the input fits this version
  * modules  the buffer for the modules; QRPROVED_SYMBOL_MAX bytes suffice for any symbol
  *
  * Readers take the pairs of bytes in kanji mode for Shift JIS. With another ECI than 20, which is Shift JIS, such pairs could
- * be bytes of other characters, so QRPROVED_RULE_WITH_KANJI is then refused. GS1 data has a byte 1D (hexadecimal) after each
- * field of variable length, if another field follows; no field is empty, and none begins with %.
+ * be bytes of other characters, so QRPROVED_RULE_WITH_KANJI is then refused. In GS1 data a byte 1D (hexadecimal) comes after
+ * each field that has no predefined length, if another field follows; no field is empty, and none begins with %.
  *
  * Returns the first of these statuses whose cause applies:
  *   SETTINGS  version, level, rule, interpretation or boost is out of its range; or rule is WITH_KANJI, and interpretation is
@@ -259,14 +260,15 @@ uint8_t qrproved_encode(const uint8_t *input, size_t input_len, uint32_t version
                         struct qrproved_symbol *symbol);
 
 /* Encodes the input as a series of symbols (structured append), all of one version, and writes their modules:
- * modules[(k * side + row) * side + column] is the module of symbol k, from 0, in this row and column. An input
- * that fits one symbol is encoded as one plain symbol. Bytes of the buffer after the last module are unchanged.
+ * modules[(k * side + row) * side + column] is the module of symbol k in this row and column, where the first symbol has the
+ * number 0. An input that fits one symbol is encoded as one plain symbol, which has no structured append header. Bytes of the
+ * buffer after the last module are unchanged.
  *
  * version  the version of all symbols, from 1 to 40
  * modules  the buffer for the modules; QRPROVED_SERIES_MAX bytes suffice for any series
  *
- * The other arguments are those of qrproved_encode. Each symbol of the series says the interpretation. The input may be cut
- * between any two bytes, even within a character.
+ * The other arguments are those of qrproved_encode. Each symbol of the series says what `interpretation` asks for. The input
+ * may be cut between any two bytes, even within a character.
  *
  * Returns the first of these statuses whose cause applies:
  *   SETTINGS  version, level, rule or interpretation is out of its range; or rule is WITH_KANJI, and interpretation is an ECI
@@ -283,23 +285,23 @@ QRPROVED_CALL(9)
 uint8_t qrproved_encode_series(const uint8_t *input, size_t input_len, uint32_t version, uint32_t level, uint32_t rule,
                                uint32_t interpretation, uint8_t *modules, size_t modules_len, struct qrproved_series *series);
 
-/* Reads a symbol. The first buffer contains its modules, in the order in which qrproved_encode writes them. Any byte but 0
- * is a dark module, and bytes after the last module are ignored. The call writes the content of the symbol to the start of
- * the second buffer, and its ECI headers, in their order, to the start of the third buffer. It leaves the rest of the two
- * buffers unchanged. It corrects no errors: each codeword has to be as it was drawn.
+/* Reads a symbol. The buffer `modules` contains its modules, in the order in which qrproved_encode writes them. Any byte but
+ * 0 is a dark module, and bytes after the last module are ignored. The call writes the content of the symbol to the start of
+ * the buffer `bytes`, and the ECI headers of the symbol, in their order, to the start of the buffer `ecis`. It leaves the rest
+ * of these two buffers unchanged. It corrects no errors: each codeword has to be as it was drawn.
  *
  * side   number of modules on a side: 21, 25, and so on to 177
  * bytes  the buffer for the content; QRPROVED_BYTES_MAX bytes suffice for any symbol
  * ecis   the buffer for the ECI headers; if the symbol has more than ecis_len headers, only the first ecis_len are written,
- *        and the call still succeeds. QRPROVED_ECIS_MAX structs suffice for any symbol, and hardly any has more than one header
+ *        and the call still succeeds. QRPROVED_ECIS_MAX structs suffice for any symbol; most symbols have no header or one
  *
- * The content is what the characters of the symbol stand for. After FNC1, in alphanumeric mode, % stands for the byte 1D
- * (hexadecimal) and %% for %; in the other modes % is itself.
+ * The content of a symbol is the list of bytes for which its characters stand. After FNC1, in alphanumeric mode, % stands for
+ * the byte 1D (hexadecimal) and %% for %; in the other modes % stands for itself.
  *
  * The call reads the codewords, and the first copy of the format information, which is beside the top left finder pattern. It
  * parses the data codewords up to the terminator. It ignores all other modules: finder, alignment and timing patterns,
  * separators, the dark module, the version information, the second copy of the format information and the remainder bits. So
- * DONE does not mean that a scanner finds the symbol. qrproved_mend looks at every module.
+ * DONE does not mean that a scanner finds the symbol. (qrproved_mend looks at every module.)
  *
  * Returns the first of these statuses whose cause applies:
  *   SIDE      no version has so many modules on a side
@@ -315,11 +317,12 @@ QRPROVED_CALL(8)
 uint8_t qrproved_read(const uint8_t *modules, size_t modules_len, uint32_t side, uint8_t *bytes, size_t bytes_len,
                       struct qrproved_eci *ecis, size_t ecis_len, struct qrproved_content *content);
 
-/* Reads a damaged symbol, mends its damage, and measures it. The first buffer contains the modules of the symbol, in
- * the order in which qrproved_encode writes them: 0 is a light module, 1 is a dark module, and 2 is a module that is not
- * known, as under a smudge or a fold, or out of the camera's view. Bytes after the last module are ignored. The call writes
- * the content of the symbol to the start of the second buffer and its ECI headers to the start of the third, as
- * qrproved_read does. If all modules are 0 or 1 and qrproved_read reads them, this call gives the same content.
+/* Reads a damaged symbol, mends the damage, and counts it. The buffer `modules` contains the modules of the symbol, in the
+ * order in which qrproved_encode writes them: 0 is a light module, 1 is a dark module, and 2 is a module that is not known,
+ * for example because it is under a smudge or a fold, or out of the camera's view. Bytes after the last module are ignored.
+ * The call writes the content of the symbol to the start of the buffer `bytes`, and its ECI headers to the start of the
+ * buffer `ecis`, as qrproved_read does. If all modules are 0 or 1 and qrproved_read reads them, this call gives the same
+ * content.
  *
  * side   number of modules on a side: 21, 25, and so on to 177
  * bytes  the buffer for the content; QRPROVED_BYTES_MAX bytes suffice for any symbol
@@ -327,32 +330,33 @@ uint8_t qrproved_read(const uint8_t *modules, size_t modules_len, uint32_t side,
  *
  * The format information is the level and the mask, and a symbol contains two copies of it, of 15 modules each. The cost of a
  * copy with a level and a mask is 1 for each module that is not known, and 2 for each other module that does not agree with
- * this level and mask. A level and a mask are tried if one copy has a cost of at most 6 with them, so at most two levels and
- * masks are tried. Of those with which every block can be mended, the call takes the level and mask for which the cost of both
- * copies together is less. If these costs are equal, it takes those of the first copy, which is beside the top left finder
- * pattern. So a symbol whose blocks can be mended is mended to exactly itself in two cases. In the first, both copies together
- * have a cost of at most 13 with its level and mask, as with any six wrong modules. In the second, one copy has a cost of at
- * most 6 with them, and no other level and mask that are tried can mend the blocks.
+ * this level and mask. A pair of a level and a mask is tried if at least one copy has a cost of at most 6 with it. Each copy
+ * has such a cost with at most one pair, so at most two pairs are tried. If with both pairs every block can be mended, the
+ * call takes the pair with which the costs of the two copies add up to less. If the two sums are equal, it takes the pair with
+ * which the first copy, the one beside the top left finder pattern, has a cost of at most 6. So a symbol whose blocks can be
+ * mended is mended to exactly itself in two cases. In the first case, both copies together have a cost of at most 13 with the
+ * symbol's own level and mask; six wrong modules of format information cost 12. In the second case, one copy has a cost of at
+ * most 6 with this level and mask, and with the other pair that is tried, if there is one, some block cannot be mended.
  *
  * In each block the call mends at most changed_allowed wrong codewords, which is the number that the standard allows. A
- * codeword with a module that is not known counts as half a wrong one: with e such codewords and w other wrong ones, a block
- * can be mended if e + 2w is at most twice changed_allowed. All modules outside the codewords and the format information may
- * be wrong, since they contain nothing of the content; they count in wrong_modules.
+ * codeword with a module that is not known counts as half a wrong codeword: a block with e such codewords and w other wrong
+ * codewords can be mended if e + 2w is at most twice changed_allowed. All modules outside the codewords and the format
+ * information may be wrong, since the content does not depend on them; wrong_modules counts those that are.
  *
  * If wrong_modules is 0, the square is, module by module, the symbol that the standard defines for its data codewords in its
  * version, level and mask. If all modules are known, changed_most divided by changed_allowed is the share of the error
  * correction that is spent, in the block with the most wrong codewords. docs/LIBRARY.md says how to check labels by these
  * counts, and what the counts do not say of a printed label.
  *
- * Damage beyond these bounds may change a symbol so much that it is within the bounds of another symbol. The call then
- * reads the other symbol, as any reader may.
+ * If the damage exceeds these bounds, the square may by chance be one that damage within the bounds makes of another symbol.
+ * The call then reads this other symbol, as any reader may.
  *
  * Returns the first of these statuses whose cause applies:
  *   SIDE      no version has so many modules on a side
  *   ROOM      modules_len is less than side times side
  *   SETTINGS  a byte among the first side times side bytes is more than 2
  *   FORMAT    each copy has a cost of more than 6 with every level and mask
- *   CHECK     with each level and mask that are tried, some block has more damage than can be mended
+ *   CHECK     with each pair of a level and a mask that is tried, some block has more damage than can be mended
  *   SEGMENTS  the mended data codewords cannot be parsed
  *   ROOM      bytes_len is less than the number of bytes that the symbol contains
  *   DONE      the call succeeded
@@ -362,10 +366,11 @@ QRPROVED_CALL(8)
 uint8_t qrproved_mend(const uint8_t *modules, size_t modules_len, uint32_t side, uint8_t *bytes, size_t bytes_len,
                       struct qrproved_eci *ecis, size_t ecis_len, struct qrproved_mended *mended);
 
-/* Draws squares of modules, all of one side, and writes the drawing, byte for byte as qrencode draws symbols: as text one
- * after the other, as SVG one below the other in one document. The first buffer contains the modules, in the order in which
- * qrproved_encode_series writes them. Any byte but 0 is a dark module, and bytes after the last module are ignored. A square
- * need not be a symbol. The call writes no byte 0 after the drawing, and leaves the rest of the buffer text unchanged.
+/* Draws squares of modules, which all have the same side, and writes the drawing, byte for byte as qrencode draws symbols. A
+ * text has the squares one after the other, and an SVG document has them one below the other. The buffer `modules` contains
+ * the modules, in the order in which qrproved_encode_series writes them. Any byte but 0 is a dark module, and bytes after the
+ * last module are ignored. A square need not be a symbol. The call writes no byte 0 after the drawing, and leaves the rest of
+ * the buffer `text` unchanged.
  *
  * side     number of modules on a side, from 1 to 177
  * count    number of squares, from 1 to QRPROVED_COUNT_MAX
@@ -380,28 +385,28 @@ uint8_t qrproved_mend(const uint8_t *modules, size_t modules_len, uint32_t side,
  *   ROOM      modules_len is less than count times side times side
  *   ROOM      text_len is less than the length of the drawing
  *   DONE      the call succeeded
- * If memory is refused, the call returns MEMORY in place of any status after the first ROOM. The drawing is made in memory of
- * the call, and copied to the buffer when it is complete.
+ * If memory is refused, the call returns MEMORY in place of any status after the first ROOM. The call makes the drawing in
+ * memory that it allocates, and copies it to the buffer `text` when it is complete.
  */
 QRPROVED_CALL(9)
 uint8_t qrproved_draw(const uint8_t *modules, size_t modules_len, uint32_t side, uint32_t count, uint32_t drawing,
                       uint32_t margin, uint8_t *text, size_t text_len, size_t *written);
 
 /* Parses a drawing, and writes the modules of its squares: modules[(k * side + row) * side + column] is the module of square
- * k, from 0, in this row and column, as qrproved_read, qrproved_mend and qrproved_draw take them. Bytes of the buffer after
- * the last module are unchanged.
+ * k in this row and column, where the first square has the number 0. In this order qrproved_read and qrproved_mend take the
+ * modules of one square, and qrproved_draw those of all squares. Bytes of the buffer after the last module are unchanged.
  *
- * A text is a drawing if it is, byte for byte, what qrproved_draw and qrencode write for 1 to 16 squares of one side from 8 to
- * 177. The margin may be from 0 to 255 modules, although qrproved_draw and qrencode refuse one above QRPROVED_MARGIN_MAX. Each
- * square has to begin as every symbol does: the module in row 0 and column 0 is dark, and the module in row 0 and column 7 is
- * light. A text is the drawing of one type, margin and list of squares only. The call does not say whether a square is a
- * symbol; qrproved_read and qrproved_mend do. If a text has line ends of two bytes or a byte order mark, or has lost spaces at
- * line ends, it is no drawing.
+ * A text is a drawing if it is, byte for byte, what qrproved_draw would write for 1 to 16 squares, all with the same side from
+ * 8 to 177. The margin may be from 0 to 255 modules, although qrproved_draw and qrencode refuse a margin above
+ * QRPROVED_MARGIN_MAX. Each square has to begin as every symbol does: the module in row 0 and column 0 is dark, and the module
+ * in row 0 and column 7 is light. No text is the drawing of two different lists of squares, or of two types or two margins.
+ * The call does not say whether a square is a symbol; qrproved_read and qrproved_mend do. If a text has line ends of two bytes
+ * or a byte order mark, or has lost spaces at line ends, it is no drawing.
  *
  * text     the drawing; no byte 0 follows it
  * modules  the buffer for the modules; QRPROVED_SERIES_MAX bytes suffice for any drawing
  *
- * Returns one of these statuses:
+ * Returns the first of these statuses whose cause applies:
  *   NO_DRAWING  the text is no drawing
  *   ROOM        modules_len is less than the number of modules of all squares
  *   DONE        the call succeeded
