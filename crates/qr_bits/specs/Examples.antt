@@ -1,5 +1,5 @@
--- Values that the standard prints, or that were worked out by hand. Laws whose names end in `compute` compare these
--- values with what the definitions yield.
+-- Examples that the standard prints, or that were worked out by hand. Laws whose names end in `compute` compare them
+-- with what the definitions yield.
 use Rattle.std.specs.Prelude.{ℕ, List, [], ◌∷◌, ◌++◌, codes}
 use Rattle.qr_bits.specs.declared.modes.Mode.{Mode}
 use Rattle.qr_bits.specs.declared.modes.Mode.TheVariants.{Numeric, Alphanumeric, Byte, Kanji}
@@ -106,8 +106,8 @@ unreadable =
     ∷ (0x96 ∷ 0x40 ∷ [], BadValue)
     ∷ (0x40 ∷ 0x15 ∷ 0x55 ∷ [], BadMode) ∷ []
 
--- Three fields of GS1 data, the modes of their bytes, and the segments that are written for them: the first field is
--- partly in numeric mode, the second in alphanumeric mode, and the third in byte mode [own]
+-- Three fields of GS1 data, the modes of their bytes, and the segments that are written for them: the first field is in
+-- numeric and in alphanumeric mode, the second in alphanumeric mode, and the third in byte mode [own]
 abbrev pub three_fields : List ℕ
 three_fields = codes "12A%B" ++ 0x1D ∷ codes "3C" ++ 0x1D ∷ codes "d%"
 

@@ -17,7 +17,7 @@ folded_around_pairs (x ∷ y ∷ xs) =
     if is_kanji_pair x y then x ∷ y ∷ folded_around_pairs xs else capital x ∷ folded_around_pairs (y ∷ xs)
 
 -- The bytes after folding. Under the rule `Auto` all small letters become capitals, and under `BytesOnly` none do.
--- Under `WithKanji` those outside kanji pairs do [own]
+-- Under `WithKanji` the small letters outside kanji pairs do [own]
 abbrev pub folded : Rule → List ℕ → List ℕ
 folded Auto xs = map capital xs
 folded BytesOnly xs = xs

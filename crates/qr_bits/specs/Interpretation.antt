@@ -1,6 +1,6 @@
--- How a symbol says what its bytes mean: by ECI headers and FNC1, which are items like the segments. A segment contains
--- characters, and these stand for the bytes. The characters are the bytes themselves, except in alphanumeric mode after
--- FNC1. `ms` are the modes of the bytes `xs`.
+-- How a symbol says what its bytes mean: by ECI headers and FNC1. Like the segments, these are items of the symbol. A
+-- segment contains characters, and these stand for the bytes. The characters are the bytes themselves, except in
+-- alphanumeric mode after FNC1. `ms` are the modes of the bytes `xs`.
 use Rattle.std.specs.Prelude.{ℕ, ◌+◌, ◌*◌, ◌/◌, ◌%◌, ◌<◌, Bool, true, false, ◌&&◌, ◌||◌, nat_lt, nat_le, if◌then◌else◌, List, [], ◌∷◌, ◌++◌, map, take, drop, length, ◌==◌, Option, Some, None, IsTrue}
 use Rattle.qr_bits.specs.declared.segmentation.Segment.{Segment}
 use Rattle.qr_bits.specs.declared.modes.Mode.{Mode}
@@ -26,13 +26,13 @@ fnc1_first_indicator = 5
 abbrev pub fnc1_second_indicator : ℕ
 fnc1_second_indicator = 9
 
--- The number `a` is an application indicator: it is below 100, and then stands for two digits, or it is the ASCII code
--- of a letter plus 100 (ISO/IEC 18004:2015, 7.4.8.3)
+-- The number `a` is an application indicator. It is below 100, and then stands for two digits, or it is 100 more than
+-- the ASCII code of a letter, and then stands for this letter (ISO/IEC 18004:2015, 7.4.8.3)
 abbrev pub is_application_indicator : ℕ → Bool
 is_application_indicator a = nat_lt a 100 || nat_le 165 a && nat_le a 190 || nat_le 197 a && nat_le a 222
 
 -- FNC1 may come directly after this item: the item is an ECI header, and FNC1 was allowed in the place of this header.
--- `may` says whether it was allowed there (ISO/IEC 18004:2015, 7.4.8.2)
+-- `may` says whether FNC1 was allowed there (ISO/IEC 18004:2015, 7.4.8.2)
 abbrev pub may_follow : Bool → Item → Bool
 may_follow may (Eci d) = may
 may_follow may _ = false
@@ -111,9 +111,9 @@ abbrev pub is_doubled : Interpretation → ℕ → Mode → Bool
 is_doubled written.Gs1 x Alphanumeric = x == percent
 is_doubled _ x m = false
 
--- The character that is written for the byte `x` in this mode. `is_doubled` says whether it is written once or twice.
--- The character is the byte itself, except that alphanumeric mode after FNC1 writes `%` for the separator (ISO/IEC
--- 18004:2015, 7.4.8.2)
+-- The character that is written for the byte `x` in this mode. `is_doubled` says whether this character is written once
+-- or twice. The character is the byte itself, except that alphanumeric mode after FNC1 writes `%` for the separator
+-- (ISO/IEC 18004:2015, 7.4.8.2)
 abbrev pub character_for : Interpretation → ℕ → Mode → ℕ
 character_for written.Gs1 x Alphanumeric = if x == separator then percent else x
 character_for _ x m = x
@@ -196,7 +196,7 @@ abbrev pub ecis_in : Interpretation → List EciChange
 ecis_in (written.Eci n) = record { number = n; begin = 0 } ∷ []
 ecis_in _ = []
 
--- FNC1 as it is read from a symbol with this interpretation: in first position for GS1 data, and otherwise none
+-- The FNC1 that is read from a symbol with this interpretation: FNC1 in first position for GS1 data, and otherwise none
 -- (ISO/IEC 18004:2015, 7.4.8.2)
 abbrev pub fnc1_in : Interpretation → Option Fnc1
 fnc1_in written.Gs1 = Some First

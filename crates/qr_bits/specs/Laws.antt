@@ -88,29 +88,30 @@ LeastSegmentationsFit =
     (i : Interpretation) (v : ℕ) (r : Rule) (xs ys : List ℕ) (segs : List Segment) → IsLeastSegmentation i v r xs ys segs →
     Covers ys segs × ((n : ℕ) → HasFit i v r xs n ↔ (bits v segs ≤ n))
 
--- If an input can be written with an interpretation, its segments of fewest bits are read as this input with this
--- interpretation (ISO/IEC 18004:2015, 7.4.2, 7.4.8.2)
+-- If an input can be written with an interpretation, what is written for it is read as this input and this
+-- interpretation. What is written is the ECI header or FNC1 of the interpretation, and then the segments of fewest bits
+-- with their characters (ISO/IEC 18004:2015, 7.4.2, 7.4.8.2)
 abbrev pub SegmentationsMeanTheirInput : Type 0
 SegmentationsMeanTheirInput =
     (i : Interpretation) (v : ℕ) (r : Rule) (xs ys : List ℕ) (segs : List Segment) (h : Option Header) → MayWrite i xs → IsLeastSegmentation i v r xs ys segs →
     (content_of h (items_in i segs) ys ≡ record { header = h; items = items_in i segs; ecis = ecis_in i; bytes = xs })
     × (fnc1_of (items_in i segs) ≡ fnc1_in i)
 
--- Under a rule without kanji mode, a piece of an input takes no more bits than the whole input, if both are written
--- with fewest bits [own]
+-- Under a rule without kanji mode, a piece of an input takes no more bits than the whole input, if each of them is
+-- written with as few bits as possible [own]
 abbrev pub PiecesNeedNoMore : Type 0
 PiecesNeedNoMore =
     (i : Interpretation) (v : ℕ) (r : Rule) (xs ys zs : List ℕ) (n : ℕ) → may_use r Kanji ≡ false →
     HasFit i v r (xs ++ (ys ++ zs)) n → HasFit i v r ys n
 
--- Bit `k` of the codewords, which `codeword_bit` computes, is the item with the index `k` in the list of all their
--- bits. Bits and items are counted from 0 (ISO/IEC 18004:2015, 7.7.3)
+-- Bit `k` of the codewords, which `codeword_bit` computes, is the bit with the index `k` in the list of all bits of the
+-- codewords, where `k` is counted from 0 (ISO/IEC 18004:2015, 7.7.3)
 abbrev pub BitsAreCodewordBits : Type 0
 BitsAreCodewordBits =
     (cw : List ℕ) (k : ℕ) → k < 8 * length cw → slice_index_or (bits_of cw) k false ≡ codeword_bit cw k
 
--- The characters that alphanumeric mode writes for fields after FNC1 are read as these fields (ISO/IEC 18004:2015,
--- 7.4.8.2)
+-- The characters that alphanumeric mode writes after FNC1 for fields of GS1 data are read as these fields (ISO/IEC
+-- 18004:2015, 7.4.8.2)
 abbrev pub FieldsAreRead : Type 0
 FieldsAreRead = (xs : List ℕ) → are_fields xs ≡ true → separated (escaped xs) ≡ xs
 

@@ -6,15 +6,15 @@ use Rattle.qr_bits.specs.declared.modes.Mode.TheVariants.{Numeric, Alphanumeric,
 use Rattle.qr_bits.specs.declared.modes.Rule.{Rule}
 use Rattle.qr_bits.specs.declared.modes.Rule.TheVariants.{Auto, BytesOnly, WithKanji}
 
--- The mode indicator, the first four bits of a segment (ISO/IEC 18004:2015, 7.4.1, Table 2)
+-- The mode indicator, which is the first four bits of a segment, as a number (ISO/IEC 18004:2015, 7.4.1, Table 2)
 abbrev pub indicator : Mode → ℕ
 indicator Numeric = 1
 indicator Alphanumeric = 2
 indicator Byte = 4
 indicator Kanji = 8
 
--- The four bits that come in the place of the next mode indicator if nothing follows (ISO/IEC 18004:2015, 7.4.1, Table
--- 2)
+-- The terminator: the four bits, as a number, that come in the place of the next mode indicator if nothing follows
+-- (ISO/IEC 18004:2015, 7.4.1, Table 2)
 abbrev pub terminator : ℕ
 terminator = 0
 
@@ -53,8 +53,8 @@ is_alphanumeric b = list_any (λ c. c == b) characters
 unfoldable pub character_value : ℕ → ℕ
 character_value b = position_or_len (λ c. c == b) characters
 
--- The pair, as a number of 16 bits, is from 8140 to 9FFC or from E040 to EBBF, and its second byte is from 40 to FC,
--- all hexadecimal (ISO/IEC 18004:2015, 7.3.6, 7.4.6; that 7F is accepted is own)
+-- The two bytes are a kanji pair: as a number of 16 bits they are from 8140 to 9FFC or from E040 to EBBF, and the
+-- second byte is from 40 to FC, all hexadecimal (ISO/IEC 18004:2015, 7.3.6, 7.4.6; that 7F is accepted is own)
 unfoldable pub is_kanji_pair : ℕ → ℕ → Bool
 is_kanji_pair high low =
     let pair = 256 * high + low in
@@ -82,10 +82,11 @@ suits Alphanumeric xs = list_all is_alphanumeric xs
 suits Byte xs = true
 suits Kanji xs = in_twos is_kanji_pair xs
 
--- How many bits the data of `n` bytes take: in numeric mode 10 for each three digits, then 7 for two digits at the end,
--- or 4 for one; in alphanumeric mode 11 for each two characters, then 6 for one at the end; in byte mode 8 for a byte;
--- in kanji mode 13 for a kanji pair. If `n` is odd in kanji mode, which no valid assignment has, the last byte counts
--- as a whole pair (ISO/IEC 18004:2015, 7.4.3 to 7.4.6)
+-- How many bits the data of `n` bytes take. Numeric mode takes 10 bits for each group of three digits, and 7 bits for
+-- two digits or 4 bits for one digit at the end. Alphanumeric mode takes 11 bits for each two characters, and 6 bits
+-- for a single one at the end. Byte mode takes 8 bits for a byte, and kanji mode 13 bits for a kanji pair. If `n` is
+-- odd in kanji mode, which no valid assignment has, the last byte counts as a whole pair (ISO/IEC 18004:2015, 7.4.3 to
+-- 7.4.6)
 abbrev pub payload_bits : Mode → ℕ → ℕ
 payload_bits Numeric n = 10 * (n / 3) + (if n % 3 == 0 then 0 else (if n % 3 == 1 then 4 else 7))
 payload_bits Alphanumeric n = 11 * (n / 2) + 6 * (n % 2)

@@ -20,11 +20,12 @@ room_of v l i = capacity_of v l - 20 - interpretation_bits i
 abbrev pub terminated : ℕ → List Bool → List Bool
 terminated capacity stream = stream ++ replicate (min 4 (capacity - length stream)) false
 
--- The stream, followed by as many zero bits as its last codeword lacks (ISO/IEC 18004:2015, 7.4.10)
+-- The stream, followed by as many zero bits as its last codeword needs to have 8 bits (ISO/IEC 18004:2015, 7.4.10)
 abbrev pub filled : List Bool → List Bool
 filled stream = stream ++ replicate ((8 - length stream % 8) % 8) false
 
--- A list of pad codewords of the given length. They are EC and 11 (hexadecimal) in turn (ISO/IEC 18004:2015, 7.4.10)
+-- A list of pad codewords. The argument says how many there are. They are EC and 11 (hexadecimal) in turn (ISO/IEC
+-- 18004:2015, 7.4.10)
 unfoldable pub pads : ℕ → List ℕ
 pads zero = []
 pads (suc zero) = 0xEC ∷ []

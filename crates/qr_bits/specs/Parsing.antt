@@ -1,6 +1,7 @@
--- How the bits of data codewords are read. The result is a header, if there is one, items and the characters of their
--- segments, or it is a fault. `bits` are the bits that have not been read yet. Some definitions
--- return a tuple that ends with a list of bits. This list has the bits that are still to be read.
+-- How the bits of data codewords are read: first the header, if there is one, and then the items, with the characters
+-- of the segments among them. If they cannot be read, the result is a fault. `bits` are the bits that have not been
+-- read yet. If a definition yields a tuple that ends with a list of bits, this list has the bits that are still to be
+-- read.
 use Rattle.std.specs.Prelude.{◌≡◌, ◌⊎◌, ℕ, zero, suc, ◌+◌, ◌-◌, ◌*◌, ◌/◌, ◌%◌, Bool, ◌&&◌, ◌||◌, ◌==◌, nat_lt, nat_le, true, false, if◌then◌else◌, List, [], ◌∷◌, ◌++◌, length, take, drop, Result, Ok, Err, Option, Some, None}
 use Rattle.std.specs.List.{slice_index_or}
 use Rattle.qr_bits.specs.declared.modes.Mode.{Mode}
@@ -19,7 +20,7 @@ use Rattle.qr_bits.specs.Modes.{characters, count_width, indicator, byte_count, 
 use Rattle.qr_bits.specs.Header.{header_indicator}
 
 infixl 10 ◌>>=◌
--- Applies `f` to the first result if this is a value. If it is a fault, the result is this fault [own]
+-- Applies `f` to the value of the first result. If the first result is a fault, the result is this fault [own]
 abbrev pub ◌>>=◌ : {A B : Type 0} → Result A ParseFault → (A → Result B ParseFault) → Result B ParseFault
 (Ok x) >>= f = f x
 (Err e) >>= f = Err e
@@ -33,8 +34,9 @@ IsResultOf r read = (r ≡ Err Memory) ⊎ (read ≡ r)
 abbrev pub digit : ℕ → ℕ
 digit n = 48 + n % 10
 
--- The `n` digits that the bits begin with: each three are read from 10 bits, then two at the end from 7 bits, or one
--- from 4. If a number is too large for its digits, the fault is `BadValue` (ISO/IEC 18004:2015, 7.4.3)
+-- The `n` digits that the bits begin with. Each group of three digits is read from 10 bits. Two digits that are left at
+-- the end are read from 7 bits, and a single one from 4. If a number is too large for its digits, the fault is
+-- `BadValue` (ISO/IEC 18004:2015, 7.4.3)
 unfoldable pub digits_of : ℕ → List Bool → Result (List ℕ) ParseFault
 digits_of zero bits = Ok []
 digits_of (suc zero) bits =
@@ -51,9 +53,9 @@ digits_of (suc (suc (suc n))) bits =
 unfoldable pub character : ℕ → ℕ
 character n = slice_index_or characters n 0
 
--- The `n` characters of alphanumeric mode that the bits begin with: each two are read from 11 bits, then one at the end
--- from 6. If the number for two characters is 2025 or more, or that for one is 45 or more, the fault is `BadValue`
--- (ISO/IEC 18004:2015, 7.4.4)
+-- The `n` characters of alphanumeric mode that the bits begin with. Each pair of characters is read from 11 bits, and a
+-- single one at the end from 6. If the number for a pair is 2025 or more, or that for a single one is 45 or more, the
+-- fault is `BadValue` (ISO/IEC 18004:2015, 7.4.4)
 unfoldable pub characters_of : ℕ → List Bool → Result (List ℕ) ParseFault
 characters_of zero bits = Ok []
 characters_of (suc zero) bits =
@@ -68,7 +70,7 @@ unfoldable pub bytes_of : ℕ → List Bool → List ℕ
 bytes_of zero bits = []
 bytes_of (suc n) bits = value (take 8 bits) ∷ bytes_of n (drop 8 bits)
 
--- The kanji pair, as a number of 16 bits, whose value in kanji mode is `n`. First the value is divided by C0: the
+-- The kanji pair that has the value `n` in kanji mode, as a number of 16 bits. First the value is divided by C0: the
 -- quotient becomes the high byte of a number, and the remainder the low byte. Then 8140 is added if the high byte is at
 -- most 1E, and otherwise C140. All these numbers are hexadecimal (ISO/IEC 18004:2015, 7.4.6)
 unfoldable pub kanji_pair : ℕ → ℕ
@@ -138,8 +140,8 @@ designator_at bits =
     let number = 65536 * (a.0 - 192) + b.0 in
     if nat_lt number 1000000 then Ok (record { number = number; codewords = 3 }, b.1) else Err BadValue)))
 
--- The application indicator that is read from the next 8 bits, or the fault `BadValue` if they are no such indicator
--- (ISO/IEC 18004:2015, 7.4.8.3)
+-- The application indicator that is read from the next 8 bits, or the fault `BadValue` if these bits are no such
+-- indicator (ISO/IEC 18004:2015, 7.4.8.3)
 unfoldable pub application_at : List Bool → Result (ℕ × List Bool) ParseFault
 application_at bits = leading_number 8 bits >>= λ a. if is_application_indicator a.0 then Ok a else Err BadValue
 
@@ -154,14 +156,15 @@ item_at v may bits =
     (segment_at v bits >>= λ s. Ok (Data s.0, s.1, s.2))))
 
 -- The items up to the end, but not more than `n`, with the characters of their segments. `may` says whether FNC1 may
--- come first. `n` is there to make the recursion end [own]
+-- come first. `n` only makes the recursion end [own]
 unfoldable pub items_at : ℕ → ℕ → Bool → List Bool → Result (List Item × List ℕ) ParseFault
 items_at zero v may bits = Ok ([], [])
 items_at (suc n) v may bits =
     if ends bits then Ok ([], []) else (item_at v may bits >>= λ i. items_at n v (may_follow may i.0) i.2 >>= λ r. Ok (i.0 ∷ r.0, i.1 ++ r.1))
 
--- All items up to the end, with the characters of their segments. `may` says whether FNC1 may come first. There are no
--- more items than bits, since each item takes at least four bits (ISO/IEC 18004:2015, 7.4.1, 7.4.9)
+-- All items up to the end, with the characters of their segments. `may` says whether FNC1 may come first. The limit
+-- that is passed to `items_at` is the number of bits: there are never more items than bits, because each item takes at
+-- least four bits (ISO/IEC 18004:2015, 7.4.1, 7.4.9)
 unfoldable pub items_of : ℕ → Bool → List Bool → Result (List Item × List ℕ) ParseFault
 items_of v may bits = items_at (length bits) v may bits
 

@@ -24,7 +24,7 @@ abbrev pub bits : ℕ → List Segment → ℕ
 bits v [] = 0
 bits v (s ∷ ss) = segment_bits v s + bits v ss
 
--- The segments contain exactly the bytes `xs`, each mode suits its bytes, and no segment is empty [own]
+-- The segments contain exactly the bytes `xs`, the mode of each segment suits its bytes, and no segment is empty [own]
 unfoldable pub Covers : List ℕ → List Segment → Type 0
 Covers xs segs = All (λ s. 0 < s.len) segs × Suits xs segs
 
@@ -35,8 +35,8 @@ rank Alphanumeric = 1
 rank Byte = 2
 rank Kanji = 3
 
--- The segments when one byte of mode `m` is put before them: it joins the first segment if this has mode `m`, and
--- otherwise begins a new one [own]
+-- The segments when one byte of mode `m` is put before them. The byte joins the first segment if this segment has mode
+-- `m`, and otherwise is a new segment [own]
 abbrev pub prepend_mode : Mode → List Segment → List Segment
 prepend_mode m [] = record { mode = m; len = 1 } ∷ []
 prepend_mode m (s ∷ ss) = if rank m == rank s.mode then record { mode = m; len = 1 + s.len } ∷ ss else record { mode = m; len = 1 } ∷ s ∷ ss
@@ -80,8 +80,8 @@ HasFit i v r xs n = (ms : List Mode) × IsAssignment i r xs ms × (bits v (runs_
 abbrev pub least_sixths : ℕ → ℕ
 least_sixths b = if is_digit b then 20 else (if nat_le b 90 then 33 else 39)
 
--- A number of bits that an input takes at least, however it is cut into segments. If a version has room for fewer bits,
--- it need not be tried (ISO/IEC 18004:2015, 7.4.3 to 7.4.6)
+-- A lower bound on the bits that an input takes, however it is cut into segments. A version that has room for fewer
+-- bits need not be tried (ISO/IEC 18004:2015, 7.4.3 to 7.4.6)
 unfoldable pub least_bits : List ℕ → ℕ
 least_bits xs = sum_by least_sixths xs / 6
 

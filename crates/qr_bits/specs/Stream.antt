@@ -1,6 +1,6 @@
--- How bits are written: the bit stream of segments, and of all items. The file `Parsing` says how bits are read, and
--- uses nothing of this file. So writing and reading are defined separately, and laws say that they agree. `v` is the
--- version, and `xs` are the bytes that are still to be written.
+-- How bits are written: the bit stream of segments, and the bits of all items. The file `Parsing` says how bits are
+-- read, and uses nothing of this file. So writing and reading are defined separately, and laws say that they agree. `v`
+-- is the version, and `xs` are the bytes that are still to be written.
 use Rattle.std.specs.Prelude.{◌≡◌, ◌⊎◌, ℕ, ◌+◌, ◌*◌, ◌/◌, ◌%◌, ◌<◌, ◌≤◌, Bool, true, false, ◌==◌, if◌then◌else◌, List, [], ◌∷◌, length, take, drop, IsTrue, ◌-◌, ◌^◌, ◌++◌, All, Option}
 use Rattle.qr_bits.specs.declared.modes.Mode.{Mode}
 use Rattle.qr_bits.specs.declared.modes.Mode.TheVariants.{Numeric, Alphanumeric, Byte, Kanji}
@@ -15,16 +15,16 @@ use Rattle.qr_bits.specs.declared.interpretation.Item.{Item}
 use Rattle.qr_bits.specs.declared.interpretation.Item.TheVariants.{Data, Eci, Fnc1First, Fnc1Second}
 use Rattle.qr_bits.specs.Interpretation.{eci_indicator, fnc1_first_indicator, fnc1_second_indicator, interpretation_stream, InterpretationFits, is_application_indicator}
 
--- The bits of digits in numeric mode: 10 for each three digits, then 7 for two digits at the end, or 4 for one (ISO/IEC
--- 18004:2015, 7.4.3)
+-- The bits of digits in numeric mode: 10 bits for each group of three digits, and 7 bits for two digits or 4 bits for
+-- one digit at the end (ISO/IEC 18004:2015, 7.4.3)
 unfoldable pub digit_bits : List ℕ → List Bool
 digit_bits [] = []
 digit_bits (a ∷ []) = field 4 (a - 48)
 digit_bits (a ∷ b ∷ []) = field 7 (10 * (a - 48) + (b - 48))
 digit_bits (a ∷ b ∷ c ∷ xs) = field 10 (100 * (a - 48) + 10 * (b - 48) + (c - 48)) ++ digit_bits xs
 
--- The bits of characters in alphanumeric mode: 11 for each two characters, then 6 for one at the end (ISO/IEC
--- 18004:2015, 7.4.4)
+-- The bits of characters in alphanumeric mode: 11 bits for each two characters, and 6 bits for a single one at the end
+-- (ISO/IEC 18004:2015, 7.4.4)
 unfoldable pub character_bits : List ℕ → List Bool
 character_bits [] = []
 character_bits (a ∷ []) = field 6 (character_value a)
@@ -53,7 +53,8 @@ unfoldable pub segments_stream : ℕ → List ℕ → List Segment → List Bool
 segments_stream v xs [] = []
 segments_stream v xs (s ∷ ss) = segment_stream v s.mode (take s.len xs) ++ segments_stream v (drop s.len xs) ss
 
--- The segments contain exactly the bytes `xs`, and each mode suits its bytes. A segment may be empty [own]
+-- The segments contain exactly the bytes `xs`, and the mode of each segment suits its bytes. A segment may be empty
+-- [own]
 unfoldable pub Suits : List ℕ → List Segment → Type 0
 Suits xs [] = xs ≡ []
 Suits xs (s ∷ ss) = (s.len ≤ length xs) × IsTrue (suits s.mode (take s.len xs)) × Suits (drop s.len xs) ss
@@ -94,10 +95,10 @@ items_stream v xs (Eci d ∷ is) = field 4 eci_indicator ++ (designator_of d.cod
 items_stream v xs (Fnc1First ∷ is) = field 4 fnc1_first_indicator ++ items_stream v xs is
 items_stream v xs (Fnc1Second a ∷ is) = field 4 fnc1_second_indicator ++ (field 8 a ++ items_stream v xs is)
 
--- The items can be written for the bytes `xs`. The segments among them contain exactly these bytes, each mode suits its
--- bytes, and each number of characters fits its character count indicator. Each designator is long enough for its ECI.
--- Before FNC1 there are only ECI headers, and `may` says whether FNC1 is allowed among these items (ISO/IEC 18004:2015,
--- 7.4.8.2)
+-- The items can be written for the bytes `xs`. The segments among the items contain exactly these bytes. The mode of
+-- each segment suits its bytes, and its number of characters fits its character count indicator. Each designator is
+-- long enough for its ECI. Before FNC1 there are only ECI headers, and `may` says whether FNC1 is allowed among these
+-- items (ISO/IEC 18004:2015, 7.4.8.2)
 unfoldable pub AreItems : ℕ → Bool → List ℕ → List Item → Type 0
 AreItems v may xs [] = xs ≡ []
 AreItems v may xs (Data s ∷ is) =

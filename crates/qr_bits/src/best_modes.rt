@@ -1,18 +1,19 @@
 //! The best mode of each byte, by dynamic programming: a table is filled from the last byte to the first. In a given
 //! version, the number of bits that a byte and all later bytes add depends only on their modes and on the state before
-//! the first of them (`RunState`). So the table has a row for each byte, with the best mode of the byte for each state
-//! before it. A mode is judged by the sum of two numbers: the bits that the byte adds in this mode, and the fewest bits
-//! that the later bytes can then add. The best mode has the least sum.
+//! the first of them (`RunState`). (In GS1 data it also depends on which bytes are `%`.) So the table has a row for
+//! each byte, with the best mode of the byte for each state before it. A mode is judged by the sum of two numbers: the
+//! bits that the byte adds in this mode, and the fewest bits that the later bytes can then add. The best mode has the
+//! least sum.
 //!
 //! A row is a number with two bits for each state: the rank of the best mode for this state. The row of a byte of GS1
 //! data also has a flag if alphanumeric mode writes this byte as other characters. The code compares modes by their
 //! choices. A choice is a number: 4 times the sum by which a mode is judged, plus the rank of the mode
 //! (`run_state.rt`).
 //!
-//! In all functions `kanji` says that the rule allows kanji mode, `pair` that the byte may begin a kanji pair, and
-//! `gs1` that the bytes are GS1 data. The functions are inlined in the loops that call them. Where `kanji` is the
-//! constant `false`, the compiler leaves out the tests for pairs, and where `gs1` is the constant `false`, those for
-//! `%` and for the byte that separates fields.
+//! In all functions the argument `kanji` says whether the rule allows kanji mode, `pair` whether the byte may begin a
+//! kanji pair, and `gs1` whether the bytes are GS1 data. The functions with these arguments are inlined in their
+//! callers. Where `kanji` is the constant `false`, the compiler leaves out the tests for pairs, and where `gs1` is the
+//! constant `false`, those for `%` and for the byte that separates fields.
 
 ghost use Rattle.std.specs.Prelude.{◌≡◌, ◌&&◌, ◌+◌, ◌*◌, ◌/◌, ◌%◌, ◌<◌, ◌≤◌, ℕ, Bool, true, false, length, reverse, IfOk, vec_len};
 ghost use Rattle.qr_bits.specs.declared.modes.Mode.{Mode};
@@ -88,8 +89,8 @@ fn next_if(may: bool, bits: u32, mode: Mode, rest: u32) -> u32
     choice_if(may, number(bits, mode), rest)
 }
 
-// The row with the ranks of the modes of these choices, two bits for each state. The state `Start` has the lowest two
-// bits.
+// The row for these choices. For each state it has two bits, which are the rank of the mode that is chosen for this
+// state. The state `Start` has the lowest two bits.
 #[tactic(auto, using(crate::proofs::lemmas::best_modes::TableLemmas::packed_mode))]
 #[inline(always)]
 fn row_for(numbers: &PerState) -> u32
@@ -106,16 +107,16 @@ fn row_for(numbers: &PerState) -> u32
 // The choices of alphanumeric mode for a byte.
 #[derive(Clone, Copy)]
 struct CharacterChoices {
-    // If the byte begins a segment.
+    // The choice if the byte begins a segment.
     first: u32,
-    // If the state before it is `Character1`.
+    // The choice if the state before the byte is `Character1`.
     second: u32,
-    // If the state before it is `Character2`.
+    // The choice if the state before the byte is `Character2`.
     next: u32,
 }
 
-// The choices of alphanumeric mode for a byte. `may` says that the byte may be written in this mode, and `doubled` that
-// it is then written as two characters.
+// The choices of alphanumeric mode for a byte. `may` says whether the byte may be written in this mode, and `doubled`
+// whether it is then written as two characters.
 #[tactic(auto, unfolding(crate::specs::Steps::RunState::byte_cost, crate::specs::Steps::RunState::state_after))]
 #[inline(always)]
 fn character_choices(
@@ -131,8 +132,8 @@ fn character_choices(
         → AreCharacterChoices i first_choices.now.version r x pair rest.now result }
 {
     if doubled {
-        // One of the two characters adds 6 bits and the other one 5. `first_choices.alphanumeric` has the 6 bits
-        // already, so only 5 bits are added. In a choice, bits count four times.
+        // One of the two characters adds 6 bits, and the other one 5 bits. `first_choices.alphanumeric` already has the
+        // 6 bits, so only 5 bits are added here. A choice is 4 times its bits plus a rank, so 4 times 5 is added.
         let first = first_choices.alphanumeric + 4 * 5;
         CharacterChoices {
             first: choice_if(may, first, rest.character2),
@@ -148,8 +149,9 @@ fn character_choices(
     }
 }
 
-// The row of a byte, and for each state before the byte the best choice. `digit` says that the byte may be written in
-// numeric mode. `characters` are its choices of alphanumeric mode, and `rest` has the best choices for the next byte.
+// The row of a byte, and for each state before the byte the best choice. `digit` says whether the byte may be written
+// in numeric mode. `characters` has the choices of alphanumeric mode for the byte, and `rest` has the best choices for
+// the next byte.
 #[inline(always)]
 fn choices(
     first_choices: &FirstChoices,
@@ -171,10 +173,10 @@ fn choices(
     let no_digits = characters.first.min(others);
     let no_characters = digits.min(others);
     let start = digits.min(no_digits);
-    // `start` is the best of all choices that begin a segment. One of these choices is needless after a whole group
-    // (`Digit3`, `Character2`, `InBytes`, `WholePair`): that of the mode of the last segment. Continuing the last
-    // segment takes fewer bits, and leads to the same state. So this choice is never the best, and `start` need not
-    // leave it out.
+    // `start` is the best of all choices that begin a segment. After a whole group (`Digit3`, `Character2`, `InBytes`,
+    // `WholePair`) one of these choices is needless: to begin another segment in the mode of the last one. Continuing
+    // the last segment takes fewer bits, and leads to the same state. So the needless choice is never the best, and
+    // `start` need not leave it out.
     let digit2 = next_if(digit, 3, Mode::Numeric, rest.digit2);
     let digit3 = next_if(digit, 3, Mode::Numeric, rest.digit3);
     let digit1 = next_if(digit, 4, Mode::Numeric, rest.digit1);
@@ -205,8 +207,8 @@ fn is_doubled(gs1: bool, byte: u8) -> bool
     gs1 && byte == b'%'
 }
 
-// Whether the rule allows alphanumeric mode, and this mode can write the byte. In GS1 data it writes `%` for the
-// separator of fields (ISO/IEC 18004:2015, 7.4.8.2). The separator is tested last, because it is rare.
+// Whether the rule allows alphanumeric mode, and this mode can write the byte. In GS1 data this mode also writes the
+// separator of fields, as `%` (ISO/IEC 18004:2015, 7.4.8.2). The separator is tested last, because it is rare.
 #[inline(always)]
 fn may_be_character(gs1: bool, rule: Rule, byte: u8) -> bool
     ensures { (i : Interpretation) (pair : Bool) → gs1 ≡ is_gs1 i
@@ -253,9 +255,9 @@ pub(crate) fn row_of(
     ensures row { (i : Interpretation) → gs1 ≡ is_gs1 i
         → IsRow i first_choices.now.version rule byte pair rest.now result.0 result.1 }
 {
-    // `choices` is inlined into each of these calls. Where an argument is a constant, the compiler leaves out the cases
-    // that the constant excludes. A byte that may be written in numeric mode may be written in alphanumeric mode too,
-    // so the first case passes `true` for both.
+    // The function `choices` is inlined at each of the calls below. Where an argument is a constant, the compiler
+    // leaves out the cases that the constant excludes. A byte that may be written in numeric mode may be written in
+    // alphanumeric mode too, so the first case passes `true` for both.
     let digit = may_begin(rule, byte, Mode::Numeric);
     if digit && !pair {
         let characters = character_choices(first_choices, true, false, rest);
@@ -300,9 +302,9 @@ fn pair_at(kanji: bool, rule: Rule, bytes: &[u8]) -> bool
     kanji && begins_with_pair(rule, bytes)
 }
 
-// Returns the table: a row for each byte of `input`. The row of the last byte comes first, so `pop` takes the rows in
-// the order of the bytes. The rule has to allow more than byte mode. This function is not inlined, so that its loop has
-// all registers to itself.
+// Returns the table: a row for each byte of `input`. The row of the last byte comes first, so `pop` takes the rows from
+// that of the first byte on. The rule has to allow more than byte mode. This function is not inlined, so that its loop
+// has all registers to itself.
 #[inline(never)]
 pub(crate) fn best_modes(
     alloc: Global,

@@ -11,11 +11,11 @@ use crate::modes::{STRUCTURED_APPEND, TERMINATOR};
 use std::alloc::{AllocError, Global};
 use std::marker::Model;
 
-// Collects bits into codewords. In contracts its value is the list of the bits written so far.
+// Collects bits into codewords. In contracts the value of a writer is the list of the bits that were written so far.
 #[derive(Drop)]
 pub(crate) struct BitWriter {
     whole: Vec<u8>,
-    // The bits after the last whole codeword, `width` of them, as a number.
+    // The `width` bits after the last whole codeword, as a number.
     rest: u8,
     width: u8,
 }
@@ -86,8 +86,8 @@ impl BitWriter {
 }
 
 // Takes the lowest `width` bits of `bits`, the most significant first, and appends them to `whole` as far as they make
-// whole bytes. Returns the number of bits that are left. At most 23 bits are taken: 7 that were left before, and 16 new
-// ones.
+// whole bytes. Returns the number of bits that are left, which are the lowest bits of `bits`. At most 23 bits are
+// taken: 7 that were left before, and 16 new ones.
 #[tactic(auto, using(crate::proofs::Named::writing_bits))]
 fn push_whole(whole: &mut Vec<u8>, bits: u32, width: u8) -> Result<u8, AllocError>
     requires { width ≤ 23 }
@@ -102,8 +102,8 @@ fn push_whole(whole: &mut Vec<u8>, bits: u32, width: u8) -> Result<u8, AllocErro
     Ok(left)
 }
 
-// Appends the `width` bits of `rest`, and then those of `bytes`, as far as they make whole bytes. Returns the bits that
-// are left, as a number. There are again `width` bits left, because each byte adds eight.
+// Appends the `width` bits of `rest` and then the bits of `bytes` to `whole`, as far as they make whole bytes. Returns
+// the bits that are left, as a number. There are `width` bits left again, because each byte of `bytes` adds eight bits.
 #[tactic(auto, unfolding(crate::specs::Bits::bits_of))]
 fn push_bytes(whole: &mut Vec<u8>, width: u8, mut rest: u8, bytes: &[u8]) -> Result<u8, AllocError>
     requires few { width < 8 }
@@ -165,8 +165,8 @@ fn push_bytes_at(out: &mut Vec<u8>, bytes: &[u8], at: usize, count: usize) -> Re
     Ok(())
 }
 
-// Reads bits from codewords. No symbol has more than 3,706 codewords. In contracts the value of a reader is the list of
-// the bits that are not read yet.
+// Reads bits from codewords. These are at most 3,706, as many as the largest symbol has. In contracts the value of a
+// reader is the list of the bits that are not read yet.
 #[derive(Drop)]
 pub(crate) struct BitReader<'a> {
     bytes: &'a [u8],

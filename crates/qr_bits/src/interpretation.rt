@@ -105,8 +105,8 @@ fn may_precede(first: u8, second: u8) -> bool
 pub struct Designator {
     /// From 0 to 999,999.
     pub number: u32,
-    /// In how many codewords the number is written: 1, 2 or 3. A symbol that is read may use more codewords than this
-    /// number needs.
+    /// In how many codewords the ECI's number is written: 1, 2 or 3. In a symbol that is read, the number may be
+    /// written in more codewords than it needs.
     pub codewords: u8,
 }
 
@@ -145,8 +145,8 @@ pub struct EciChange {
 // The byte that separates fields (ISO/IEC 18004:2015, 7.4.8.2).
 pub(crate) const SEPARATOR: u8 = 0x1D;
 
-// Whether each mode writes this byte of GS1 data as itself: it is neither `%` nor the separator (ISO/IEC 18004:2015,
-// 7.4.8.2).
+// Whether every mode writes this byte of GS1 data as itself, because it is neither `%` nor the separator (ISO/IEC
+// 18004:2015, 7.4.8.2).
 #[inline(always)]
 pub(crate) fn is_itself(byte: u8) -> bool
     ensures { result ≡ is_itself byte }
@@ -192,8 +192,8 @@ fn append_meant(
     }
 }
 
-// Cuts the characters in two. The first part has `len` characters, or all if there are not so many, and the second has
-// the others.
+// Cuts the characters in two. The first part has `len` characters, or all characters if there are fewer, and the second
+// part has the others.
 fn cut(characters: &[u8], len: usize) -> (&[u8], &[u8])
     ensures front { result.0.now ≡ take len characters.now }
     ensures back { result.1.now ≡ drop len characters.now }
@@ -201,8 +201,8 @@ fn cut(characters: &[u8], len: usize) -> (&[u8], &[u8])
     characters.split_at(len.min(characters.len()))
 }
 
-// Whether all items are segments, and these take all the characters. If so, the bytes that the items stand for are the
-// characters themselves.
+// Whether all items are segments, and the segments take all the characters. If so, the bytes that the items stand for
+// are the characters themselves.
 fn is_plain(items: &[Item], characters: &[u8]) -> bool
     ensures bytes { result ≡ true → meant_bytes false items.now characters.now ≡ characters.now }
     ensures ecis { result ≡ true → eci_changes false 0 items.now characters.now ≡ [] }
@@ -225,11 +225,10 @@ pub(crate) struct Meaning {
 }
 
 // Appends what the item stands for to `meaning`. A segment takes its characters from the beginning of `characters`.
-// `fnc1` says whether FNC1 is among the earlier items. Returns whether FNC1 is among these and `item`, and the
-// characters that are left. Each clause of the contract says
-// that two lists are equal, whatever later items there are (`is`). One is what `meaning` has before the call, followed
-// by what `item` and the later items stand for. The other is what it has afterwards, followed by what the later items
-// alone stand for.
+// `fnc1` says whether FNC1 is among the earlier items. Returns whether `item` or an earlier item is FNC1, and the
+// characters that are left. Each clause of the contract says that two lists are equal, whatever items (`is`) come
+// later. The first list has what `meaning` has before the call, followed by what `item` and the later items stand for.
+// The second list has what `meaning` has after the call, followed by what the later items alone stand for.
 #[tactic(auto, unfolding(crate::specs::Interpretation::meant_bytes, crate::specs::Interpretation::eci_changes))]
 fn take_item<'a>(
     item: Item,

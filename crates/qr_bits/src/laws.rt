@@ -38,7 +38,7 @@ pub fn streams_are_parsed()
 {}
 
 /// Data codewords are parsed as the header, interpretation and segments that they were made from. If there is neither
-/// an ECI header nor FNC1, the bytes too are those that they were made from.
+/// an ECI header nor FNC1, the bytes that are read are also the bytes that the data codewords were made from.
 pub fn data_are_parsed()
     ensures whole { DataAreParsed }
     ensures plain { PlainDataAreParsed }
@@ -50,7 +50,7 @@ pub fn items_are_parsed()
     ensures { ItemsAreParsed }
 {}
 
-/// What alphanumeric mode writes after FNC1 for fields of GS1 data is read as these fields.
+/// The characters that alphanumeric mode writes after FNC1 for fields of GS1 data are read as these fields.
 #[tactic(auto, using(crate::proofs::lemmas::parsing::FieldLemmas::fields_again))]
 pub fn fields_are_read()
     ensures { FieldsAreRead }
@@ -96,8 +96,9 @@ pub fn segmentations_are_one()
         → IsLeastSegmentation i v r xs ys ss → IsLeastSegmentation i v r xs zs ts → (ys ≡ zs) × (ss ≡ ts) }
 {}
 
-/// If an input can be written with an interpretation, the characters that `segments` returns stand for the input, and
-/// are read with this interpretation.
+/// If an input can be written with an interpretation, what is written for it is read as this input and this
+/// interpretation. The characters that `segments` returns are read as the bytes of the input. The ECI header or FNC1
+/// that comes before the segments is read as the interpretation.
 pub fn segmentations_mean_their_input()
     ensures { SegmentationsMeanTheirInput }
 {}
@@ -137,8 +138,8 @@ pub fn widths_compute()
         ≡ 8 ∷ 8 ∷ 10 ∷ 10 ∷ 12 ∷ 12 ∷ [] }
 {}
 
-/// The data bits of `01234567` and `AC-42`, which the standard prints, and those of `0123`. The last clause has the
-/// values of the last nine characters of Table 5 (ISO/IEC 18004:2015, 7.4.3, 7.4.4).
+/// The data bits of `01234567` and `AC-42`, which are examples that the standard prints, and the data bits of `0123`.
+/// The last clause has the values of the last nine characters of Table 5 (ISO/IEC 18004:2015, 7.4.3, 7.4.4).
 #[tactic(auto, unfolding(crate::specs::Modes::characters, crate::specs::Stream::digit_bits, crate::specs::Modes::character_value, crate::specs::Stream::character_bits, crate::specs::Bits::field))]
 pub fn payloads_compute()
     ensures digits { digit_bits (codes "01234567") ≡ field 10 12 ++ (field 10 345 ++ field 7 67) }
@@ -206,8 +207,9 @@ pub fn rules_compute()
     ensures kanji { map (may_use Rule.WithKanji) all_modes ≡ true ∷ true ∷ true ∷ true ∷ [] }
 {}
 
-/// Folding at both ends of the alphabet, under `Auto` and `BytesOnly`. Under `WithKanji` a kanji pair stays as it is
-/// although its second byte is a small letter, and so does a last byte that could begin a pair.
+/// Examples of folding. Under `Auto` and `BytesOnly` they have the bytes at both ends of the alphabet. Under
+/// `WithKanji` a kanji pair stays as it is although its second byte is a small letter, and a last byte that could begin
+/// a pair stays as it is too.
 #[tactic(auto, unfolding(crate::specs::Folding::folded_around_pairs, crate::specs::Modes::is_kanji_pair))]
 pub fn foldings_compute()
     ensures auto { folded Rule.Auto (codes "@AZ[`az{") ≡ codes "@AZ[`AZ{" }
@@ -216,8 +218,8 @@ pub fn foldings_compute()
         ≡ 0x41 ∷ 0x93 ∷ 0x61 ∷ 0x41 ∷ 0x93 ∷ [] }
 {}
 
-/// The lower bounds on the bits of five inputs. The bound for a byte changes from `/` to `0`, from `9` to `:`, and from
-/// `Z` to `[`, and the inputs contain all of these bytes.
+/// The lower bounds on the bits of five inputs. The bound for a single byte changes between `/` and `0`, between `9`
+/// and `:`, and between `Z` and `[`, and the inputs contain all of these bytes.
 #[tactic(auto, unfolding(crate::specs::Segmentation::least_bits))]
 pub fn least_bits_compute()
     ensures { map least_bits (codes "012" ∷ codes "/9:" ∷ codes "AZ" ∷ codes "[z" ∷ codes "1A[" ∷ [])

@@ -2,8 +2,8 @@
 //! best choices of `best_modes.rt`, but no table is kept.
 //!
 //! A prefix grows at its end, but `row_of` (in `best_modes.rt`) puts each further byte before those that were taken
-//! already. So it gets each prefix in reverse order. Reversed bytes take equally many bits. Among them the second byte
-//! of a kanji pair comes before the first.
+//! already. So for `row_of` the bytes of a prefix are in reverse order. This does not change the number of bits. In the
+//! reverse order, the second byte of a kanji pair comes before the first.
 
 ghost use Rattle.std.specs.Prelude.{IsOkAnd, length, reverse, true, ◌+◌, ◌*◌, ◌<◌, ◌≡◌, ◌≤◌};
 ghost use Rattle.qr_bits.specs.declared.modes.Mode.{Mode};
@@ -25,7 +25,7 @@ use crate::stream::HEADER_BITS;
 use qr_layout::{Level, Version};
 use std::alloc::Global;
 
-// Whether the rule allows kanji mode, as `kanji` says, and the last two bytes are a kanji pair.
+// Whether the rule allows kanji mode (`kanji` is true exactly if it does) and the last two bytes are a kanji pair.
 #[tactic(auto, using(crate::proofs::lemmas::longest_prefix::MirrorLemmas::ends_at, crate::proofs::lemmas::longest_prefix::MirrorLemmas::ends_short))]
 #[inline(always)]
 fn ends_with_pair(kanji: bool, rule: Rule, bytes: &[u8]) -> bool
@@ -40,7 +40,7 @@ fn ends_with_pair(kanji: bool, rule: Rule, bytes: &[u8]) -> bool
 }
 
 // The most bytes that a segment in byte mode can have in `room` bits (ISO/IEC 18004:2015, 7.4.5). Its two indicators
-// take at most 20 bits.
+// take at most 20 bits, so `room` is large enough for them.
 fn bytes_in(room: u64, version: Version) -> usize
     requires { 20 ≤ room }
     ensures fits { 4 + count_width version Mode.Byte + 8 * result ≤ room }
@@ -51,7 +51,7 @@ fn bytes_in(room: u64, version: Version) -> usize
 }
 
 // The least of the choices that `numbers` has for the nine states. A choice is 4 times a number of bits, plus the rank
-// of a mode (`run_state.rt`). So the least number also has the fewest bits.
+// of a mode (`run_state.rt`). So the least choice is also one with the fewest bits.
 #[tactic(auto, unfolding(crate::specs::Steps::BestModes::in_state))]
 fn fewest(numbers: &PerState) -> u32
     ensures { (p : RunState) → result ≤ in_state numbers.now p }
@@ -66,8 +66,9 @@ fn fewest(numbers: &PerState) -> u32
 // The length of the longest prefix of `input` that takes at most `room` bits. When the loop has taken `input[i]`,
 // `rest.start / 4` is the least number of bits of the prefix that ends with this byte. Even if this number is greater
 // than `room`, a longer prefix may fit, because the first byte of a kanji pair may take more bits in byte mode than the
-// pair takes in kanji mode. A longer prefix takes the bits that `rest` has for one of the states, plus those that its
-// further bytes add. So if `rest` has more than `room` bits for every state, nothing longer can fit, and the loop ends.
+// pair takes in kanji mode. A longer prefix takes the bits of the choice that `rest` has for one of the states, plus
+// the bits that its further bytes add. So if the choices for all states have more than `room` bits, no longer prefix
+// can fit, and the loop ends.
 //
 // As in `best_modes.rt`, `kanji` says whether the rule allows kanji mode, and `gs1` whether the input is GS1 data.
 #[inline(always)]
@@ -100,8 +101,9 @@ fn longest_by_rows(
 }
 
 // How many bits of the capacity are left after a structured append header and the ECI header or FNC1 of the
-// interpretation (ISO/IEC 18004:2015, 7.4.2, 7.4.8.2, 8.1). At least 20 bits are left: the capacity is at least 72
-// bits, the structured append header takes 20 of them, and an ECI header or FNC1 takes at most 28.
+// interpretation (ISO/IEC 18004:2015, 7.4.2, 7.4.8.2, 8.1). The capacity is at least 72 bits, the structured append
+// header takes 20 of them, and an ECI header or FNC1 takes at most 28. So at least 24 bits are left, which is more than
+// the 20 bits that `bytes_in` needs.
 fn room(version: Version, level: Level, interpretation: Interpretation) -> u64
     ensures value { result ≡ room_of version level interpretation }
     ensures least { 20 ≤ result }
@@ -147,7 +149,7 @@ pub fn longest_fit(
 {
     let room = room(version, level, interpretation);
     let most = bytes_in(room, version);
-    // Each rule allows byte mode, so the whole input fits in one segment.
+    // Each rule allows byte mode, so the whole input fits as one segment in byte mode.
     if input.len() <= most {
         return Ok(input.len());
     }

@@ -9,8 +9,8 @@ ghost use Rattle.qr_bits.specs.Segmentation.{HasFit, least_bits, least_sixths};
 
 use crate::modes::INPUT_MAX;
 
-// A lower bound on the bits that a byte takes in any mode. It is in sixths of a bit, so that it is a whole number for
-// each byte.
+// A lower bound on the bits that a byte takes in any mode. It is counted in sixths of a bit, so that it is a whole
+// number for each byte.
 fn least_sixths(byte: u8) -> u32
     ensures value { result ≡ least_sixths byte }
     ensures most { result ≤ 39 }
@@ -24,9 +24,10 @@ fn least_sixths(byte: u8) -> u32
     }
 }
 
-/// Returns a lower bound on the number of bits that `input` takes. It holds for all segments, versions, rules and
-/// interpretations. The bound is the sum of 10/3 bits for each digit, 11/2 for each other byte up to `Z`, and 13/2 for
-/// each byte above `Z`, rounded down (ISO/IEC 18004:2015, 7.4.3 to 7.4.6). The indicators of segments are not counted.
+/// Returns a lower bound on the number of bits that `input` takes. It holds in all versions, under all rules and
+/// interpretations, and for all segments into which the input may be cut. The bound is the sum of 10/3 bits for each
+/// digit, 11/2 for each other byte up to `Z`, and 13/2 for each byte above `Z`, rounded down (ISO/IEC 18004:2015, 7.4.3
+/// to 7.4.6). The indicators of segments are not counted.
 #[tactic(auto, using(crate::proofs::Named::sums_of_sixths), unfolding(crate::specs::Segmentation::least_bits))]
 pub fn least_bits(input: &[u8]) -> u32
     requires { length input.now ≤ INPUT_MAX }

@@ -103,8 +103,8 @@ pub(crate) fn count_width(version: Version, mode: Mode) -> u8
     }
 }
 
-// The number of bytes of a segment with `count` characters. The bound on `count` is that of a character count
-// indicator, which has at most 16 bits.
+// The number of bytes of a segment with `count` characters. The bound on `count` is that of the number in a character
+// count indicator, which has at most 16 bits.
 pub(crate) fn byte_count(mode: Mode, count: usize) -> usize
     requires { count < 2 ^ 16 }
     ensures { result ≡ byte_count mode count }
@@ -186,8 +186,8 @@ fn place_of(character: u8) -> Option<usize>
 }
 
 // The number of 13 bits that is written for a kanji pair (ISO/IEC 18004:2015, 7.4.6). The subtraction closes the gap
-// between the two ranges of pairs, and leaves a low byte of at most BC (hexadecimal). So the numbers of different pairs
-// differ even if the high byte is multiplied only by C0, and not by 100 (both hexadecimal).
+// between the two ranges of pairs, and leaves a low byte of at most BC. So it is enough to multiply the high byte by
+// C0, and not by 100: different pairs still have different numbers. (BC, C0 and 100 are hexadecimal.)
 #[tactic(auto, unfolding(crate::specs::Modes::kanji_value), using(crate::proofs::lemmas::modes::KanjiLemmas::least_pair))]
 pub(crate) fn kanji_value(high: u8, low: u8) -> u16
     requires { IsTrue (is_kanji_pair high low) }

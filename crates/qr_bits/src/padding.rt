@@ -18,7 +18,7 @@ use crate::stream::{HEADER_BITS, Header, put_header, put_interpretation, put_seg
 use qr_layout::{Level, Version};
 use std::alloc::{AllocError, Global};
 
-// How many bits the terminator has, unless fewer are left of the capacity (ISO/IEC 18004:2015, 7.4.9).
+// How many bits the terminator has, unless fewer bits of the capacity are left for it (ISO/IEC 18004:2015, 7.4.9).
 const TERMINATOR_BITS: u64 = 4;
 
 /// Returns the data codewords of a symbol of this version and level. They contain the header, if there is one, then the

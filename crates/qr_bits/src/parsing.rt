@@ -1,6 +1,7 @@
 //! How data codewords are parsed: as an optional structured append header, and then segments, ECI headers and FNC1,
-//! which are called items (ISO/IEC 18004:2015, 7.4.1 to 7.4.9, 8, 12). First all items are read, and the characters of
-//! all segments are appended to one list, `out`. Then `interpreted` returns the bytes that these characters stand for.
+//! which are called items (ISO/IEC 18004:2015, 7.4.1 to 7.4.9, 8, 12). First the header and all items are read, and the
+//! characters of all segments are appended to one list, `out`. Then `interpreted` returns the bytes that these
+//! characters stand for.
 
 ghost use Rattle.std.specs.Prelude.{Err, IfOk, List, MatchResult, drop, length, take, true, ℕ, ◌%◌, ◌*◌, ◌++◌, ◌+◌, ◌<◌, ◌^◌, ◌≡◌, ◌≤◌};
 ghost use Rattle.qr_bits.specs.Modes.{byte_count, payload_bits};
@@ -45,7 +46,7 @@ pub struct Parsed {
     pub header: Option<Header>,
     /// The segments, ECI headers and FNC1, in the order in which they are written.
     pub items: Vec<Item>,
-    /// The ECI headers, each with the number of `bytes` before it.
+    /// The ECI headers, each with the number of elements of `bytes` that come before it.
     pub ecis: Vec<EciChange>,
     /// The bytes that the characters of the segments stand for. They are these characters, except that in alphanumeric
     /// mode after FNC1 `%%` stands for `%`, and any other `%` for the byte 1D (hexadecimal), which separates fields

@@ -97,8 +97,9 @@ fn put_designator(writer: &mut BitWriter, number: u32) -> Result<(), AllocError>
     writer.put(16, (number % 65536) as u16)
 }
 
-// Writes the segments. Each of them takes the next bytes of `input`. No symbol has room for 2^16 bytes. The contract
-// also says that the input consists of bytes; this is for the prover.
+// Writes the segments. Each of them takes the next bytes of `input`. The bound on the length of `input` excludes
+// nothing, because no symbol has room for 2^16 bytes. The contract also says that the input consists of bytes; this is
+// for the prover.
 pub(crate) fn put_segments(
     writer: &mut BitWriter,
     input: &[u8],

@@ -1,5 +1,6 @@
--- Bit rows. A bit row stores a row of modules in three words of 64 bits. Bit `c` of it is the module in column `c`, and
--- 1 is dark. Bit 0 is the lowest bit of the first word. A square is stored as a list of bit rows, from the top down.
+-- Bit rows. A bit row stores a row of modules in three words of 64 bits. Bit `c` of a bit row is the module in column
+-- `c`, and is 1 if this module is dark. Bit 0 is the lowest bit of the first word. A square is stored as a list of bit
+-- rows, from the top down.
 use Rattle.std.specs.Prelude.{ℕ, ◌+◌, ◌*◌, ◌^◌, Bool, ◌==◌, List, slice_index, slice_index_or, []}
 use Rattle.std.specs.Int.{bit_at}
 

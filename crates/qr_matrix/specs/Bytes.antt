@@ -11,7 +11,7 @@ byte_of dark = if dark then 1 else 0
 abbrev pub square_of_bytes : ℕ → List ℕ → Grid
 square_of_bytes side bytes = square side (λ row col. not (slice_index_or bytes (row * side + col) 0 == 0))
 
--- A square of `side` rows in which the modules that are not known are dark, and all others light. The first bytes of
--- `bytes` are the modules, row by row, and the byte 2 is a module that is not known [own]
+-- The square of `side` rows that is dark exactly where a module is not known. The first bytes of `bytes` are the
+-- modules, row by row, and the byte 2 is a module that is not known [own]
 abbrev pub square_of_unknown : ℕ → List ℕ → Grid
 square_of_unknown side bytes = square side (λ row col. slice_index_or bytes (row * side + col) 0 == 2)

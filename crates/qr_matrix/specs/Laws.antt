@@ -1,6 +1,6 @@
--- Squares and a statement that two laws cite. For each of these squares the penalty was counted by hand, and a law
--- compares it with the definition of the penalty. `r` is the row of a module and `c` its column, and `true` is dark.
--- The statement is about squares whose modules are written as bytes.
+-- What two laws cite: examples of squares, and a statement about squares whose modules are written as bytes. For each
+-- example the penalty was counted by hand, and a law compares it with the definition of the penalty. `r` is the row of
+-- a module and `c` its column, and `true` is dark.
 use Rattle.std.specs.Prelude.{◌≡◌, ℕ, ◌+◌, ◌*◌, ◌<◌, ◌%◌, ◌&&◌, ◌||◌, ◌==◌, nat_le, Bool, true, false, List, slice_index_or}
 use Rattle.qr_matrix.specs.Grid.{Grid, colour}
 use Rattle.qr_matrix.specs.Bytes.{byte_of, square_of_bytes}

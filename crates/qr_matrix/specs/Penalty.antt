@@ -19,7 +19,7 @@ is_run s line a k =
 unfoldable pub run_cost : ℕ → (ℕ → Bool) → ℕ
 run_cost s line = sum_below s (λ a. sum_below (s + 1) (λ k. if nat_le 5 k && is_run s line a k then k - 2 else 0))
 
--- The modules of `line` from module `c` on have the colours of the list, in the same order [own]
+-- The modules of `line` from module `c` on have the colours that the list has, in the same order [own]
 abbrev pub reads : (ℕ → Bool) → ℕ → List Bool → Bool
 reads line c [] = true
 reads line c (b ∷ bs) = is_same (line c) b && reads line (c + 1) bs

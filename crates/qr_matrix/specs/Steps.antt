@@ -11,7 +11,7 @@ use Rattle.qr_matrix.specs.Runs.{begins_five, joins, place_cost}
 use Rattle.qr_matrix.specs.BitRow.{has, has_bit}
 use Rattle.qr_matrix.specs.declared.dark_runs.Run.{Run}
 
--- `words` are three words of at most 64 bits, as a bit row has them
+-- `words` are three numbers of at most 64 bits each, which are the words of a bit row
 abbrev pub AreWords : List ℕ → Type 0
 AreWords words = (length words ≡ 3) × (slice_index words 0 < 2 ^ 64) × (slice_index words 1 < 2 ^ 64) × (slice_index words 2 < 2 ^ 64)
 
@@ -30,12 +30,12 @@ set_count bit = count_below 192 bit
 abbrev pub size_of : List ℕ → ℕ
 size_of words = set_count (has words)
 
--- `words` are two words of at most 64 bits, the first from one square and the second from another
+-- `words` are two numbers of at most 64 bits each: a word of the first square, and a word of the second
 abbrev pub IsPair : List ℕ → Type 0
 IsPair words = (length words ≡ 2) × (slice_index words 0 < 2 ^ 64) × (slice_index words 1 < 2 ^ 64)
 
--- The word of the second square if `second` is true, and otherwise the word of the first square. The list `words` has
--- the word of the first square, and then that of the second
+-- `words` has a word of the first square, and then a word of the second. The value is the word of the second square if
+-- `second` is true, and otherwise the word of the first
 abbrev pub word_of : List ℕ → Bool → ℕ
 word_of words second = slice_index words (if second then 1 else 0)
 
@@ -50,7 +50,7 @@ lane pairs second = word_of (slice_index_or pairs 0 []) second ∷ word_of (slic
 abbrev pub lanes : List (List (List ℕ)) → Bool → List (List ℕ)
 lanes rows second = map (λ pairs. lane pairs second) rows
 
--- Those of the `n` columns from column `k` on that pass the test `p`, from left to right
+-- Of the `n` columns from column `k` on, those that pass the test `p`, from left to right
 unfoldable pub columns_passing : (ℕ → Bool) → ℕ → ℕ → List ℕ
 columns_passing p k n = filter p (range_with_len k n)
 
@@ -63,8 +63,8 @@ set_bits words = columns_passing (has words) 0 192
 unfoldable pub is_change : (ℕ → Bool) → ℕ → Bool
 is_change line c = not (is_same (line c) (nat_lt 0 c && line (c - 1)))
 
--- The runs that a list of columns gives. The list has the start of the first run, its end, the start of the second run,
--- its end and so on. The end of a run is the column after its last module
+-- The runs whose starts and ends are listed. The list has the start of the first run, its end, the start of the second
+-- run, its end and so on. The end of a run is the column after its last module
 abbrev pub runs_between : List ℕ → List Run
 runs_between (start ∷ end ∷ columns) = record { start = start; end = end } ∷ runs_between columns
 runs_between columns = []
@@ -74,7 +74,7 @@ runs_between columns = []
 unfoldable pub is_charged : ℕ → (ℕ → Bool) → ℕ → Bool
 is_charged s line c = (begins_five s line c || (nat_lt 0 c && begins_five s line (c - 1))) || (nat_lt 1 c && begins_five s line (c - 2))
 
--- The number of modules of row `r` that are charged a point (`is_charged`) for a run of their column
+-- The number of modules of row `r` that are charged a point for a run of their column, as `is_charged` says
 unfoldable pub row_share : ℕ → (ℕ → ℕ → Bool) → ℕ → ℕ
 row_share s dark r = count_below s (λ c. is_charged s (λ i. dark i c) r)
 
@@ -103,28 +103,28 @@ pub record IsAbove (join : ℕ → Bool) (n : ℕ) (joined threes earlier_threes
   pub fives_are : fives ≡ (nat_lt 3 n && begin_five join (n - 4))
   pub earlier_fives_are : earlier_fives ≡ (nat_lt 4 n && begin_five join (n - 5))
 
--- What is counted when the first `n` rows of a square are done. `runs` is a sum of points: all points for the runs in
--- these rows, and one point for each module of the first `n - 3` rows that is charged one for a run in its column
--- (`is_charged`). `squares` is the number of two by two squares of one colour whose upper row is one of the `n` rows.
--- The bounds show that the two numbers do not overflow
+-- What is counted when the first `n` rows of a square are done. `runs` is a sum of points: all points for runs that lie
+-- in one of these rows, and one point for each module of the first `n - 3` rows that is charged a point (`is_charged`)
+-- for a run of its column. `squares` is the number of two by two squares of one colour whose upper row is one of the
+-- `n` rows. The bounds show that the two numbers do not overflow
 pub record IsCountedTo (s : ℕ) (dark : ℕ → ℕ → Bool) (n runs squares : ℕ) : Type 0 where
   pub runs_are : runs ≡ sum_below n (λ r. place_cost s (dark r)) + sum_below (n - 3) (row_share s dark)
   pub runs_most : runs ≤ 192 * n + 192 * (n - 3)
   pub squares_are : squares ≡ sum_below n (λ r. count_below s (is_square_of_two s dark r))
   pub squares_most : squares ≤ 192 * n
 
--- A window begins at module `r` of `line`. Its first seven modules have the ratio 1:1:3:1:1, and its last four are
--- light
+-- A window begins at module `r` of `line`, and is inside the square: its first seven modules have the ratio 1:1:3:1:1,
+-- and its last four are light
 abbrev pub is_before_light : ℕ → (ℕ → Bool) → ℕ → Bool
 is_before_light s line r = nat_le (r + 11) s && (reads line r finder_ratio && reads line (r + 7) four_light)
 
--- A window begins at module `r` of `line`. Its first four modules are light, and its last seven have the ratio
--- 1:1:3:1:1
+-- A window begins at module `r` of `line`, and is inside the square: its first four modules are light, and its last
+-- seven have the ratio 1:1:3:1:1
 abbrev pub is_after_light : ℕ → (ℕ → Bool) → ℕ → Bool
 is_after_light s line r = nat_le (r + 11) s && (reads line r four_light && reads line (r + 4) finder_ratio)
 
--- A window of a column is counted when the code comes to row `r`. Either the window begins in row `r` with the ratio
--- 1:1:3:1:1, or it begins three rows above with its four light modules, of which row `r` has the last
+-- A window of a column is counted when the code comes to row `r`. There are two cases: the window begins in row `r`
+-- with the ratio 1:1:3:1:1, or it begins three rows above with its four light modules, the last of which is in row `r`
 unfoldable pub is_found : ℕ → (ℕ → Bool) → ℕ → Bool
 is_found s line r = is_before_light s line r || (nat_lt 2 r && is_after_light s line (r - 3))
 
@@ -139,8 +139,8 @@ pub record AreWindowsTo (s : ℕ) (dark : ℕ → ℕ → Bool) (n windows : ℕ
 unfoldable pub bit_in : List ℕ → ℕ → ℕ → Bool
 bit_in words r c = has_bit (slice_index words r) c
 
--- The tile `f` after one step of its transposition. The tile consists of squares of `s` by `s` bits, and these are
--- grouped two by two. In each group the upper right square and the lower left one are exchanged
+-- The tile `f` after one stage of its transposition. The tile consists of parts of `s` by `s` bits, and two by two
+-- neighbouring parts form a group. In each group the upper right part and the lower left part are exchanged
 unfoldable pub exchanged : ℕ → (ℕ → ℕ → Bool) → ℕ → ℕ → Bool
 exchanged s f r c =
     if nat_lt (r % (2 * s)) s

@@ -93,7 +93,8 @@ impl BitRow {
         requires { pattern < 64 }
         ensures { (c : ℕ) → c < 192 → has result c ≡ has_bit pattern (c % 6) }
     {
-        // 64 % 6 is 4 and 128 % 6 is 2: the second word begins with bit 4 of the pattern, and the third with bit 2.
+        // Bit c of the row is bit `c % 6` of the pattern. 64 % 6 is 4 and 128 % 6 is 2, so the second word begins with
+        // bit 4 of the pattern, and the third with bit 2.
         let pattern = u64::from(pattern);
         let word = pattern.wrapping_mul(SIXTHS);
         BitRow([word, word << 2 | pattern >> 4, word << 4 | pattern >> 2])
@@ -205,8 +206,8 @@ impl BitRow {
         self.0[number] = word;
     }
 
-    /// Sets bit `index + k` for each bit `k` of `bits` that is 1, and changes no other bit. All bits that it sets are
-    /// in the word of bit `index`.
+    /// Sets bit `index + k` for each bit `k` of `bits` that is 1, and changes no other bit. All bits that it sets have
+    /// to be in the same word of 64 bits as bit `index`.
     #[inline(always)]
     pub fn set_bits(&mut self, index: u8, bits: u64)
         requires index_in { index < 192 }
@@ -227,7 +228,8 @@ impl BitRow {
         self.set_bits(index, u64::from(bits));
     }
 
-    /// Returns the bits from bit `index` to the end of its word as a number, of which bit `index` is the lowest bit.
+    /// Returns the bits from bit `index` to the highest bit of the word of 64 bits that contains it, as a number. Bit
+    /// `index` is the lowest bit of this number.
     #[inline(always)]
     pub fn bits_from(&self, index: u8) -> u64
         requires { index < 192 }
@@ -237,8 +239,8 @@ impl BitRow {
         word >> (index % 64)
     }
 
-    /// Returns the number of set bits from bit `index` up to the first bit that is not set, or to the end of the word
-    /// that contains bit `index`.
+    /// Returns the number of set bits from bit `index` up to the first bit that is not set, or to the highest bit of
+    /// the word that contains bit `index`.
     #[inline(always)]
     pub fn ones_from(&self, index: u8) -> u8
         requires { index < 192 }
@@ -269,7 +271,7 @@ impl Rows for BitRow {
 
     ghost number = { λ count _. count };
 
-    // If `words` is a constant, only one word has to be computed, as the other two are constants.
+    // Where `words` is a constant, only one word has to be computed, because the other two are constants.
     #[inline(always)]
     fn below_in(n: u8, words: u8) -> BitRow {
         let n = u32::from(n);

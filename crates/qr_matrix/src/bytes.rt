@@ -1,10 +1,11 @@
 //! The modules of a square as bytes, row by row. A dark module is written as 1 and a light one as 0. When bytes are
-//! read, every byte but 0 means a dark module, and 2 means also that the module is not known.
+//! read, every byte but 0 means a dark module, and the byte 2 also means that the module is not known.
 //!
-//! Eight modules are read or written at once, by operations on numbers of 64 bits, which every processor has. At the
-//! end of a row, bytes of the rows that follow are read or overwritten too. So the last rows, which have too few bytes
-//! after them, are read and written module by module. A row that has other bytes than 0 and 1 is also read module by
-//! module.
+//! Eight modules are read or written at once, by operations on numbers of 64 bits. Every processor has such operations,
+//! so the code needs no vectors. At the end of a row, such an operation also reads or overwrites bytes of the rows that
+//! follow. (Those rows are written later, so nothing is lost.) The last rows have too few bytes after them, and are
+//! read and written module by module. A row is also read module by module if a byte that would be read with it is
+//! neither 0 nor 1.
 
 ghost use Rattle.std.specs.Prelude.{◌≡◌, ℕ, ◌+◌, ◌*◌, ◌<◌, ◌≤◌, ◌⊎◌, ◌&&◌, ◌==◌, not, false, nat_lt, length, slice_index_or, IfOk, IfSome};
 ghost use Rattle.qr_matrix.specs.Grid.{colour};
@@ -20,14 +21,15 @@ const LIGHT: u8 = 0;
 
 const NOT_KNOWN: u8 = 2;
 
-// All bits of eight bytes but the lowest of each. If each byte is 0 or 1, these bits are 0.
+// All bits of a number of eight bytes, except the lowest bit of each byte. If each byte is 0 or 1, these bits are 0.
 const MORE: u64 = 0xFEFE_FEFE_FEFE_FEFE;
 
-// Multiplying eight bytes by this number moves the lowest bit of byte k to bit k of the highest byte. If each byte is 0
-// or 1, nothing is carried into the highest byte.
+// If a number of eight bytes is multiplied by this number, the lowest bit of byte k comes to bit k of the highest byte.
+// If each byte is 0 or 1, nothing is carried into the highest byte.
 const GATHER: u64 = 0x0102_0408_1020_4080;
 
-// The number whose bit k is byte `at + k`, for each k below 8; `None` if one of these bytes is not 0 or 1.
+// The number whose bit k is 1 exactly if byte `at + k` is 1, for each k below 8; `None` if one of these bytes is
+// neither 0 nor 1.
 #[inline(always)]
 fn eight_bits(bytes: &[u8], at: usize) -> Option<u64>
     requires { at + 8 ≤ length bytes.now }
@@ -51,7 +53,8 @@ fn eight_bits(bytes: &[u8], at: usize) -> Option<u64>
     Some(eight.wrapping_mul(GATHER) >> 56)
 }
 
-// The word whose bit k is byte `start + k`, for each k below 64; `None` if one of these bytes is not 0 or 1.
+// The word whose bit k is 1 exactly if byte `start + k` is 1, for each k below 64; `None` if one of these bytes is
+// neither 0 nor 1.
 fn word_of(bytes: &[u8], start: usize) -> Option<u64>
     requires { start + 64 ≤ length bytes.now }
     ensures { IfSome result (λ word. (k : ℕ) → k < 64
@@ -65,7 +68,7 @@ fn word_of(bytes: &[u8], start: usize) -> Option<u64>
 }
 
 // Returns the row of `side` modules from byte `start` on. It is read 64 bytes at a time, so bytes after the row are
-// read too. Returns `None` if byte `end` would have to be read, or if a byte that is read is not 0 or 1.
+// read too. Returns `None` if byte `end` would have to be read, or if a byte that is read is neither 0 nor 1.
 #[inline(always)]
 fn plain_row_of(bytes: &[u8], start: usize, end: usize, side: u8) -> Option<BitRow>
     requires least { 1 ≤ side }
@@ -88,8 +91,8 @@ fn plain_row_of(bytes: &[u8], start: usize, end: usize, side: u8) -> Option<BitR
 }
 
 // A row begins at index `start` of `bytes`, with a byte for each of its `side` modules. Returns the columns of this row
-// whose byte is `byte`, and looks at one module after the other. This function is not inlined, because few rows need
-// it. So the code for WebAssembly, which is sent over the network, is shorter.
+// whose byte is `byte`. It looks at one module after the other. This function is not inlined, because few rows need it.
+// This shortens the code for WebAssembly, which is sent over the network.
 #[inline(never)]
 fn modules_of(bytes: &[u8], start: usize, side: u8, byte: u8) -> BitRow
     requires room { start + side ≤ length bytes.now }
@@ -103,7 +106,8 @@ fn modules_of(bytes: &[u8], start: usize, side: u8, byte: u8) -> BitRow
     row
 }
 
-// The dark modules of the row from byte `start` on, and those that are not known. Bytes from `end` on are not read.
+// The columns of the dark modules of the row from byte `start` on, and the columns of its modules that are not known.
+// Bytes from `end` on are not read.
 #[inline(always)]
 fn rows_of(bytes: &[u8], start: usize, end: usize, side: u8) -> (BitRow, BitRow)
     requires least { 1 ≤ side }
@@ -176,12 +180,12 @@ pub fn matrices_of_bytes(
     Ok((matrix, unknown))
 }
 
-// A number in which each of the eight bytes is 1. Its product with a byte is eight copies of the byte.
+// A number of eight bytes, each of which is 1. Multiplied by a byte, it gives eight copies of this byte.
 const ONES: u64 = 0x0101_0101_0101_0101;
 
-// Byte `k` of the result is bit `k` of `bits`. The product has eight copies of `bits`, and of copy `k` only bit `k` is
-// kept. Then 7F (hexadecimal) is added to each byte, which sets the highest bit of the byte exactly if the kept bit is
-// 1.
+// Byte `k` of the result is bit `k` of `bits`. The product with `ONES` has eight copies of `bits`. Of copy `k`, counted
+// from 0 at the lowest byte, only bit `k` is kept. Then 7F (hexadecimal) is added to each byte, which sets the highest
+// bit of the byte exactly if the kept bit is 1. This highest bit becomes the lowest bit of the byte.
 #[inline(always)]
 fn eight_bytes(bits: u64) -> [u8; 8]
     requires { bits < 256 }

@@ -1,4 +1,4 @@
-//! The dark runs of a row: one begins where the colour changes to dark, and ends where it changes back.
+//! The dark runs of a row. A dark run begins where the colour changes to dark, and ends where it changes back to light.
 
 ghost use Rattle.std.specs.Prelude.{◌<◌};
 ghost use Rattle.std.specs.Iterator.{YieldsFirst, item_count};
@@ -19,8 +19,8 @@ pub struct Run {
 /// to come.
 #[derive(Drop)]
 pub struct DarkRuns {
-    // The columns at which the runs that are still to come start or end. From left to right, starts and ends take
-    // turns.
+    // The columns at which the runs that are still to come start or end. The end of a run is the column after its last
+    // module. From left to right, starts and ends take turns.
     changes: BitRow,
 }
 

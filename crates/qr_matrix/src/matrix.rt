@@ -1,12 +1,14 @@
 //! Stores the modules of a symbol as a square, without the quiet zone (ISO/IEC 18004:2015, 6.3.2).
 //!
-//! A square is transposed in tiles of 64 by 64 modules. A tile is stored as 64 words of 64 bits, and is transposed in six
-//! stages. The first stage divides the tile into two by two parts of 32 by 32 bits, and exchanges the upper right part
-//! with the lower left part. The second stage does the same in each of the four parts, and so on down to single bits. In
-//! a stage, `steps` is the side of a part, and `mask` has a 1 in the columns of the left parts.
+//! A square is transposed (rows and columns are exchanged) in tiles of 64 by 64 modules. A tile is stored as 64 words
+//! of 64 bits, and is transposed in six stages. The first stage divides the tile into two by two parts of 32 by 32
+//! bits, and exchanges the upper right part with the lower left part. The second stage does the same in each of the
+//! four parts, and so on down to single bits. In a stage, `steps` is the side of a part, and `mask` has a 1 in the
+//! columns of the left parts.
 //!
 //! A band is 64 neighbouring rows, or fewer at the lower edge of the square. It has a tile for each word of a row. Band
-//! `band` begins at row `64 * band`, and its tile `word` begins at column `64 * word`.
+//! `band` of a square begins at row `64 * band`, and tile `word` of this band begins at column `64 * word`. Transposed,
+//! this tile is tile `band` of band `word`.
 
 ghost use Rattle.std.specs.Prelude.{IfOk, false, if◌then◌else◌, length, nat_lt, not, ℕ, ◌%◌, ◌&&◌, ◌*◌, ◌+◌, ◌-◌, ◌/◌, ◌<◌, ◌≡◌, ◌≤◌};
 ghost use Rattle.qr_matrix.specs.Grid.{colour, light, painted, square, transposed, with_rectangle, with_row};
@@ -180,8 +182,8 @@ impl Matrix {
         self.set_bit_row(row, plain.bit_row(index) ^ inverted);
     }
 
-    /// Makes a rectangle dark if `dark` is true, and light otherwise: the rows `top..bottom` and the columns
-    /// `left..right`.
+    /// Makes a rectangle dark if `dark` is true, and light otherwise. The rectangle has the rows `top..bottom` and the
+    /// columns `left..right`.
     pub fn fill(&mut self, top: u8, bottom: u8, left: u8, right: u8, dark: bool)
         requires rows_in_order { top ≤ bottom }
         requires bottom_in { bottom ≤ self.old.side }
@@ -189,7 +191,7 @@ impl Matrix {
         requires right_in { right ≤ self.old.side }
         ensures { self.new ≡ with_rectangle self.old top bottom left right dark }
     {
-        // Only for the prover, which needs this bound if the rectangle has no rows.
+        // Only for the prover, which needs this bound for a rectangle without rows.
         prove!(self.side <= 177);
         let columns = and_not(BitRow::below(right), BitRow::below(left));
         for row in top..bottom {
@@ -213,7 +215,8 @@ impl Matrix {
         let words = usize::from(words_for(self.side));
         for band in 0..words {
             for word in 0..words {
-                // The tile may have rows below the last row of the square. Then these rows stay light.
+                // Tile `band` of band `word` of `other`. If it has rows below the last row of the square, these stay
+                // light.
                 let mut tile = [0; 64];
                 for line in 0..(side - 64 * word).min(64) {
                     tile[line] = other.word(64 * word + line, band);
@@ -251,7 +254,8 @@ impl Squares for Matrix {
 }
 
 // One stage of the transposition. In each group of `2 * steps` rows, the right parts of the upper half are exchanged
-// with the left parts of the lower half: in a word of each, the bits are inverted in which these parts differ.
+// with the left parts of the lower half. For this, the bits in which two such parts differ are inverted in both. This
+// is done for one row of the upper half and one of the lower half at a time.
 #[inline(always)]
 pub(crate) fn exchange(tile: &mut [u64; 64], steps: usize, mask: u64)
     requires some { 1 ≤ steps }

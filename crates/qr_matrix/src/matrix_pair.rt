@@ -1,5 +1,5 @@
-//! Two squares with the same side, stored so that one operation works on modules of both. The bit rows of the two squares
-//! are side by side in vectors. So one operation works on 64 modules of each square.
+//! Two squares with the same side. Their bit rows are stored side by side in vectors, so that one operation works on 64
+//! modules of each square.
 
 ghost use Rattle.std.specs.Prelude.{Bool, IfOk, List, false, if◌then◌else◌, nat_le, nat_lt, not, true, ℕ, ◌%◌, ◌&&◌, ◌*◌, ◌+◌, ◌-◌, ◌/◌, ◌<◌, ◌==◌, ◌||◌, ◌≡◌, ◌≤◌};
 ghost use Rattle.std.proofs.Common.{rules};
@@ -337,8 +337,8 @@ impl MatrixPair {
     }
 
     /// Copies every twelfth row of `plain`, from row `first` on, into both squares. The module in column c is inverted
-    /// if `within` is dark at its place, and bit `c % 6` of a pattern is 1. This is `patterns.0` for the first square,
-    /// and `patterns.1` for the second. Bit 0 is the lowest bit.
+    /// if `within` is dark at its place, and bit `c % 6` of the pattern is 1. The pattern is `patterns.0` for the first
+    /// square, and `patterns.1` for the second. Bit 0 is the lowest bit.
     pub fn set_rows_masked(
         &mut self,
         first: u8,

@@ -13,7 +13,7 @@ use crate::rows::{Rows, Squares, added, words_for};
 use crate::runs::runs_and_squares;
 use crate::windows::window_count;
 
-// The points of Table 11; a square here is two by two modules of one colour.
+// The points of Table 11 for a square, which here is two by two modules of one colour.
 const SQUARE_POINTS: u32 = 3;
 
 const WINDOW_POINTS: u32 = 40;
@@ -21,8 +21,8 @@ const WINDOW_POINTS: u32 = 40;
 // The points for each whole 5 % by which the share of dark modules differs from a half.
 const BALANCE_POINTS: u32 = 10;
 
-// The number of dark modules. Four rows at a time are added column by column before bits are counted. The last rows, at
-// most three, are counted one by one.
+// The number of dark modules. Four rows at a time are added column by column before their bits are counted. The last
+// rows, at most three, are counted one by one.
 #[inline(never)]
 fn dark_count<S: Squares, const WORDS: u8>(squares: &S) -> <S::Row as Rows>::Counts
     requires width { NeedsWords (S.size squares.now) WORDS }
@@ -56,7 +56,8 @@ fn dark_count<S: Squares, const WORDS: u8>(squares: &S) -> <S::Row as Rows>::Cou
     total
 }
 
-// What is counted in each square.
+// What is counted in each square: the points for runs, and the numbers of two by two squares of one colour, of windows
+// and of dark modules.
 #[derive(Drop)]
 pub(crate) struct Counted<N> {
     pub runs: N,
@@ -103,7 +104,9 @@ fn points(side: u8, counted: Counted<u32>) -> u32
         → result ≡ penalty_of side dark }
 {
     let modules = u32::from(side) * u32::from(side);
-    // A twentieth of all modules is 5 %. `20 * dark / modules` twentieths are dark, and a half is 10 twentieths.
+    // A twentieth of all modules is 5 %. The dark modules are `20 * dark / modules` twentieths of all modules, and a
+    // half is 10 twentieths. So `excess / modules` is the number of whole twentieths by which their share differs from
+    // a half.
     let excess = (20 * counted.dark).abs_diff(10 * modules);
     counted.runs
         + SQUARE_POINTS * counted.squares

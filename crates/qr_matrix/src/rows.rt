@@ -1,6 +1,7 @@
-//! The operations by which the penalty is computed, as two traits. `Squares` stands for one square, or for two squares
-//! on which one operation works at once. `Rows` stands for a row of each of them. In contracts `second` says which of
-//! the two squares is meant. If there is only one square, `second` has no meaning.
+//! The operations by which the penalty is computed, as two traits. `Squares` is implemented by `Matrix`, which is one
+//! square, and by `MatrixPair`, which is two squares on which one operation works at once. `Rows` is implemented by the
+//! types of their rows: `BitRow` for one square, and `RowPair`, a row of each square, for two. In contracts `second`
+//! says which of the two squares is meant. If there is only one square, `second` has no meaning.
 //!
 //! To count the bits of many rows, the code first adds the rows column by column, as full adders do: three rows become
 //! two, a row of sums and a row of carries. This leaves fewer bits to count.
@@ -19,8 +20,8 @@ pub(crate) trait Rows: Copy
     // `u32`.
     type Counts: Copy + Default;
 
-    // Whether the row of a square has a 1 in a column. `second` says which square is meant, and the number is that of
-    // the column.
+    // Whether the row of one of the squares has a 1 in a column. `second` says which square is meant, and the last
+    // argument is the column.
     ghost bit: { Self → (second : Bool) → ℕ → Bool };
 
     ghost number: { Self.Counts → (second : Bool) → ℕ };
@@ -51,8 +52,8 @@ pub(crate) trait Rows: Copy
         requires others { (second : Bool) → number others second ≤ 1000000 }
         ensures { (second : Bool) → number result second ≡ number counts second + number others second };
 
-    // `counts` has a number for each square, and `self` has a row of each. To each number, adds how many bits are set
-    // in the row of the same square.
+    // `counts` has a number for each square, and `self` has a row of each square. The function adds to each number how
+    // many bits are set in the row of the same square.
     fn add_to(self, counts: Self::Counts) -> Self::Counts
         requires { (second : Bool) → number counts second ≤ 1000000 }
         ensures value { (second : Bool) → number result second
@@ -91,7 +92,8 @@ pub(crate) trait Squares {
         ensures least { 1 ≤ result }
         ensures most { result ≤ 177 };
 
-    // Returns row `row`, computed in such a way that the compiler sees that all words after the first `words` are 0.
+    // Returns row `row`. It is computed in such a way that the compiler sees that all words after the first `words`
+    // words are 0.
     fn row_in(&self, row: usize, words: u8) -> Self::Row
         requires row_in { row < size self.now }
         requires width { NeedsWords (size self.now) words }

@@ -1,5 +1,5 @@
--- Laws about the distance between symbols of version `v` and level `l`. The distance of two blocks is the number of
--- codewords in which they differ.
+-- Laws about the distance between symbols of version `v` and level `l`. The distance between two blocks is the number
+-- of codewords in which they differ.
 use Rattle.std.specs.Prelude.{◌≡◌, ℕ, ◌+◌, ◌*◌, ◌<◌, ◌≤◌, Option, List, [], ◌++◌, slice_index_or}
 use Rattle.qr_field.specs.Distance.{differences, erasures, errors}
 use Rattle.qr_layout.specs.declared.level.Level.{Level}
@@ -32,10 +32,10 @@ MessagesLieApart v l =
     (m n : HeldMessage v l) → (m.message ≡ n.message → ⊥)
     → (i : ℕ) × (i < blocks_in v l) × ((blocks_of v l).ec_len + 1 ≤ differences (held_block v l m i) (held_block v l n i))
 
--- Let `read i` be what was read of block `i` of a damaged symbol, where an erased codeword is `None`, and let `t i` be
--- any number. What was read belongs to at most one message if each block `i` meets two conditions. At most `t i` of its
--- codewords are misread. The number of its erased codewords, plus twice `t i`, is at most the number of its error
--- correction codewords (ISO/IEC 18004:2015, 7.5.1)
+-- What was read of a damaged symbol belongs to at most one message, if each block `i` meets two conditions for some
+-- number `t i`. First, at most `t i` codewords of the block are misread. Second, the number of its erased codewords,
+-- plus twice `t i`, is at most the number of its error correction codewords. `read i` is what was read of block `i`,
+-- where an erased codeword is `None` (ISO/IEC 18004:2015, 7.5.1)
 abbrev pub DamagedMessagesAreOne : ℕ → Level → Type 0
 DamagedMessagesAreOne v l =
     (m n : HeldMessage v l) (read : ℕ → List (Option ℕ)) (t : ℕ → ℕ)

@@ -51,8 +51,8 @@ SymbolsAreOne = (x : List ℕ) (l : Level) (smallest : ℕ) (rule : Rule) (i : I
     → IsSymbol smallest l rule i x v m g → IsSymbol smallest l rule i x w n h
     → (v ≡ w) × (m ≡ n) × (g ≡ h)
 
--- Once the lowest level, the smallest version, the rule and the interpretation are chosen, there is at most one symbol
--- that an input has by `IsBoostedSymbol`: one version, one level, one mask and one square [own]
+-- Once the lowest level, the smallest version, the rule and the interpretation are chosen, `IsBoostedSymbol` holds for
+-- at most one symbol of an input: one version, one level, one mask and one square [own]
 abbrev pub BoostedSymbolsAreOne : Type 0
 BoostedSymbolsAreOne = (x : List ℕ) (l : Level) (smallest : ℕ) (rule : Rule) (i : Interpretation) (v w : ℕ) (k j : Level) (m n : ℕ) (g h : Grid)
     → IsBoostedSymbol smallest l rule i x v k m g → IsBoostedSymbol smallest l rule i x w j n h

@@ -1,6 +1,6 @@
 -- The final sequence of codewords. It consists of the data codewords of all blocks, interleaved, and then the error
--- correction codewords of all blocks, interleaved. Other lists of codewords have one block after the other. `c` has the
--- block sizes. Blocks are counted from 0, and so are the codewords in a block.
+-- correction codewords of all blocks, interleaved. In other lists of codewords, one block comes after the other. `c`
+-- has the block sizes. Blocks are counted from 0, and so are the codewords in a block.
 use Rattle.std.specs.Prelude.{◌≡◌, ℕ, ◌+◌, ◌-◌, ◌*◌, ◌<◌, ◌⊎◌, nat_lt, if◌then◌else◌, List, [], ◌++◌, map, take, drop, length, slice_index_or}
 use Rattle.std.specs.List.{All, AllPairs, Contains}
 use Rattle.qr_field.specs.Polynomial.{IsCorrection}
@@ -71,8 +71,8 @@ part_of c d i = take (block_len c i) (drop (start_of c i) d)
 abbrev pub block_of : Blocks → List ℕ → ℕ → List ℕ
 block_of b d i = part_of (data_sizes b) d i
 
--- The error correction codeword at position `t`, if item i of `corrections` lists the error correction codewords of
--- block i [own]
+-- The error correction codeword at position `t`, if element i of `corrections` is the list of the error correction
+-- codewords of block i [own]
 abbrev pub check_at : List (List ℕ) → Position → ℕ
 check_at corrections t = slice_index_or (slice_index_or corrections t.block []) t.index 0
 

@@ -1,5 +1,6 @@
 -- What the laws of this crate need to check examples. The first rows of each mask are computed here from `inverts`, and
--- also listed as they were worked out by hand. The bits of format or version information are put together as a number.
+-- are also listed as they were worked out by hand. `bits_down` makes a number of the bits of format or version
+-- information.
 use Rattle.std.specs.Prelude.{ℕ, ◌-◌, Bool, List, [], ◌∷◌, map}
 use Rattle.std.specs.List.{range_with_len}
 use Rattle.qr_bits.specs.Bits.{value}

@@ -45,9 +45,9 @@ pub record IsRead (v mask : ℕ) (g : Grid) (cw : List ℕ) : Type 0 where
   pub order : IsOrder v places
   pub bits : bits_of cw ≡ read_bits v mask g places
 
--- `cw` are the codewords that the region of the square `g` contains, read in the standard's order. No mask is undone.
--- So `g` is a square in which the mask was undone before, or a square that is dark where a module was not read (ISO/IEC
--- 18004:2015, 7.7.3)
+-- `cw` are the codewords that the region of the square `g` contains, read in the standard's order. No mask is undone
+-- here, because `g` has none: it is a square whose mask was undone before, or a square that is dark exactly where a
+-- module of a symbol was not read (ISO/IEC 18004:2015, 7.7.3)
 pub record IsReadUnmasked (v : ℕ) (g : Grid) (cw : List ℕ) : Type 0 where
   pub bytes : All (λ x. x < 256) cw
   pub places : List Place
@@ -97,9 +97,9 @@ pub record IsParsedAs (g : Grid) (outcome : Result Content ParseFault) : Type 0 
 abbrev pub IsReading : Grid → Content → Type 0
 IsReading g content = IsParsedAs g (Ok content)
 
--- The content that has to be read from a symbol. It has the header `h`, if there is one, the ECI header or FNC1 of the
--- interpretation `i`, then the segments, and the bytes `x`, for which the characters of the segments stand (ISO/IEC
--- 18004:2015, 7.4.2, 7.4.8.2)
+-- The content that has to be read from a symbol. Its header is `h`, if there is one. Its items are the ECI header or
+-- FNC1 of the interpretation `i`, and then the segments. Its bytes are `x`, for which the characters of the segments
+-- stand (ISO/IEC 18004:2015, 7.4.2, 7.4.8.2)
 abbrev pub interpreted_content : Interpretation → Option Header → List Segment → List ℕ → Content
 interpreted_content i h segments x = record { header = h; items = items_in i segments; ecis = ecis_in i; bytes = x }
 

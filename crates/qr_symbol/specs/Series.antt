@@ -30,7 +30,8 @@ AreParts v l rule i x (p ∷ ps) = (n : ℕ) × (0 < n) × IsLongestFit i v rule
 abbrev pub FitParts : ℕ → Level → Rule → Interpretation → List ℕ → List (List ℕ) → Type 0
 FitParts v l rule i x parts = (x ≡ concat parts) × All (λ p. HasFit i v rule p (room_of v l i)) parts
 
--- However `x` is cut into parts that fit symbols with structured append headers, there are at least `n` parts [own]
+-- In whatever way `x` is cut into parts that fit symbols with structured append headers, there are at least `n` parts
+-- [own]
 abbrev pub NeedsParts : ℕ → Level → Rule → Interpretation → List ℕ → ℕ → Type 0
 NeedsParts v l rule i x n = (parts : List (List ℕ)) → FitParts v l rule i x parts → n ≤ length parts
 

@@ -1,4 +1,4 @@
--- Definitions that only contracts of private functions use.
+-- Definitions that only the contracts of private functions and private types use.
 pub mod Words
 pub mod Spans
 pub mod Patterns

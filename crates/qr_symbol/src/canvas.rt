@@ -1,7 +1,7 @@
 //! Draws symbols on a canvas, which all symbols of a series share (ISO/IEC 18004:2015, 7.7 and 7.8). Function patterns
 //! and version information are drawn once for a series, and codewords once for each symbol. Masks are tried two at a
-//! time, by drawing the symbol under each mask with the format information of the mask. At the end this is done once
-//! more for the best mask.
+//! time: the symbol is drawn under each of the two masks, with the format information of this mask. At the end the
+//! symbol is drawn once more, under the best mask.
 
 ghost use Rattle.std.specs.Prelude.{◌≡◌, Bool, ◌<◌, if◌then◌else◌, IfOk};
 ghost use Rattle.qr_layout.specs.Version.{side_of};
@@ -17,9 +17,9 @@ use qr_matrix::{Matrix, MatrixPair};
 use std::alloc::{AllocError, Global};
 use std::mem;
 
-// The format information that `plain` has: only the modules of bit 7 are dark. With it, `plain` has the same colours
-// outside the region if rows and columns are exchanged. The dark module is exchanged with a module of bit 7, so the
-// modules of bit 7 have to be dark too.
+// The format information that `plain` has: only the modules of bit 7 are dark. With it, exchanging rows and columns of
+// `plain` changes no colour outside the region. The exchange puts a module of bit 7 in the place of the dark module, so
+// the modules of bit 7 have to be dark too.
 const SYMMETRIC_FORMAT: u32 = 1 << 7;
 
 /// The squares from which symbols are made. In `region` exactly the region is dark. `plain` is a symbol before its mask
@@ -52,9 +52,10 @@ impl Canvas {
         })
     }
 
-    // Draws the codewords in place of those of the earlier symbol. They are drawn into the old `plain`, which serves as
-    // the transposed square, because outside the region `plain` and its transposed square are the same. Afterwards
-    // `across` has this square, and the new `plain` has it with rows and columns exchanged.
+    // Draws the codewords of a symbol. If `plain` has those of an earlier symbol, they are replaced. The codewords are
+    // drawn into the square that `plain` has before the call, as if it were transposed. This is possible because
+    // outside the region, exchanging rows and columns changes no colour of `plain`. Afterwards `across` has the square
+    // that was drawn, and `plain` has this square with rows and columns exchanged.
     #[inline(never)]
     pub(crate) fn draw_data(&mut self, across: &mut Matrix, codewords: &[u8])
         requires { IsSquare (side_of self.old.version) across.old }
@@ -82,8 +83,8 @@ impl Canvas {
         draw_format(matrix, self.version, format);
     }
 
-    // As `draw_masked`, but in two squares, each under a mask of its own. Rows whose indices differ by a multiple of
-    // twelve have the same pattern, and are set together.
+    // As `draw_masked`, but draws into two squares, each under a mask of its own. Rows whose indices differ by a
+    // multiple of twelve have the same pattern, and are set together.
     pub(crate) fn draw_both_masked(&self, pair: &mut MatrixPair, masks: (u8, u8))
         requires masks_in { (masks.0 < 8) × (masks.1 < 8) }
         requires squares { (second : Bool) → IsSquare (side_of self.now.version) (one_of pair.old second) }

@@ -20,12 +20,12 @@ use qr_layout::{Strip, Version, all_strips};
 use qr_matrix::Matrix;
 use std::alloc::{AllocError, Global};
 
-// The most rows that are read at once. They have 56 bits, and a word of 64 bits has to hold these and up to seven bits
-// that were collected before.
+// The most rows that are read at once. So many rows have 56 bits, and a word of 64 bits has to hold these and up to
+// seven bits that were collected before.
 const ROWS_MAX: u8 = 28;
 
-// Collects the bits of `count` rows, from row `top` down, whose modules are all in the region. The bound on `top` is
-// the number of bits in a bit row.
+// Collects the bits of `count` neighbouring rows of a strip, of which row `top` is the topmost. Both modules of each of
+// these rows are in the region. The bound on `top` is the number of bits in a bit row.
 #[inline(always)]
 fn collect_rows(bits: &mut Collector, columns: &Columns, top: u8, count: u8, upward: bool)
     requires top_in { top < 192 }
@@ -62,8 +62,9 @@ fn collect_columns(
     }
 }
 
-// As `collect_columns`, but takes the columns from the squares. `collect_columns` is called in two places, so that the
-// compiler makes separate code for strips that are filled upward and for those that are filled downward.
+// As `collect_columns`, but takes the columns of the strip from the squares `across` and `region`. `collect_columns` is
+// called in two places, so that the compiler makes separate code for strips that are filled upward and for those that
+// are filled downward.
 fn collect_strip(
     bits: &mut Collector,
     across: &Matrix,

@@ -1,7 +1,8 @@
 //! Encodes an input as one symbol (ISO/IEC 18004:2015, 7.1). The version of the symbol and the segments of the input
-//! are found first (`version_choice.rt`). The segments are written as data codewords, which are interleaved with the
-//! error correction codewords. Then the symbol is drawn on a canvas (`canvas.rt`). A canvas has two squares: one shows
-//! the region, and the other has the function patterns, to which the codewords are added.
+//! are found first (`version_choice.rt`). The segments are written as data codewords, and from these the final sequence
+//! is made, which also has the error correction codewords (`interleaving.rt`). Then the symbol is drawn on a canvas
+//! (`canvas.rt`). A canvas has two squares: one shows the region, and the other has the function patterns, to which the
+//! codewords are added.
 
 ghost use Rattle.std.specs.Prelude.{◌≡◌, ◌≢◌, ◌+◌, ◌<◌, ◌≤◌, ◌↔◌, ◌⊎◌, ℕ, List, [], length, Err, IfOk, IfErr, MatchResult};
 ghost use Rattle.std.specs.Option.{ForSome};
@@ -45,7 +46,7 @@ use std::alloc::Global;
 ///
 /// # Notes
 ///
-/// The level comes before the version here, and after it in `encode_series`.
+/// The order of the parameters differs: the level comes before the version here, and after it in `encode_series`.
 pub fn encode(
     alloc: Global,
     input: &[u8],
@@ -81,9 +82,9 @@ pub fn encode(
     )
 }
 
-/// As `encode`, but `level` is the lowest that the symbol may have. The version is that of `encode`, and the level is
-/// the highest at which the input fits this version. So the symbol has no more modules than that of `encode`, and as
-/// much error correction as there is room for.
+/// As `encode`, but `level` is the lowest level that the symbol may have. The symbol has the version that `encode`
+/// would choose, and the highest level at which the input fits this version. So it has no more modules than the symbol
+/// that `encode` makes, and as much error correction as there is room for.
 ///
 /// # Errors
 ///
@@ -201,7 +202,7 @@ fn final_codewords(
     Ok(interleave(alloc, version, level, &message)?)
 }
 
-// As `symbol_at`, but draws on the given canvas, whose version and level the symbol gets.
+// As `symbol_at`, but draws on the given canvas. The symbol gets the version and the level of the canvas.
 pub(crate) fn symbol_on(
     alloc: Global,
     canvas: &mut Canvas,

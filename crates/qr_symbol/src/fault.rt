@@ -66,13 +66,15 @@ pub enum ReadFault {
     #[error("no version has this side")]
     Side,
     /// In reading, this means that the copy of the format information beside the top left finder pattern belongs to no
-    /// level and mask. In mending, it means that each copy costs more than 6 for every level and mask. A module of a
-    /// copy costs 1 if it was not read, and 2 if it is misread.
+    /// level and mask. In mending, it means that with every level and mask each of the two copies costs more than 6.
+    /// With a given level and mask, a module of a copy costs 1 if it was not read, and 2 if it was read with another
+    /// colour than they require.
     #[error("the format information is damaged")]
     Format,
     /// In reading, this means that the error correction codewords of some block do not belong to its data codewords. In
-    /// mending, it means that for each level and mask that the format information admits, some block has more damage
-    /// than can be corrected.
+    /// mending, it means that with each level and mask that is tried, some block has more damage than can be corrected.
+    /// A level and a mask are tried if a copy of the format information costs at most 6 with them, as counted at
+    /// `Format`.
     #[error("a codeword is damaged")]
     Check,
     /// The data codewords cannot be parsed, for a reason other than `ParseFault::Memory`.
@@ -86,7 +88,7 @@ pub enum ReadFault {
 impl ReadFault {
     ghost use Rattle.qr_symbol.specs.Fault.{read_fault_number};
 
-    /// Returns the number of the fault, from 1 to 6 in the order of `ReadFault`.
+    /// Returns the number of the fault, from 1 to 6 in the order in which `ReadFault` lists the faults.
     ///
     /// # Notes
     ///

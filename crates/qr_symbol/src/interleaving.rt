@@ -1,6 +1,6 @@
-//! Makes the final sequence of codewords from the data codewords, and undoes it (ISO/IEC 18004:2015, 7.5.2 and 7.6).
-//! Codewords of one kind, data or error correction, are listed in two ways: one block after the other, or interleaved.
-//! With three blocks, of which the last is long, the two lists are:
+//! Makes the final sequence of codewords from the data codewords, and finds the data codewords of a final sequence
+//! (ISO/IEC 18004:2015, 7.5.2 and 7.6). Codewords of one kind, data or error correction, are listed in two ways: one
+//! block after the other, or interleaved. With three blocks, of which the last is long, the two lists are:
 //!
 //! ```text
 //! one block after the other      interleaved, row by row
@@ -10,7 +10,8 @@
 //!                                      c3
 //! ```
 //!
-//! The final sequence has the interleaved data codewords, and after them the interleaved error correction codewords.
+//! The final sequence begins with the interleaved data codewords, and ends with the interleaved error correction
+//! codewords.
 
 ghost use Rattle.std.specs.Prelude.{◌≡◌, ◌≢◌, ◌↔◌, ℕ, ◌+◌, ◌<◌, ◌≤◌, ◌⊎◌, List, length, Err, IfOk, IfErr, MatchResult};
 ghost use Rattle.qr_layout.specs.Blocks.{data_codewords_of};
@@ -23,8 +24,8 @@ use qr_field::Divisor;
 use qr_layout::{Blocks, Level, Version};
 use std::alloc::{AllocError, Global};
 
-/// The sizes of the blocks into which codewords are divided: `short` blocks, then `long` blocks that have one codeword
-/// more (ISO/IEC 18004:2015, 7.5.1).
+/// The sizes of the blocks into which codewords are divided: first `short` short blocks, and then `long` long blocks,
+/// each of which has one codeword more (ISO/IEC 18004:2015, 7.5.1).
 #[derive(Clone, Copy)]
 pub struct BlockSizes {
     pub short: u16,
@@ -129,7 +130,7 @@ impl BlockSizes {
 }
 
 // The error correction codewords of all blocks, one block after the other. A block has at most 30 of them (Table 9).
-// Two blocks are taken at once, since two divisions side by side take little longer than one. If the number of blocks
+// Two blocks are taken at once, because two divisions side by side take little longer than one. If the number of blocks
 // is odd, the last block is taken alone.
 fn corrections(alloc: Global, blocks: Blocks, message: &[u8]) -> Result<Vec<u8>, AllocError>
     requires whole { length message.now ≡ codeword_count (data_sizes blocks) }
@@ -156,9 +157,9 @@ fn corrections(alloc: Global, blocks: Blocks, message: &[u8]) -> Result<Vec<u8>,
 }
 
 // Interleaves the data codewords, and after them the error correction codewords. This function is not inlined, for two
-// reasons. If it were, LLVM would know how many blocks there can be, and would compute the index of each codeword by a
-// multiplication instead of an addition. And its variables would be on the stack while error correction codewords are
-// computed.
+// reasons. If it were inlined, LLVM would know how many blocks there can be, and would compute the index of each
+// codeword by a multiplication instead of an addition. Its variables would also be on the stack while error correction
+// codewords are computed.
 #[inline(never)]
 fn interleave_both(
     alloc: Global,
@@ -201,8 +202,8 @@ pub fn interleave(
     interleave_both(alloc, blocks, message, &corrections)
 }
 
-// Undoes `scatter`. This function is not inlined. If it were, LLVM would compute the index of each codeword by a
-// multiplication instead of an addition.
+// Undoes `scatter`. This function is not inlined. If it were inlined, LLVM would compute the index of each codeword by
+// a multiplication instead of an addition.
 #[inline(never)]
 fn deinterleave_into(message: &mut [u8], sizes: BlockSizes, codewords: &[u8])
     requires room { length message.old ≡ codeword_count sizes }
@@ -224,8 +225,8 @@ fn deinterleave_into(message: &mut [u8], sizes: BlockSizes, codewords: &[u8])
     }
 }
 
-// Returns the data codewords. The error correction codewords are computed from them, and compared with those that were
-// read. If they differ, the function returns `Check` instead.
+// Returns the data codewords of a final sequence. The error correction codewords are computed from them, and compared
+// with those that `codewords` has. If these differ, the function returns `Check` instead.
 fn deinterleave_blocks(
     alloc: Global,
     blocks: Blocks,

@@ -58,8 +58,8 @@ fn has_header(content: &Parsed, position: usize, last: usize, parity: u8) -> boo
     }
 }
 
-// Whether the contents are those of a whole series, in order (8.1 to 8.3). `parity` is the parity data of the bytes of
-// all contents, which each header must have.
+// Whether the contents are those of a whole series, in order (8.1 to 8.3). Each header has to have the parity data
+// `parity`, which are those of the bytes of all contents.
 fn are_in_series(contents: &[Parsed], parity: u8) -> bool
     ensures { Decides result ((0 < length contents.now)
         × HaveHeaders (length contents.now - 1) parity 0 contents.now) }
@@ -76,14 +76,15 @@ fn are_in_series(contents: &[Parsed], parity: u8) -> bool
     true
 }
 
-/// Joins the bytes of the contents in order. The contents must be those of one symbol without a structured append
-/// header, or those of a whole series (ISO/IEC 18004:2015, 8). A series is whole if the headers have the positions 0,
-/// 1, 2 and so on in this order, and if each header has the number of contents less 1 and the parity data of all bytes.
+/// Joins the bytes of the contents in order. This succeeds only if the contents are those of one symbol without a
+/// structured append header, or those of a whole series (ISO/IEC 18004:2015, 8). A series is whole if the headers have
+/// the positions 0, 1, 2 and so on in this order, and if each header has the number of contents less 1 and the parity
+/// data of all bytes.
 ///
 /// # Errors
 ///
-/// Returns `Series` if the contents are those of neither, or if there are no contents. Returns `Memory` if an
-/// allocation is refused.
+/// Returns `Series` if the contents are neither those of one such symbol nor those of a whole series, or if there are
+/// no contents. Returns `Memory` if an allocation is refused.
 pub fn join(alloc: Global, contents: &[Parsed]) -> Result<Vec<u8>, ReadFault>
     ensures { MatchResult result
         (λ bytes. BelongTogether contents.now × (bytes.items ≡ bytes_of_all contents.now))
@@ -98,8 +99,9 @@ pub fn join(alloc: Global, contents: &[Parsed]) -> Result<Vec<u8>, ReadFault>
     }
 }
 
-/// Reads the symbols, and joins their bytes in order. The symbols must be one symbol without a structured append
-/// header, or a whole series as `join` defines it (ISO/IEC 18004:2015, 8). Only the field `matrix` of a symbol is read.
+/// Reads the symbols, and joins their bytes in order. This succeeds only if they are one symbol without a structured
+/// append header, or a whole series as `join` defines it (ISO/IEC 18004:2015, 8). Only the field `matrix` of a symbol
+/// is read.
 ///
 /// # Errors
 ///

@@ -45,8 +45,8 @@ use qr_layout::{Level, Version};
 use qr_matrix::Matrix;
 use std::alloc::{AllocError, Global};
 
-/// Each mask repeats every twelve rows and six columns, and its first twelve rows are those worked out by hand from
-/// Table 10.
+/// Each mask repeats every twelve rows and six columns, and its first twelve rows are those that were worked out by
+/// hand from Table 10.
 pub fn masks_compute()
     ensures repeated { (mask r c : ℕ) → mask < 8 → inverts mask r c ≡ inverts mask (r % 12) (c % 6) }
     ensures rows { map first_rows all_masks ≡ computed_rows }
@@ -101,8 +101,8 @@ pub fn interleaving_is_one(version: Version, level: Level)
         → IsInterleaved version level d xs → IsInterleaved version level e xs → d ≡ e }
 {}
 
-/// Let two squares of one version and level contain different data codewords. Then in some block they differ in more
-/// codewords than the block has error correction codewords.
+/// If two squares of one version and level contain different data codewords, there is a block in which they differ in
+/// more codewords than the block has error correction codewords.
 #[tactic(auto, using(crate::proofs::Named::laws_of_messages))]
 pub fn messages_lie_apart(version: Version, level: Level)
     ensures { MessagesLieApart version level }
@@ -193,21 +193,22 @@ pub fn symbols_are_one()
 {}
 
 /// For a given lowest level, rule, interpretation and smallest version, `encode_boosted` can make at most one symbol of
-/// an input. It has the least version that is possible, and in this version the highest level.
+/// an input. This symbol has the least version, from the smallest on, that the input fits at the lowest level. Its
+/// level is the highest at which the input fits this version.
 pub fn boosted_symbols_are_one()
     ensures { BoostedSymbolsAreOne }
 {}
 
 /// Take a symbol that `encode_boosted` makes. If `encode` is given the level of this symbol, and the version of this
-/// symbol as the smallest, it makes the same symbol of the same input. So the laws of the symbols of `encode` hold of
-/// this symbol too.
+/// symbol as the smallest, it makes the same symbol of the same input. So the laws about symbols that `encode` makes
+/// hold for this symbol too.
 pub fn boosted_symbols_are_symbols()
     ensures { (x : List ℕ) (l k : Level) (smallest : ℕ) (rule : Rule) (i : Interpretation) (v mask : ℕ) (g : Grid)
         → IsBoostedSymbol smallest l rule i x v k mask g → IsSymbol v k rule i x v mask g }
 {}
 
-/// Reading the symbol of an input yields its bytes, its interpretation, the segments of fewest bits, and no structured
-/// append header.
+/// Reading the symbol of an input yields the bytes of the input, the interpretation, the segments of fewest bits, and
+/// no structured append header.
 pub fn symbols_are_read(smallest: Version)
     ensures { (x : List ℕ) (l : Level) (rule : Rule) (i : Interpretation) (v mask : ℕ) (g : Grid)
         → MayWrite i x → (s : IsSymbol smallest l rule i x v mask g)
@@ -221,9 +222,9 @@ pub fn series_are_one()
 {}
 
 /// Each part into which `encode_series` cuts an input fits a symbol with a structured append header. The rest of this
-/// law is about rules without kanji mode. No other way to cut the input into parts that fit yields fewer parts. So the
-/// series of a nonempty input has the least possible number of symbols. And an input without a series cannot be cut
-/// into 16 or fewer parts that fit.
+/// law is about rules without kanji mode. With such a rule, no other way to cut the input into parts that fit yields
+/// fewer parts. So the series of a nonempty input has the least possible number of symbols. And an input without a
+/// series cannot be cut into 16 or fewer parts that fit.
 pub fn series_are_shortest()
     ensures fit { (v : ℕ) (l : Level) (rule : Rule) (i : Interpretation) (x : List ℕ)
         (parts : List (List ℕ)) → AreParts v l rule i x parts → FitParts v l rule i x parts }
@@ -237,14 +238,15 @@ pub fn series_are_shortest()
         → MayWrite i x → may_use rule Mode.Kanji ≡ false → HasNoSeries v l rule i x → NeedsParts v l rule i x 17 }
 {}
 
-/// Every input can be cut into parts, since each symbol has room for a structured append header and at least one byte.
+/// Every input can be cut into parts, because each symbol has room for a structured append header and at least one
+/// byte.
 #[tactic(auto, using(crate::proofs::Named::laws_of_parts))]
 pub fn parts_are_there(version: Version, level: Level)
     ensures { (rule : Rule) (i : Interpretation) (x : List ℕ)
         → (parts : List (List ℕ)) × AreParts version level rule i x parts }
 {}
 
-/// Take an input that has no interpretation and is cut into parts. Each part has at least five bytes, or is all that is
+/// If an input with `Interpretation::Default` is cut into parts, each part has at least five bytes, or is all that is
 /// left after the earlier parts.
 #[tactic(auto, using(crate::proofs::Named::laws_of_parts))]
 pub fn parts_are_long(version: Version, level: Level)
@@ -260,7 +262,7 @@ pub fn series_have_one_side(version: Version)
         → IsSeries version l rule i x ss → length ss ≤ 16 }
 {}
 
-/// The symbols of the series of an input are joined to this input.
+/// If the symbols of the series of an input are read and their bytes are joined, the result is this input.
 pub fn series_are_joined(version: Version)
     ensures { (x : List ℕ) (l : Level) (rule : Rule) (i : Interpretation) (ss : List Symbol)
         → MayWrite i x → IsSeries version l rule i x ss → IsJoined (squares_of ss) x }
@@ -272,7 +274,7 @@ pub fn series_keep_their_interpretation(version: Version)
         → MayWrite i x → IsSeries version l rule i x ss → AreInterpreted i (squares_of ss) }
 {}
 
-/// An input of `INPUT_MAX` bytes or more fits no version, and has no series, since it would be cut into more than 16
+/// An input of `INPUT_MAX` bytes or more fits no version, and has no series, because it would be cut into more than 16
 /// parts.
 pub fn long_inputs_have_none(version: Version)
     ensures symbol { (x : List ℕ) (l : Level) (rule : Rule) (i : Interpretation) → INPUT_MAX ≤ length x
@@ -283,8 +285,9 @@ pub fn long_inputs_have_none(version: Version)
         → HasNoSeries version l rule i x }
 {}
 
-/// For two examples of the standard, the bits that are drawn are those that the standard prints, the highest first. The
-/// examples are the format information of level M with mask 101 (binary), and the version information of version 7.
+/// For two examples of the standard, the bits that are drawn are those that the standard prints, with the highest bit
+/// first. The examples are the format information of level M with mask 101 (binary), and the version information of
+/// version 7.
 #[tactic(auto, unfolding(qr_layout::specs::Format::format_word_of, qr_layout::specs::Format::version_word_of, qr_layout::specs::Format::word_remainder, qr_matrix::specs::BitRow::has_bit))]
 pub fn drawn_bits_compute()
     ensures format { (v r c : ℕ) (cw : List ℕ) → bits_down 15 (λ i. colour_by v Level.M 5 cw r c (FormatBit i))
@@ -313,7 +316,7 @@ pub fn sixteen_parts_are_a_series()
         → AreParts v l rule i x parts → length parts ≤ 16 → HasNoSeries v l rule i x → ⊥ }
 {}
 
-/// The faults of reading are numbered from 1 to 6, in the order of `ReadFault`.
+/// The faults of reading are numbered from 1 to 6, in the order in which `ReadFault` lists them.
 pub fn read_faults_are_numbered()
     ensures memory { read_fault_number ReadFault.Memory ≡ 1 }
     ensures side { read_fault_number ReadFault.Side ≡ 2 }

@@ -44,7 +44,7 @@ fn fill_around(matrix: &mut Matrix, centre: Place, distance: u8, dark: bool)
 }
 
 // Draws a finder pattern and its separator. Together they fill eight by eight modules, of which `area` is the top left
-// one. The pattern is three squares, one inside the other, of 7, 5 and 3 modules a side.
+// one. The pattern is three squares around `centre`, one inside the other, of 7, 5 and 3 modules a side.
 fn paint_finder(matrix: &mut Matrix, version: Version, area: Place, centre: Place)
     requires square { IsSquare (side_of version) matrix.old }
     requires bottom_in { area.row + 8 ≤ side_of version }
@@ -90,9 +90,9 @@ pub(crate) fn draw_format(matrix: &mut Matrix, version: Version, format: u32)
     draw_format_bits(matrix, version, format, 9, FORMAT_BITS);
 }
 
-// As `draw_format`, but draws in two squares, each with a format information of its own. A write to a row has to wait
-// until the previous write to this row is done. So the bits in row 8 are written several at a time, which takes fewer
-// writes.
+// As `draw_format`, but draws in two squares, each with its own format information. On the processor, a write to a row
+// has to wait until the previous write to this row is done. So the bits in row 8 are written several at a time, which
+// takes fewer writes.
 pub(crate) fn draw_both_formats(pair: &mut MatrixPair, version: Version, formats: (u32, u32))
     requires { (second : Bool) → IsSquare (side_of version) (one_of pair.old second) }
     ensures { (second : Bool) → one_of pair.new second ≡ square (side_of version)

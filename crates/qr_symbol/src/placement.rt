@@ -20,13 +20,13 @@ use crate::words::{bit_at, bits_at, split};
 use qr_layout::{Place, Strip, Version, all_strips, walk};
 use qr_matrix::Matrix;
 
-// The most rows that are drawn at once: a word of 64 bits has two bits for each row.
+// The most rows that are drawn at once, because a word of 64 bits has two bits for each of 32 rows.
 const ROWS_MAX: u8 = 32;
 
 // Draws the columns of a strip. The first bit of the strip has the number `first`, and the function returns the number
-// of the first bit after the strip. The modules of the region were light before, so only the modules whose bits are 1
-// are made dark. There is no branch on the value of a bit, since no processor could predict such a branch. The bound on
-// `first` is the number of bits in the 3,706 codewords of version 40.
+// of the first bit after the strip. The caller has made the modules of the region light, so only the modules whose bits
+// are 1 are made dark. There is no branch on the value of a bit, because no processor could predict such a branch. The
+// bound on `first` is the number of bits in the 3,706 codewords of version 40.
 #[inline(always)]
 fn draw_columns(
     columns: &mut Columns,
@@ -70,10 +70,10 @@ fn draw_columns(
     number
 }
 
-// Draws all codewords into the transposed square. Outside the region the square keeps its colours. From each strip the
-// two columns are taken, the region in them is made light, they are drawn, and put back. `draw_columns` is called in
-// two places, so that the compiler makes separate code for strips that are filled upward and for those that are filled
-// downward.
+// Draws all codewords into the transposed square. Outside the region the square keeps its colours. The two columns of
+// each strip are taken out, their modules of the region are made light, the codeword bits are drawn in them, and they
+// are put back. `draw_columns` is called in two places, so that the compiler makes separate code for strips that are
+// filled upward and for those that are filled downward.
 pub(crate) fn draw_codewords(
     across: &mut Matrix,
     version: Version,

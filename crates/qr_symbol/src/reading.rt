@@ -38,7 +38,7 @@ fn has_format(matrix: &Matrix, level: Level, mask: u8) -> bool
     true
 }
 
-// The mask of the format information, if its level is `level`.
+// The mask that the format information states, or `None` if it does not state the level `level`.
 fn mask_of(matrix: &Matrix, level: Level) -> Option<u8>
     requires { 21 ≤ matrix.now.side }
     ensures { MatchOption result
@@ -53,8 +53,8 @@ fn mask_of(matrix: &Matrix, level: Level) -> Option<u8>
     None
 }
 
-// The level and mask of the format information. At most one pair of them matches, so it does not matter which is tried
-// first.
+// The level and mask of the format information. At most one pair of level and mask matches, so the order in which the
+// pairs are tried does not matter.
 fn format_of(matrix: &Matrix) -> Option<(Level, u8)>
     requires { 21 ≤ matrix.now.side }
     ensures { MatchOption result

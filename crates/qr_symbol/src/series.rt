@@ -90,9 +90,9 @@ pub fn encode_series(
 }
 
 // The symbol without a structured append header, or `None` if the input does not fit such a symbol. The number of
-// bytes, or a lower bound on the number of bits, may show that it does not fit, before the input is cut into segments.
-// If only byte mode is allowed, the bound is not computed: the input then becomes a single segment, so cutting it takes
-// no time.
+// bytes, or a lower bound on the number of bits, may show that the input does not fit before it is cut into segments.
+// If only byte mode is allowed, the bound is not computed: the input then becomes a single segment, which takes no time
+// to find.
 fn plain_symbol(
     alloc: Global,
     input: &[u8],

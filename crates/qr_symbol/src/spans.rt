@@ -1,5 +1,6 @@
-//! The spans of a strip. A span is a group of neighbouring rows that are drawn or read at once. Spans follow each other
-//! in the direction in which the strip is filled (ISO/IEC 18004:2015, 7.7.3).
+//! The spans of a strip. A span is a group of neighbouring rows that are drawn or read at once, or that are skipped
+//! because they are outside the region. Spans follow each other in the direction in which the strip is filled (ISO/IEC
+//! 18004:2015, 7.7.3).
 //!
 //! In the transposed square the two columns of a strip are rows, and one word of 64 bits holds 64 modules of such a
 //! row. The drawing shows a square of four by four modules that are all in the region. Each number in the drawing is
@@ -43,8 +44,8 @@ pub(crate) fn columns_of(across: &Matrix, right: u8) -> Columns
     }
 }
 
-// `both` are the rows of a strip whose two modules are in the region, and `neither` those whose two modules are outside
-// it.
+// `both` has the rows of a strip of which both modules are in the region, and `neither` has the rows of which no module
+// is in the region.
 #[derive(Clone, Copy)]
 pub(crate) struct RegionRows {
     pub both: BitRow,
@@ -99,9 +100,9 @@ impl Spans {
         }
     }
 
-    // The number of rows whose bits are set in `rows`, counted from the next row on in the direction of the strip.
-    // Counting ends before the first row whose bit is not set, at the end of the strip, or at the end of a word of 64
-    // bits.
+    // The number of rows whose bits are set in `rows`, counted from the next row on in the direction in which the strip
+    // is filled. Counting ends before the first row whose bit is not set, at the end of the strip, or at the end of a
+    // word of 64 bits.
     #[inline(always)]
     fn rows_set(&self, rows: &BitRow) -> u8
         requires side { self.now.side ≤ 177 }

@@ -32,7 +32,8 @@ const SMALL: u8 = 9;
 const MEDIUM: u8 = 26;
 
 // An upper bound on the number of bytes in a symbol of versions 1 to 26. No bytes take fewer bits than digits, and
-// three digits take ten bits (7.4.3). The data codewords of version 26 at level L have 10,960 bits.
+// three digits take ten bits (7.4.3). The data codewords of version 26 at level L have 10,960 bits, which is ten bits
+// for each three of 3,288 digits.
 const MEDIUM_BYTES: usize = 3288;
 
 // A version that an input fits, and the segments of the input in this version.
@@ -65,9 +66,9 @@ fn capacity_at(number: u8, level: Level) -> u64
 }
 
 // Returns the first version of a range: 1, 10 or 27. The input fits no version of the ranges before this one. The
-// number of bytes, or a lower bound on the number of bits, shows this without cutting the input into segments. The
-// bound is compared with the greatest capacity in a range, which is that of the last version. If only byte mode is
-// allowed, the bound is not computed, since it would save little time.
+// number of bytes, or a lower bound on the number of bits, shows this before the input is cut into segments. The lower
+// bound is compared with the capacity of the last version of a range, which is the greatest in this range. If only byte
+// mode is allowed, the bound is not computed, since it would save little time.
 fn first_for(input: &[u8], level: Level, rule: Rule, interpretation: Interpretation) -> u8
     requires { length input.now ≤ INPUT_MAX }
     ensures first { 1 ≤ result }
@@ -91,8 +92,9 @@ fn first_for(input: &[u8], level: Level, rule: Rule, interpretation: Interpretat
 }
 
 // Finds the least version, from `smallest` on, that the input fits, and the segments of the input in this version. Goes
-// through the ranges of versions 1 to 9, 10 to 26 and 27 to 40, and cuts the input into segments once for each range.
-// The search ends at the first version that has room for the segments that were cut for its range.
+// through the ranges of versions 1 to 9, 10 to 26 and 27 to 40, from the first range on that has a version to be tried,
+// and cuts the input into segments once for each range. The search ends at the first version that has room for the
+// segments that were cut for its range.
 pub(crate) fn least_fit<'a>(
     alloc: Global,
     input: &'a [u8],
@@ -116,7 +118,7 @@ pub(crate) fn least_fit<'a>(
     let mut first = Version::new(smallest.number().max(start)).unwrap();
     loop {
         // The last version of the range that contains `first`. In all versions of a range, character count indicators
-        // have the same widths (7.4.1, Table 3).
+        // have the same widths (7.4.1, Table 3), so the segments that are cut for `first` take the same number of bits.
         let last = match first.number() {
             1..=SMALL => SMALL,
             10..=MEDIUM => MEDIUM,

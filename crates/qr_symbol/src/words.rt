@@ -31,8 +31,9 @@ const OF_32: u64 = 0x0000_FF00_0000_FF00;
 
 const OF_64: u64 = 0x0000_0000_FFFF_0000;
 
-// Exchanges bit i and bit i + `steps` of `bits`, for each i whose bit of `mask` is set. The bit i + `steps` of `mask`
-// is then not set. Two bits that differ are exchanged by inverting both, and two equal bits stay as they are.
+// Exchanges bit i and bit i + `steps` of `bits`, for each i whose bit of `mask` is set. No two bits of `mask` that are
+// set have indices that differ by `steps`, so no bit is exchanged twice. Two bits that differ are exchanged by
+// inverting both, and two equal bits stay as they are.
 #[inline(always)]
 #[tactic(auto, using(crate::proofs::Named::exchanges))]
 fn exchange_bits(bits: u64, steps: u32, mask: u64) -> u64
@@ -89,8 +90,8 @@ fn interleaved(odd: u64, even: u64) -> u64
     shuffled(odd << 32 | even & 0xFFFF_FFFF)
 }
 
-// As `exchange_bits`, but for a mask with which every bit is moved: one half of the bits moves down by `steps`, and the
-// other half moves up by `steps`.
+// As `exchange_bits`, but for a mask with which every bit is exchanged: one half of the bits moves down by `steps`, and
+// the other half moves up by `steps`.
 #[inline(always)]
 #[tactic(auto, using(crate::proofs::Named::exchanges))]
 fn exchange_all(bits: u64, steps: u32, mask: u64) -> u64
@@ -101,8 +102,9 @@ fn exchange_all(bits: u64, steps: u32, mask: u64) -> u64
     bits >> steps & mask | (bits & mask) << steps
 }
 
-// Reverses the order of the 64 bits. `u64::reverse_bits` does the same, but Rattle's kit compiles it to a loop over the
-// bits. The last three exchanges reverse the order of the bytes, and LLVM makes one instruction of them.
+// Reverses the order of the 64 bits. `u64::reverse_bits` does the same, but the compiler of Rattle's kit turns it into
+// a loop over the bits. The last three exchanges reverse the order of the bytes, and LLVM makes one instruction of
+// them.
 #[inline(always)]
 #[tactic(auto, unfolding(crate::specs::Steps::Words::are_pairs, crate::specs::Steps::Words::are_halves, qr_matrix::specs::BitRow::has_bit))]
 pub(crate) fn reversed(bits: u64) -> u64
@@ -160,9 +162,9 @@ pub(crate) fn joined(right: u64, left: u64, upward: bool, count: u8) -> u64
     }
 }
 
-// The bits of the eight codewords from index `first` on, with the first bit as the highest. Each codeword after the
-// last one counts as 0. The bound on `first` follows from the bound on `number` in `bits_at`, since a codeword has
-// eight bits.
+// The bits of eight codewords, from that with the index `first` on, as a number of which the first bit is the highest.
+// Missing codewords after the last one count as 0. The bound on `first` follows from the bound on `number` in
+// `bits_at`, since a codeword has eight bits.
 #[inline(never)]
 fn last_codewords(codewords: &[u8], first: usize) -> u64
     requires { first ≤ 5000 }
@@ -175,9 +177,9 @@ fn last_codewords(codewords: &[u8], first: usize) -> u64
     bits
 }
 
-// The 64 bits of the codewords from bit `number` on, with the first as the highest. They are in nine codewords, unless
-// `number` is a multiple of 8. The bound on `number` is only for the prover. It is above 29,648, the most bits that the
-// codewords of a symbol have.
+// The 64 bits of the codewords from bit `number` on, as a number of which the first bit is the highest. Unless `number`
+// is a multiple of 8, the bits are in nine codewords. The bound on `number` is only for the prover. It is above 29,648,
+// the most bits that the codewords of a symbol have.
 #[inline(always)]
 pub(crate) fn bits_at(codewords: &[u8], number: usize) -> u64
     requires { number ≤ 40000 }
@@ -293,7 +295,7 @@ impl Collector {
             ..
         } = self;
         if is_refused {
-            // An earlier call met this error, and could not return it.
+            // The allocation was refused when bits were appended, and those functions return no error.
             Err(AllocError)
         } else {
             Ok(whole)

@@ -1,7 +1,7 @@
 -- The table of best modes. It has a row for each byte, with the best mode of the byte for each state that may come
--- before it. (The file `RunState` says what a state is.) A choice is a mode of a byte, with the number of bits that
--- this byte and all later ones then take. `rest` has the best choices of the next byte, one for each state after the
--- byte. `pair` says whether the byte may begin a kanji pair.
+-- before it. (The file `RunState` says what a state is.) A choice is a mode of a byte, with the least number of bits
+-- that this byte and all later ones can then take. `rest` has the best choices for the byte after a given byte, one for
+-- each state that may come between the two. `pair` says whether the byte may begin a kanji pair.
 use Rattle.std.specs.Prelude.{◌≡◌, ℕ, ◌+◌, ◌<◌, ◌/◌, ◌%◌, ◌^◌, nat_le, Bool, List, [], ◌∷◌, map, IsTrue}
 use Rattle.qr_bits.specs.declared.modes.Mode.{Mode}
 use Rattle.qr_bits.specs.declared.modes.Mode.TheVariants.{Alphanumeric}
@@ -43,8 +43,8 @@ abbrev pub AreCharacterChoices : Interpretation → ℕ → Rule → ℕ → Boo
 AreCharacterChoices i v r x pair rest c =
     (c.first ≡ character_choice i v r x pair rest Start) × (c.second ≡ character_choice i v r x pair rest Character1) × (c.next ≡ character_choice i v r x pair rest Character2)
 
--- All choices, as numbers, are below 40,000,000. The choices of inputs of at most `INPUT_MAX` bytes do not reach this
--- bound. If the bits of one more byte are added to a choice below it, the sum still has room in 32 bits
+-- All choices, as numbers, are below 40,000,000. For inputs of at most `INPUT_MAX` bytes choices do not reach this
+-- bound. If the bits of one more byte are added to a choice below the bound, the sum still fits 32 bits
 abbrev pub IsSmall : PerState → Type 0
 IsSmall n =
     (n.start < 40000000) × (n.digit1 < 40000000) × (n.digit2 < 40000000) × (n.digit3 < 40000000) × (n.character1 < 40000000)

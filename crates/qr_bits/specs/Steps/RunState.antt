@@ -1,7 +1,7 @@
 -- What the next byte adds to the bits of an input, in each mode and after each state. A state says which mode the last
--- byte has, and how many bytes of its group there are so far. A group is three digits, two characters, one byte, or a
--- kanji pair. `p` is a state, `v` the version, and `r` the rule. Two bytes are a kanji pair if they pass `test`, and
--- `pair` says whether a byte `x` may begin a pair.
+-- byte has, and how many bytes of its group there are so far. A group is three digits, two characters of alphanumeric
+-- mode, one byte of byte mode, or a kanji pair. `p` is a state, `v` the version, and `r` the rule. `test` says which
+-- two bytes count as a kanji pair, and `pair` says whether a byte `x` may begin a pair.
 use Rattle.std.specs.Prelude.{◌≡◌, ℕ, ◌+◌, ◌*◌, ◌≤◌, Bool, true, false, ◌&&◌, ◌==◌, if◌then◌else◌, List, [], ◌∷◌, IsTrue}
 use Rattle.qr_bits.specs.declared.modes.Mode.{Mode}
 use Rattle.qr_bits.specs.declared.modes.Mode.TheVariants.{Numeric, Alphanumeric, Byte, Kanji}
@@ -138,18 +138,18 @@ pub record IsBestRest (i : Interpretation) (v : ℕ) (r : Rule) (test : ℕ → 
   pub least : (ks : List Mode) → IsTrue (allowed_in i r test p xs ks) → n ≤ cost_of_all i v p xs ks
   pub first : (ks : List Mode) → IsTrue (allowed_in i r test p xs ks) → cost_of_all i v p xs ks ≡ n → IsNotAfter ms ks
 
--- `m` is the best mode that the byte `x` may have after the state `p`. With `m`, this byte and the later ones add `n`
--- bits together, and with no other mode they add fewer. Of all modes with which they add `n` bits, `m` has the lowest
--- rank. The later bytes add `cost q` bits if the state after `x` is `q`
+-- `m` is the best mode that the byte `x` may have after the state `p`. With `m`, this byte and all later bytes add `n`
+-- bits together, and with no other mode of this byte they can add fewer. Of all modes of this byte with which they add
+-- `n` bits, `m` has the lowest rank. The later bytes add `cost q` bits if the state after `x` is `q`
 pub record IsChoice (i : Interpretation) (v : ℕ) (r : Rule) (p : RunState) (x : ℕ) (pair : Bool) (cost : RunState → ℕ) (m : Mode) (n : ℕ) : Type 0 where
   pub is_allowed : IsTrue (may_take_in i r p x pair m)
   pub has_bits : n ≡ cost_in i v p x m + cost (state_in i p x m)
   pub least : (k : Mode) → IsTrue (may_take_in i r p x pair k) → n ≤ cost_in i v p x k + cost (state_in i p x k)
   pub first : (k : Mode) → IsTrue (may_take_in i r p x pair k) → cost_in i v p x k + cost (state_in i p x k) ≡ n → rank m ≤ rank k
 
--- A choice, which is a mode and a number of bits, as one number. Fewer bits make it smaller, and so does a mode of
--- lower rank if the bits are equally many. If the mode is not allowed, the result is the greatest number of 32 bits,
--- which no allowed choice reaches for inputs of at most `INPUT_MAX` bytes
+-- A choice, which is a mode and a number of bits, as one number. Of two choices, the one with fewer bits is the smaller
+-- number. If the bits are equally many, it is the one with the mode of lower rank. If the mode is not allowed, the
+-- result is the greatest number of 32 bits, which no allowed choice reaches for inputs of at most `INPUT_MAX` bytes
 abbrev pub choice_number : Bool → ℕ → Mode → ℕ
 choice_number may bits m = if may then 4 * bits + rank m else 4294967295
 

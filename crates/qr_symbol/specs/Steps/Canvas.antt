@@ -1,5 +1,5 @@
 -- What a canvas has outside the region. All symbols of a series are drawn on one canvas, one after the other. Outside
--- the region they differ only in the format information, which is drawn last.
+-- the region these symbols differ only in the format information, which is drawn last.
 use Rattle.std.specs.Prelude.{◌≡◌, ℕ, ◌<◌, false}
 use Rattle.qr_layout.specs.Version.{side_of}
 use Rattle.qr_layout.specs.Region.{is_in_region}
@@ -7,8 +7,8 @@ use Rattle.qr_matrix.specs.Grid.{Grid, colour, IsSquare}
 use Rattle.qr_symbol.specs.Steps.Patterns.{paint_of, symmetric_format}
 
 -- The square has the function patterns, the dark module, the version information, and the format information in which
--- bit 7 alone is dark. So it is the same outside the region if rows and columns are exchanged. In the region it may
--- have any colours.
+-- bit 7 alone is dark. So exchanging rows and columns changes no colour outside the region. In the region the square
+-- may have any colours.
 pub record HasPatterns (v : ℕ) (g : Grid) : Type 0 where
   pub square : IsSquare (side_of v) g
   pub outside : (r c : ℕ) → r < side_of v → c < side_of v → is_in_region v r c ≡ false → colour g r c ≡ paint_of v symmetric_format r c

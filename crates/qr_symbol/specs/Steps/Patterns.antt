@@ -1,5 +1,5 @@
--- The colours of modules outside the region after each step of drawing. `format` and `version` are the format and the
--- version information as numbers.
+-- The colours of modules outside the region after each step of drawing. `format` is the format information as a number,
+-- and `version` the version information as a number.
 use Rattle.std.specs.Prelude.{◌≡◌, ◌<◌, ℕ, ◌+◌, ◌-◌, ◌%◌, ◌==◌, ◌&&◌, ◌||◌, nat_le, nat_lt, if◌then◌else◌, Bool, false}
 use Rattle.qr_layout.specs.declared.role.Role.{Role}
 use Rattle.qr_layout.specs.declared.role.Role.TheVariants.{Fixed, FormatBit, VersionBit, Region}
@@ -29,7 +29,7 @@ pub record IsOver (s : ℕ) (test paint other : ℕ → ℕ → Bool) (g : Grid)
   pub colours : (r c : ℕ) → r < s → c < s → colour g r c ≡ (if test r c then paint r c else other r c)
 
 -- The place in row `r` and column `c` is in the square of eight by eight modules whose top left module is in row `top`
--- and column `left`. Such a square has a finder pattern and its separator.
+-- and column `left`. In three corners of a symbol, such a square consists of a finder pattern and its separator.
 abbrev pub is_in_finder_area : ℕ → ℕ → ℕ → ℕ → Bool
 is_in_finder_area top left r c = nat_le top r && nat_lt r (top + 8) && nat_le left c && nat_lt c (left + 8)
 
@@ -39,7 +39,8 @@ abbrev pub symmetric_format : ℕ
 symmetric_format = 128
 
 -- The module with the index `at` in row 6, or in column 6, is dark; `s` is the side. The seven modules at each end of
--- this row or column belong to finder patterns, and are dark. Between them, the modules with an even index are dark.
+-- this row or column belong to finder patterns, and are dark. Of the modules between them, those with an even index are
+-- dark.
 abbrev pub is_dark_in_six : ℕ → ℕ → Bool
 is_dark_in_six s at = nat_lt at 7 || nat_le (s - 7) at || at % 2 == 0
 

@@ -34,20 +34,20 @@ unfoldable pub walked_colour : ℕ → List ℕ → ℕ → (ℕ → ℕ → Boo
 walked_colour v cw mask other r c =
     if is_in_region v r c then inverted (inverts mask r c) (codeword_bit cw (index_of v (record { row = r; col = c }))) else other r c
 
--- The number of the bit that is due when a module has been passed, if `number` is that of the bit that was due before
--- it. A module in the region takes one bit, so the number rises by 1.
+-- The number of the bit that is drawn next after a module, if `number` is the number of the bit that is drawn next
+-- before it. A module in the region takes one bit, so there the number rises by 1.
 abbrev pub number_after : Bool → ℕ → ℕ
 number_after is_in number = if is_in then number + 1 else number
 
--- The number of the bit that is drawn next when the first `k` rows of the strip `x`, in the order of filling, have been
--- filled. Before the first row it is `first`.
+-- The number of the bit that is drawn next after the first `k` rows of the strip `x`, in the order of filling. Before
+-- the first row it is `first`.
 abbrev pub number_at : ℕ → Strip → ℕ → ℕ → ℕ
 number_at v x first zero = first
 number_at v x first (suc k) =
     number_after (is_in_region v (row_of (side_of v) x k) (x.right - 1)) (number_after (is_in_region v (row_of (side_of v) x k) x.right) (number_at v x first k))
 
--- In the rows that follow the first `k` rows of the strip, in the order of filling, all modules of the region are light
--- in the columns `y`.
+-- In all rows after the first `k` rows of the strip, in the order of filling, the modules of the region are light in
+-- the two columns `y`.
 abbrev pub AreLight : ℕ → Strip → ℕ → Columns → Columns → Type 0
 AreLight s x k region y = (rank : ℕ) → k ≤ rank → rank < s
     → ((has region.right (row_of s x rank) && has y.right (row_of s x rank)) ≡ false) × ((has region.left (row_of s x rank) && has y.left (row_of s x rank)) ≡ false)
@@ -66,17 +66,17 @@ AreWhole v x k n = (j : ℕ) → k ≤ j → j < k + n
 abbrev pub IsRegion : ℕ → ℕ → Columns → Type 0
 IsRegion v right x = (row : ℕ) → row < side_of v → (has x.right row ≡ is_in_region v row right) × (has x.left row ≡ is_in_region v row (right - 1))
 
--- If row `k` of the strip is drawn, the colours of its two modules change from `right` and `left` to `right'` and
--- `left'`. Rows are counted from 0 in the order of filling. A module in the region gets its bit, and another module
--- keeps its colour. The first bit of the strip has the number `first`.
+-- Drawing row `k` of the strip changes the colours of its two modules from `right` and `left` to `right'` and `left'`.
+-- Rows are counted from 0 in the order of filling. A module in the region gets its bit, and another module keeps its
+-- colour. The first bit of the strip has the number `first`.
 abbrev pub IsRowDrawn : ℕ → List ℕ → Strip → ℕ → ℕ → (right left right' left' : Bool) → Type 0
 IsRowDrawn v cw x first k right left right' left' =
     (right' ≡ (if is_in_region v (row_of (side_of v) x k) x.right then codeword_bit cw (number_at v x first k) else right))
     × (left' ≡ (if is_in_region v (row_of (side_of v) x k) (x.right - 1) then codeword_bit cw (number_after (is_in_region v (row_of (side_of v) x k) x.right) (number_at v x first k)) else left))
 
--- If the `n` rows after the first `k` rows of the strip are drawn, the strip's two columns change from `before` to
--- `after`. Rows are counted in the order of filling. All other rows keep their colours. The first bit of the strip has
--- the number `first`.
+-- Drawing the `n` rows after the first `k` rows of the strip changes the strip's two columns from `before` to `after`.
+-- Rows are counted in the order of filling. All other rows keep their colours. The first bit of the strip has the
+-- number `first`.
 pub record AreDrawn (v : ℕ) (cw : List ℕ) (x : Strip) (first k n : ℕ) (before after : Columns) : Type 0 where
   pub drawn : (j : ℕ) → k ≤ j → j < k + n
       → IsRowDrawn v cw x first j (has before.right (row_of (side_of v) x j)) (has before.left (row_of (side_of v) x j)) (has after.right (row_of (side_of v) x j)) (has after.left (row_of (side_of v) x j))
@@ -91,13 +91,13 @@ pub record IsStripDrawn (v : ℕ) (cw : List ℕ) (x : Strip) (first : ℕ) (bef
       → IsRowDrawn v cw x first j (colour before x.right (row_of (side_of v) x j)) (colour before (x.right - 1) (row_of (side_of v) x j)) (colour after x.right (row_of (side_of v) x j)) (colour after (x.right - 1) (row_of (side_of v) x j))
   pub kept : (row col : ℕ) → row < side_of v → col < side_of v → (col ≡ x.right → ⊥) → (col ≡ x.right - 1 → ⊥) → colour after col row ≡ colour before col row
 
--- The colour of the module in row `r` and column `c` when two steps have changed the square `plain`. First the mask was
--- applied to the modules that are dark in `region`. Then the format information, the number `format`, was drawn.
+-- The colour of the module in row `r` and column `c` after two steps, which begin with the square `plain`. First the
+-- mask is applied to the modules that are dark in `region`. Then the format information, the number `format`, is drawn.
 unfoldable pub masked_colour : ℕ → ℕ → ℕ → Grid → Grid → ℕ → ℕ → Bool
 masked_colour v format mask region plain r c = format_or format (role_of v r c) (inverted (colour region r c && inverts mask r c) (colour plain r c))
 
--- The square `plain` when two steps have changed it. First the mask `mask` was applied to the modules that are dark in
--- `region`. Then the format information of level `l` and this mask was drawn.
+-- The square that two steps make of the square `plain`. First the mask `mask` is applied to the modules that are dark
+-- in `region`. Then the format information of level `l` and this mask is drawn.
 abbrev pub masked_grid : ℕ → Level → ℕ → Grid → Grid → Grid
 masked_grid v l mask region plain = square (side_of v) (masked_colour v (format_word_of l mask) mask region plain)
 
@@ -109,7 +109,7 @@ region_grid v = square (side_of v) (is_in_region v)
 abbrev pub plain_grid : ℕ → List ℕ → Grid
 plain_grid v cw = square (side_of v) (placed_colour v cw (paint_of v symmetric_format))
 
--- The penalty of the square `plain` when two steps have changed it. First the mask `mask` was applied to the modules
--- that are dark in `region`. Then the format information of level `l` and this mask was drawn.
+-- The penalty of the square that `masked_grid` makes of the square `plain`: the mask `mask` is applied to the modules
+-- that are dark in `region`, and then the format information of level `l` and this mask is drawn.
 abbrev pub masked_penalty : ℕ → Level → Grid → Grid → ℕ → ℕ
 masked_penalty v l region plain mask = penalty_of (side_of v) (colour (masked_grid v l mask region plain))

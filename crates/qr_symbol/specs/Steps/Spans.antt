@@ -15,12 +15,12 @@ row_of s x rank = if x.upward then s - 1 - rank else rank
 abbrev pub top_row : ℕ → Strip → ℕ → ℕ → ℕ
 top_row s x k n = if x.upward then s - n - k else k
 
--- In the two columns `x` no bit is set from row `s` on, where the symbol has no rows.
+-- Neither of the two columns `x` has a set bit from row `s` on, where the symbol has no rows.
 abbrev pub AreWithin : ℕ → Columns → Type 0
 AreWithin s x = (row : ℕ) → s ≤ row → (has x.right row ≡ false) × (has x.left row ≡ false)
 
--- `rows.both` and `rows.neither` have a bit for each row of the strip. In `rows.both` it is set exactly if both modules
--- of the row are in the region, and in `rows.neither` exactly if both are outside the region.
+-- `rows.both` and `rows.neither` have a bit for each row of the strip. In `rows.both` this bit is 1 exactly if both
+-- modules of the row are in the region, and in `rows.neither` exactly if both are outside the region.
 abbrev pub AreRegionRows : Columns → RegionRows → Type 0
 AreRegionRows region rows = ((row : ℕ) → has rows.both row ≡ (has region.right row && has region.left row))
     × ((row : ℕ) → row < 192 → has rows.neither row ≡ not (has region.right row || has region.left row))
@@ -64,8 +64,8 @@ pub record AreSpansOf (s : ℕ) (x : Strip) (columns : Columns) (limit : ℕ) (a
   pub region : a.region ≡ columns
   pub most : a.most ≡ limit
 
--- A call of `next` changes the iterator from `a` to `b`. It returns the span that begins where the spans of earlier
--- calls end. If those have reached the end of the strip, it returns `None`.
+-- A call of `next` changes the iterator from `a` to `b`. The call returns the span that begins where the spans of
+-- earlier calls end. If those spans have reached the end of the strip, the call returns `None`.
 pub record YieldsSpan (a : Spans) (span : Option Span) (b : Spans) : Type 0 where
   pub same : AreSpansOf a.side a.strip a.region a.most b
   pub is : MatchOption span (a.passed ≡ a.side) (λ y. (n : ℕ) × (b.passed ≡ a.passed + n) × IsSpan a.side a.strip a.region a.most a.passed n y)

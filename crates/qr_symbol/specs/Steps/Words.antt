@@ -5,16 +5,16 @@ use Rattle.qr_bits.specs.Bits.{codeword_bit}
 use Rattle.qr_matrix.specs.{BitRow.has_bit, Grid.is_same, Sums.all_below}
 
 -- The index of the bit that bit `i` of a word is exchanged with, or `i` itself if there is none. Wherever `mask` has a
--- 1, the bit at the same index is exchanged with the one whose index is greater by `steps`.
+-- 1, the bit of the word at the same index is exchanged with the bit whose index is greater by `steps`.
 abbrev pub partner : ℕ → ℕ → ℕ → ℕ
 partner steps mask i = if has_bit mask i then i + steps else if nat_le steps i && has_bit mask (i - steps) then i - steps else i
 
--- No two bits that are set in the mask have indices that differ by `steps`. So no bit is exchanged with two others.
+-- No two bits of the mask that are 1 have indices that differ by `steps`. So no bit is exchanged with two others.
 unfoldable pub are_pairs : ℕ → ℕ → Bool
 are_pairs steps mask = all_below 64 (λ i. not (has_bit mask i && has_bit mask (i + steps)))
 
--- Each of the 64 indices either is set in the mask, or is greater by `steps` than an index that is set, but not both.
--- So each bit is exchanged with exactly one other.
+-- For each of the 64 indices, the mask has a 1 either at this index or at the index that is smaller by `steps`, but not
+-- at both. So each bit is exchanged with exactly one other bit.
 unfoldable pub are_halves : ℕ → ℕ → Bool
 are_halves steps mask = all_below 64 (λ i. not (is_same (has_bit mask i) (nat_le steps i && has_bit mask (i - steps))))
 
@@ -36,7 +36,7 @@ Bits = Option (List Bool)
 abbrev pub HasCollected : List Bool → Bits → Type 0
 HasCollected xs b = IfSome b (λ ys. ys ≡ xs)
 
--- The collector `after` has the bits that the collector `before` had, and then `more`. If an allocation was refused,
--- `after` is `None`.
+-- The collector `after` has the bits that the collector `before` has, and then `more`. If an allocation was refused,
+-- now or earlier, `after` is `None`.
 abbrev pub Appends : List Bool → Bits → Bits → Type 0
 Appends more before after = (xs : List Bool) → HasCollected xs before → HasCollected (xs ++ more) after
