@@ -12,8 +12,8 @@ use crate::fault::ParseFault;
 use qr_layout::Version;
 
 /// The greatest length of an input, in bytes. A series has at most 16 symbols, each with at most 7,089 bytes, and this
-/// length is one byte more than they hold together. So an input of this length fits no series, and no further byte need
-/// be read.
+/// length is one byte more than 16 times 7,089. So an input of this length fits no series, and no further byte need be
+/// read.
 pub const INPUT_MAX: usize = 113_425;
 
 /// How the bytes of a segment are written (ISO/IEC 18004:2015, 7.3.3 to 7.3.6).
