@@ -1,5 +1,5 @@
 //! Draws symbols as lines of text. A line consists of cells. In the style `HalfBlocks` a cell is one character, which
-//! shows a module `upper` and the module `lower` below it. In the other styles it is two characters, which show only
+//! shows a module `upper` and the module `lower` below it; in the other styles it is two characters, which show only
 //! the module `upper`.
 //!
 //! Most cells are appended eight or four at a time, by copies from tables. In names, `eight` means eight neighbouring

@@ -49,7 +49,7 @@ gap_between v k = if v == 32 then 26 else 2 * ((side_of v - 13 + 2 * (k - 1) - 1
 abbrev pub spaced_centres : ℕ → List ℕ
 spaced_centres v = 6 ∷ map (λ i. side_of v - 7 - gap_between v (v / 7 + 2) * (v / 7 - i)) (range_with_len 0 (v / 7 + 1))
 
--- How many modules belong to an alignment pattern but not to a timing pattern, if there are `k` rows of centres. Then
+-- How many modules belong to an alignment pattern but not to a timing pattern, if there are `k` rows of centres; then
 -- there are `k ^ 2 - 3` alignment patterns of 25 modules each. Of these patterns `2 * (k - 2)` lie across a timing
 -- pattern, and share five modules with it (ISO/IEC 18004:2015, 6.3.5, 6.3.6)
 abbrev pub alignment_size : ℕ → ℕ

@@ -101,9 +101,9 @@ impl Version {
         }
     }
 
-    /// Returns how many error correction codewords of a block correct errors, from 4 to 30. From version 4 on, all
-    /// error correction codewords do. At some levels of the versions 1 to 3, one to three of them only detect errors,
-    /// and are not counted (ISO/IEC 18004:2015, 7.5.1, Table 9).
+    /// Returns how many error correction codewords of a block correct errors, from 4 to 30; from version 4 on, all of
+    /// them do. At some levels of the versions 1 to 3, one to three of them only detect errors, and are not counted
+    /// (ISO/IEC 18004:2015, 7.5.1, Table 9).
     pub fn spare(self, level: Level) -> u8
         ensures { result ≡ spare_of self level }
     {

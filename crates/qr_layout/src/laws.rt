@@ -140,7 +140,7 @@ pub fn protection_computes()
     ensures spare_more { spare_of 2 M ≡ 16 × spare_of 3 L ≡ 14 × spare_of 40 H ≡ 30 }
 {}
 
-/// The blocks together contain all data codewords and all error correction codewords of the symbol. Each block has at
+/// The blocks together contain all data codewords and all error correction codewords of the symbol; each block has at
 /// least one data codeword and from 1 to 30 error correction codewords.
 pub fn blocks_are_whole(version: Version, level: Level)
     ensures { AreWhole version level (blocks_of version level) }

@@ -26,6 +26,6 @@ unfoldable pub begins_long_run : ℕ → (ℕ → Bool) → ℕ → Bool
 begins_long_run s line c = begins_five s line c && not (nat_lt 0 c && joins s line (c - 1))
 
 -- The points for the runs of `line`. A module costs 1 point if five modules of one colour begin with it, and 2 points
--- more if it is also the first module of its run. So a run of `5 + i` modules costs `3 + i` points [own]
+-- more if it is also the first module of its run; so a run of `5 + i` modules costs `3 + i` points [own]
 unfoldable pub place_cost : ℕ → (ℕ → Bool) → ℕ
 place_cost s line = count_below s (begins_five s line) + 2 * count_below s (begins_long_run s line)

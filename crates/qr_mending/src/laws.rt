@@ -84,7 +84,7 @@ pub fn format_words_lie_apart()
         → 28 ≤ format_cost unknown g l m + format_cost unknown g k n }
 {}
 
-/// At most one pair of level and mask is near to a copy of the format information. A pair is near if the copy costs at
+/// At most one pair of level and mask is near to a copy of the format information; a pair is near if the copy costs at
 /// most 6 with it. So the two copies together have at most two near pairs, and mending tries no others.
 #[tactic(auto, using(crate::proofs::Named::law_facts))]
 pub fn near_format_is_one()

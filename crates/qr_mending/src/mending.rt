@@ -215,10 +215,10 @@ pub struct Mended {
 /// A block is mended if the number of its erased codewords, plus twice that of its misread ones, is at most
 /// `Version::spare`. The level and the mask are found by the two copies of the format information, of 15 modules each.
 /// Suppose that the symbol has a certain level and mask. Then a copy costs 1 for each of its modules that was not read,
-/// and 2 for each that is misread. If it costs at most 6, this pair of level and mask is near to the copy. At most one
-/// pair is near to a copy. Of the near pairs with which every block can be mended, the one with the least cost of both
-/// copies together is taken. If two of these pairs cost the same, the one that is near to the first copy is taken. This
-/// is the copy beside the top left finder pattern.
+/// and 2 for each that is misread. If it costs at most 6, this pair of level and mask is near to the copy, and no other
+/// pair is. Of the near pairs with which every block can be mended, the one with the least cost of both copies together
+/// is taken. If two of these pairs cost the same, the one that is near to the first copy is taken. This is the copy
+/// beside the top left finder pattern.
 ///
 /// So a damaged symbol becomes exactly the undamaged one if its blocks can be mended and both copies together cost at
 /// most 13 with its level and mask. If six modules of format information are misread or were not read, whichever they

@@ -181,7 +181,7 @@ fn erased_of(
     Ok(erased)
 }
 
-// Mends one block, and returns how many of its codewords were misread. Returns `None` if the block cannot be mended. If
+// Mends one block, and returns how many of its codewords were misread, or `None` if the block cannot be mended. If
 // `erased` is empty, no codeword is erased.
 fn mend_block(
     divisor: &Divisor,

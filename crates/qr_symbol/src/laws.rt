@@ -193,8 +193,8 @@ pub fn symbols_are_one()
 {}
 
 /// For a given lowest level, rule, interpretation and smallest version, `encode_boosted` can make at most one symbol of
-/// an input. This symbol has the least version, from the smallest on, that the input fits at the lowest level. Its
-/// level is the highest at which the input fits this version.
+/// an input. This symbol has the least version, from the smallest on, that the input fits at the lowest level, and the
+/// highest level at which the input fits this version.
 pub fn boosted_symbols_are_one()
     ensures { BoostedSymbolsAreOne }
 {}

@@ -88,8 +88,8 @@ fn symbol_of(
 /// `version` is 1 to 40, and `level` is 0 to 3 for L, M, Q and H. `rule` is 0 for all modes but kanji mode, 1 for byte
 /// mode alone, and 2 for all modes. `interpretation` is 0 to 999,999 for the ECI with this number, 1,000,000 for no
 /// interpretation, and 1,000,001 for GS1 data. In GS1 data the byte 1D (hexadecimal) separates fields. If `boost` is 1,
-/// the symbol gets the highest level, from `level` on, at which the input fits the symbol's version. If `boost` is 0,
-/// it gets `level`.
+/// the symbol gets the highest level, from `level` on, at which the input fits the symbol's version; if it is 0, the
+/// symbol gets `level`.
 ///
 /// On status 0 the buffer begins with exactly the modules of the symbol, and `symbol` has its version, side, level and
 /// mask. Reading the symbol yields the input with its interpretation.
