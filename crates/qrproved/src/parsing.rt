@@ -45,7 +45,8 @@ fn number_of(drawing: Drawing) -> u8
 /// every drawing of symbols that `qrproved_draw` or the command makes. `qrproved_read` finds out whether such a square
 /// is a symbol.
 ///
-/// On status 0 the text is the drawing of these squares with this type and this margin, and of nothing else.
+/// On status 0 the squares are in `modules`, and `drawn` has their number, their side, the type and the margin. `text`
+/// is the drawing of these squares with this type and this margin, and of no others.
 ///
 /// # Errors
 ///

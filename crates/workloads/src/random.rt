@@ -21,7 +21,7 @@ impl Random {
         second ^ (second >> 31)
     }
 
-    /// Returns a number below `end`, which is not 0.
+    /// Returns a number from 0 to `end - 1`; `end` is not 0.
     pub fn below(&mut self, end: usize) -> usize
         requires { 0 < end }
         ensures { result < end }

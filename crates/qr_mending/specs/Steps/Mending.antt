@@ -1,5 +1,5 @@
--- How the program mends a square. `g` is the square of modules as it was read, and `unknown` is dark where a module was
--- not read.
+-- How `mend_symbol_with_unknown` mends a square. `g` is the square of modules as it was read, and `unknown` is dark
+-- where a module was not read.
 use Rattle.std.specs.Prelude.{◌≡◌, ℕ, List, Option, Some, IfSome, MatchOption}
 use Rattle.qr_layout.specs.declared.level.Level.{Level}
 use Rattle.qr_matrix.specs.Grid.{Grid}

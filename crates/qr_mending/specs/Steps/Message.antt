@@ -1,7 +1,7 @@
--- How the program mends the blocks of a symbol. Each codeword has a mark, a byte with a bit for each of its modules.
--- The bit is 1 if the module was not read, so a mark is 0 exactly if its codeword is not erased. `b` has the sizes of
--- the blocks. `d` and `e` list the data codewords and the error correction codewords as they were read, in the order of
--- the blocks.
+-- How the code mends the blocks of a symbol. Each codeword has a mark, a byte with a bit for each of its modules. The
+-- bit is 1 if the module was not read, so a mark is 0 exactly if its codeword is not erased. `b` has the sizes of the
+-- blocks. `d` and `e` list the data codewords and the error correction codewords as they were read, in the order of the
+-- blocks.
 use Rattle.std.specs.Prelude.{◌≡◌, ℕ, ◌<◌, ◌==◌, not, Option, List, [], map, length, slice_index}
 use Rattle.qr_layout.specs.declared.{blocks.Blocks.{Blocks}, level.Level.{Level}}
 use Rattle.qr_layout.specs.Blocks.{blocks_of, data_codewords_of}
