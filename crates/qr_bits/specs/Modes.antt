@@ -54,7 +54,8 @@ unfoldable pub character_value : ℕ → ℕ
 character_value b = position_or_len (λ c. c == b) characters
 
 -- The two bytes are a kanji pair: as a number of 16 bits they are from 8140 to 9FFC or from E040 to EBBF, and the
--- second byte is from 40 to FC, all hexadecimal (ISO/IEC 18004:2015, 7.3.6, 7.4.6; that 7F is accepted is own)
+-- second byte is from 40 to FC, all hexadecimal. By a rule of this project 7F may be the second byte too, although no
+-- character has it there (ISO/IEC 18004:2015, 7.3.6, 7.4.6)
 unfoldable pub is_kanji_pair : ℕ → ℕ → Bool
 is_kanji_pair high low =
     let pair = 256 * high + low in

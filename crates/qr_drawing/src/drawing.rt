@@ -1,5 +1,5 @@
 //! The types of drawing, the values that can be drawn, and rasters. The raster of a symbol is its modules with a light
-//! margin around them. A margin is at most 255 modules wide, and a symbol has at most 177 modules on a side. So a
+//! margin around them; a margin is at most 255 modules wide, and a symbol has at most 177 modules on a side. So a
 //! raster has fewer than 1,000 rows and columns.
 
 ghost use Rattle.std.specs.Prelude.{◌≡◌, ◌≤◌, ◌<◌, ◌+◌, max, is_err, length, map, OnOk, OnErr};

@@ -126,7 +126,7 @@ pub fn correctable_numbers_compute()
     ensures h { map (λ v. correctable_of v H) all_versions ≡ printed_errors H }
 {}
 
-/// For six pairs of version and level, some error correction codewords of a block only detect errors. From version 4
+/// For six pairs of version and level, some error correction codewords of a block only detect errors; from version 4
 /// on, and at the levels M, Q and H of the versions 2 and 3, all of them correct errors.
 #[tactic(auto, unfolding(crate::specs::Blocks::correction_len_of))]
 pub fn protection_computes()

@@ -1,7 +1,7 @@
 //! Laws of mending. The contract of each function is the law. Where a function has code, the law is about what this
 //! code returns.
 //!
-//! Suppose that the symbol has a certain level and mask. Then a copy of the format information costs 1 for each of its
+//! Suppose that the symbol has a certain level and mask; then a copy of the format information costs 1 for each of its
 //! modules that was not read, and 2 for each that is misread. A level and a mask are near to a copy if this cost is at
 //! most 6. A codeword is erased if it is known to be unreadable, and misread if it was read with a wrong value.
 

@@ -81,7 +81,8 @@ fn is_same_format(a: Option<(Level, u8)>, b: Option<(Level, u8)>) -> bool
     }
 }
 
-// Returns whether there is a mended square, and its level and mask cost so little that every other pair costs more.
+// Returns true if there is a mended square, and both copies together cost at most `COST_CERTAIN` with its level and
+// mask; with every other pair they then cost more.
 fn is_certain(scan: &Scan, mended: &Option<MendedSquare>) -> bool
     requires { IfSome mended.now (λ m. m.mask < 8) }
     ensures { OnTrue result (MatchOption mended.now ⊥
@@ -93,8 +94,8 @@ fn is_certain(scan: &Scan, mended: &Option<MendedSquare>) -> bool
     }
 }
 
-// Returns the mended square whose level and mask cost less over both copies, or the first if they cost the same. If
-// there is only one mended square, it is returned.
+// Returns the mended square whose level and mask cost less over both copies, or the first if they cost the same; if
+// there is only one, it is returned.
 fn nearer(
     scan: &Scan,
     first: Option<MendedSquare>,

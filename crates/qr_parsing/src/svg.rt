@@ -20,7 +20,7 @@ const WIDTH: usize = 9;
 // Each greater number is read as this one, which occurs in no drawing.
 const NUMBER_MAX: u32 = 99_999;
 
-// Returns the first decimal number in a text, and the text after the byte that follows this number. A number at the
+// Returns the first decimal number in a text, and the text after the byte that follows this number; a number at the
 // very end of the text is not returned. The label of the loop is for the prover.
 #[tactic(auto, unfolding(crate::specs::Steps::Svg::numbers_after))]
 fn next_number(text: &[u8]) -> Option<(u32, &[u8])>

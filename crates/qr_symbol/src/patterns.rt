@@ -145,8 +145,7 @@ fn paint_corners(matrix: &mut Matrix, version: Version, format: u32)
 // 7.10).
 const VERSION_BITS: u8 = 18;
 
-// Gives all modules of the alignment patterns one colour. A pattern has five by five modules (ISO/IEC 18004:2015,
-// 6.3.6).
+// Gives all modules of the alignment patterns, each of five by five modules, one colour (ISO/IEC 18004:2015, 6.3.6).
 fn fill_alignment(matrix: &mut Matrix, version: Version, centres: &[Place], dark: bool)
     requires square { IsSquare (side_of version) matrix.old }
     requires centres { centres.now ≡ alignment_places (side_of version) (centres_of version) }

@@ -61,7 +61,7 @@ pub fn lines_of_faults()
     ensures { LinesOfFaults }
 {}
 
-/// Each `UsageFault` has the number that `NumbersOfUsageFaults` lists.
+/// `UsageFault::number` returns the numbers that `NumbersOfUsageFaults` lists.
 pub fn numbers_of_usage_faults()
     ensures { NumbersOfUsageFaults }
 {}

@@ -79,7 +79,7 @@ struct Change {
 
 // Returns the index in the final sequence of the codeword that has the index `at` in its block. The sequence has the
 // first data codeword of each block, then the second of each, and so on, and then the error correction codewords in the
-// same way. Long blocks have one data codeword more.
+// same way; long blocks have one data codeword more.
 fn index_of(version: Version, level: Level, block: usize, at: usize) -> usize {
     let sizes = version.blocks(level);
     let (short, short_len) = (usize::from(sizes.short), usize::from(sizes.short_len));

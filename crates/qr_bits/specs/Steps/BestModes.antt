@@ -67,12 +67,12 @@ shift_of WholePair = 16
 unfoldable pub mode_at : ℕ → RunState → Mode
 mode_at row p = ranked (row / 2 ^ shift_of p % 4)
 
--- The row has its flag, which is the bit above those of the nine states: 2 ^ 18
+-- The flag of the row is set. It is bit 18, the bit above those of the nine states; `AreFlagged` says what it means
 abbrev pub is_flagged : ℕ → Bool
 is_flagged row = nat_le 262144 row
 
--- `rows` has a row of the table for each byte of `xs`, which are GS1 data. A row has its flag exactly if alphanumeric
--- mode writes its byte as other characters
+-- `rows` has a row of the table for each byte of `xs`, which are GS1 data. The flag of a row is set exactly if
+-- alphanumeric mode writes its byte as other characters
 abbrev pub AreFlagged : List ℕ → List ℕ → Type 0
 AreFlagged xs rows = map is_flagged rows ≡ map (is_escaped Alphanumeric) xs
 

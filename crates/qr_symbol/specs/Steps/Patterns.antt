@@ -52,8 +52,8 @@ format_or format (FormatBit i) other = has_bit format i
 format_or format (VersionBit i) other = other
 format_or format Region other = other
 
--- The colour of a module with the given role, after bits `first` to `end - 1` of the format information, the number
--- `format`, were drawn. `other` is its colour before, which a module keeps if it has none of these bits.
+-- The colour that a module with the given role has after some bits of the format information were drawn: bits `first`
+-- to `end - 1` of the number `format`. `other` is its colour before, which a module keeps if it has none of these bits.
 unfoldable pub format_bits_or : ℕ → ℕ → ℕ → Role → Bool → Bool
 format_bits_or first end format (Fixed dark) other = other
 format_bits_or first end format (FormatBit i) other = if nat_le first i && nat_lt i end then has_bit format i else other
