@@ -1,9 +1,6 @@
 -- The lemmas that attributes of functions name.
-use Rattle.qr_field.proofs.lemmas.galois.ByteLemmas.{product-of_zero}
-use Rattle.qr_field.proofs.lemmas.laws.DistanceLemmas.{erasures-read, errors-read}
-use Rattle.qr_field.proofs.lemmas.galois.PowerLemmas.{powers-at, product-of_powers}
-use Rattle.qr_field.proofs.lemmas.polynomial.PolynomialLemmas.{generator-next, length-carried, power-next}
-use Rattle.qr_field.proofs.lemmas.register.RegisterLemmas.{halves-rest}
+use Rattle.qr_field.proofs.lemmas.{galois.ByteLemmas.product-of_zero, laws.DistanceLemmas.{erasures-read, errors-read}, register.RegisterLemmas.halves-rest}
+use Rattle.qr_field.proofs.lemmas.{galois.PowerLemmas.{powers-at, product-of_powers}, polynomial.PolynomialLemmas.{generator-next, length-carried, power-next}}
 
 pub ruleset quotients = (product-of_zero, product-of_powers)
 

@@ -9,8 +9,8 @@ use Rattle.qr_field.specs.Galois.{product}
 abbrev pub IsByte : ℕ → Type 0
 IsByte a = a < 256
 
--- The sums of the coefficients that two lists have at equal indices, which is the sum of two polynomials if the lists
--- are equally long. A shorter list counts as if zeros followed it [own]
+-- Adds two lists in the field, index by index. If the lists are equally long, the result is the sum of the two
+-- polynomials. A shorter list counts as if zeros followed it [own]
 abbrev pub plus : List ℕ → List ℕ → List ℕ
 plus [] ys = ys
 plus (x ∷ xs) [] = x ∷ xs

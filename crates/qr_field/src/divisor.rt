@@ -4,8 +4,8 @@
 //! four bits, so two tables of 16 multiples each are enough. The tables are computed once for all blocks.
 
 ghost use Rattle.std.specs.Prelude.{◌≡◌, ◌+◌, ◌<◌, ◌≤◌, ℕ, List, length, slice_index_or, take};
-ghost use Rattle.qr_field.specs.Steps.Register.{HasMultiples, IsHeld, divisor_of, packed, unpacked, value_of};
-ghost use Rattle.qr_field.specs.Polynomial.{IsCorrection, scaled};
+ghost use Rattle.qr_field.specs.Steps.Register.{HasMultiples, IsHeld, divisor_of, unpacked, value_of};
+ghost use Rattle.qr_field.specs.Polynomial.{IsCorrection};
 
 use crate::polynomial::generator;
 use crate::register::Register;
@@ -87,7 +87,9 @@ impl Divisor {
     {
         // Only for the prover.
         prove!(self.count >= 1);
-        let factor = usize::from(codeword ^ register.first());
+        // The first coefficient of the register. The mask before the cast is for the prover.
+        let first = (register.low & 0xFF) as u8;
+        let factor = usize::from(codeword ^ first);
         let multiple = self.low[factor & 0xF].plus(self.high[factor >> 4]);
         register.rest().plus(multiple)
     }

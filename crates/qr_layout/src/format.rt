@@ -91,8 +91,8 @@ pub fn second_format_place(version: Version, bit: u8) -> Place
     Place { row, col }
 }
 
-// The bit of the format information at row `row` of column 8, or `None` if this module contains none. A side is at most
-// 177, that of version 40, so the sum of a row and `FORMAT_BITS` fits a byte.
+// The number of the bit of the format information at row `row` of column 8, or `None` if this module contains no such
+// bit. A side is at most 177, that of version 40, so the sum of a row and `FORMAT_BITS` fits a byte.
 #[tactic(auto, using(crate::proofs::lemmas::format::BitPlaceLemmas::format_in_column_8))]
 fn format_bit_in_column_8(side: u8, row: u8) -> Option<u8>
     requires least { 21 ≤ side }
@@ -113,8 +113,8 @@ fn format_bit_in_column_8(side: u8, row: u8) -> Option<u8>
     }
 }
 
-// The bit of the format information at column `col` of row 8, or `None` if this module contains none. Column 8 is left
-// to `format_bit_in_column_8`.
+// The number of the bit of the format information at column `col` of row 8, or `None` if this module contains no such
+// bit. Column 8 is left to `format_bit_in_column_8`.
 #[tactic(auto, using(crate::proofs::lemmas::format::BitPlaceLemmas::format_in_row_8))]
 fn format_bit_in_row_8(side: u8, col: u8) -> Option<u8>
     requires least { 21 ≤ side }
@@ -135,7 +135,8 @@ fn format_bit_in_row_8(side: u8, col: u8) -> Option<u8>
     }
 }
 
-// The bit of the format information that the module at a place contains, or `None` if it contains none.
+// The number of the bit of the format information that the module at a place contains, or `None` if the module contains
+// no such bit.
 #[tactic(auto, using(crate::proofs::lemmas::format::BitPlaceLemmas::format_off))]
 pub(crate) fn format_bit(side: u8, row: u8, col: u8) -> Option<u8>
     requires least { 21 ≤ side }

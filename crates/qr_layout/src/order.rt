@@ -1,7 +1,7 @@
 //! The order in which codewords fill the encoding region (ISO/IEC 18004:2015, 7.7.3), as a walk through the symbol. The
 //! walk goes through the strips from right to left: upward in the first, downward in the second, and so on by turns. In
-//! each row of a strip the right module comes before the left one. If a symbol had four rows, the walk would go through
-//! the first two strips thus:
+//! each row of a strip the right module comes before the left one. In a symbol of four rows, the walk would go through
+//! the two rightmost strips thus:
 //!
 //!     10  9   8  7
 //!     12 11   6  5

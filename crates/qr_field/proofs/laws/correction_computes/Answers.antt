@@ -1,6 +1,5 @@
 use Rattle.std.proofs.Common.{ℕ, List, [], ◌∷◌, refl}
-use Rattle.qr_field.specs.{Galois.{product, remainder_of, carryless}, Laws.worked_correction}
-use Rattle.qr_field.proofs.lemmas.polynomial.ListLemmas.{bytes-computed}
+use Rattle.qr_field.{specs.{Galois.{product, remainder_of, carryless}, Laws.worked_correction}, proofs.lemmas.polynomial.ListLemmas.bytes-computed}
 use Rattle.qr_field.proofs.laws.correction_computes.Goals as goal
 
 -- the quotient of the division

@@ -1,9 +1,7 @@
-use Rattle.std.proofs.Common.{◌≡◌, ℕ, Bool, true, ltb, List, [], ◌∷◌, map, get_or, refl, sym, ◌∙◌}
-use Rattle.std.{proofs.lemmas.Bool.and_parts, specs.List.list_all}
+use Rattle.std.{proofs.{Common.{◌≡◌, ℕ, Bool, true, ltb, List, [], ◌∷◌, map, get_or, refl, sym, ◌∙◌}, lemmas.Bool.and_parts}, specs.List.list_all}
 use borrow.Author.Tests.{ltb-true}
-use Rattle.qr_field.specs.{Galois.{product, remainder_of, carryless}, declared.galois.TheConstants.POWERS}
+use Rattle.qr_field.{specs.{Galois.{product, remainder_of, carryless}, declared.galois.TheConstants.POWERS}, proofs.lemmas.galois.PowerLemmas.powers-at}
 use Rattle.qr_field.specs.{Polynomial.generator_of, Polynomial.power, Laws.lengths_in_use, Laws.printed_exponents}
-use Rattle.qr_field.proofs.lemmas.galois.PowerLemmas.{powers-at}
 use Rattle.qr_field.proofs.laws.generators_compute.Goals as goal
 
 pub returns-clause-seven : goal.returns-clause-seven

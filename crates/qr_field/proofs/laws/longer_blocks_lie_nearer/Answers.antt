@@ -1,6 +1,5 @@
 use Rattle.std.proofs.Common.{ℕ, zero, suc, List, [], ◌∷◌, bit_xor, refl}
-use Rattle.qr_field.specs.{Galois.{product, remainder_of, carryless}, Polynomial.zeros}
-use Rattle.qr_field.proofs.lemmas.polynomial.ListLemmas.{bytes-computed}
+use Rattle.qr_field.{specs.{Galois.{product, remainder_of, carryless}, Polynomial.zeros}, proofs.lemmas.polynomial.ListLemmas.bytes-computed}
 use Rattle.qr_field.proofs.laws.longer_blocks_lie_nearer.Goals as goal
 
 -- the sum a of powers of 2 up to the power p, then that with the next power, and so on

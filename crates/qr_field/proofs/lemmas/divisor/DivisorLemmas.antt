@@ -1,18 +1,14 @@
 -- The multiples of a divisor, and the division by them.
 use Rattle.std.proofs.Common.{◌≡◌, ℕ, ◌+◌, ◌*◌, ◌/◌, ◌%◌, ◌^◌, ◌<◌, ◌≤◌, List, [], ◌∷◌, ◌++◌, length, take, drop, get_or, set, refl, sym, ap, ◌∙◌, arith, bit_xor, lit<}
-use Rattle.std.proofs.lemmas.{Nat.{xor_comm, xor_of_8}, List.Elements.{All-drop, All-push, All-head, All-tail}}
+use Rattle.std.{proofs.{lemmas.{Nat.{xor_comm, xor_of_8}, List.Elements.{All-drop, All-push, All-head, All-tail}}, Math.Nat.pow-le-pow_right}, specs.List.All}
 use Rattle.std.proofs.lemmas.List.{get_or-replicate, get_or-set_same, get_or-set_other, length-map, length-set, length-replicate}
-use Rattle.std.{proofs.Math.Nat.{pow-le-pow_right}, specs.List.All}
 use lib.ListN.{replicate}
-use Rattle.qr_field.specs.declared.register.Register.{Register}
-use Rattle.qr_field.specs.Galois.{product}
-use Rattle.qr_field.specs.Polynomial.{IsByte, plus, zeros, scaled, generator_of, IsCorrection}
+use Rattle.qr_field.specs.{declared.register.Register.Register, Galois.product, Polynomial.{IsByte, plus, zeros, scaled, generator_of}}
 use Rattle.qr_field.specs.Steps.Register.{packed, unpacked, value_of, zero_register, divisor_of, HasMultiples, IsHeld}
-use Rattle.qr_field.proofs.lemmas.galois.{BitLemmas.digits, FieldLemmas.product-assoc}
-use Rattle.qr_field.proofs.lemmas.galois.ByteLemmas.{product-by_sixteen, product-of_one, product-of_two_small}
+use Rattle.qr_field.proofs.lemmas.galois.{BitLemmas.digits, FieldLemmas.product-assoc, ByteLemmas.{product-by_sixteen, product-of_one, product-of_two_small}}
 use Rattle.qr_field.proofs.lemmas.{polynomial.ListLemmas.bytes-scaled, galois.ProductLemmas.product-xor}
 use Rattle.qr_field.proofs.lemmas.polynomial.PolynomialLemmas.{correction-start, correction-step, generator-is}
-use Rattle.qr_field.proofs.lemmas.register.RegisterLemmas.{scaled-unpacked, packed-unpacked, bytes-unpacked, packed-plus, packed-none, packed-zeros, packed-zero_last, packed-first, packed-rest, unpacked-packed}
+use Rattle.qr_field.proofs.lemmas.register.RegisterLemmas.{scaled-unpacked, packed-unpacked, bytes-unpacked, packed-plus, packed-none, packed-zeros, packed-zero_last, packed-first}
 
 -- a sum of multiples
 scaled-xor : (a b : ℕ) (g : List ℕ) → a < 256 → b < 256 → plus (scaled a g) (scaled b g) ≡ scaled (bit_xor a b) g
@@ -30,16 +26,11 @@ scaled-one : (g : List ℕ) → All IsByte g → scaled 1 g ≡ g
 scaled-one [] h = refl
 scaled-one (x ∷ g) h = cc (product-of_one x (All-head IsByte x g h), scaled-one g (All-tail IsByte x g h))
 
--- a multiple of a multiple that is packed
-packed-scaled : (a b : ℕ) (g : List ℕ) (v : ℕ) → a < 256 → b < 256 → length g ≤ 32 → All IsByte g →
-    v ≡ packed (scaled b g) → packed (scaled a (unpacked 32 v)) ≡ packed (scaled (product a b) g)
-packed-scaled a b g v l m n h e = search (arith, length-map, scaled-unpacked, bytes-scaled, scaled-scaled)
-
 -- twice a multiple that is packed
 pub packed-double : (b : ℕ) (g : List ℕ) (v : ℕ) → b < 128 → length g ≤ 32 → All IsByte g →
     v ≡ packed (scaled b g) → packed (scaled 2 (unpacked 32 v)) ≡ packed (scaled (b * 2) g)
 packed-double b g v l n h e =
-    cc (packed-scaled 2 b g v (lit< tt) (omega arith) n h e, product-of_two_small b l)
+    search (arith, product-of_two_small, length-map, scaled-unpacked, bytes-scaled, scaled-scaled)
 
 -- what is packed is the multiple by 1
 pub packed-one : (v : ℕ) → v < 2 ^ 256 → v ≡ packed (scaled 1 (unpacked 32 v))
@@ -55,10 +46,6 @@ packed-sixteen g a b c d e n h is ib ic id ie =
     let four : c ≡ packed (scaled 4 g) = ic ∙ packed-double 2 g b (lit< tt) n h two in
     let eight : d ≡ packed (scaled 8 g) = id ∙ packed-double 4 g c (lit< tt) n h four in
     ie ∙ packed-double 8 g d (lit< tt) n h eight
-
--- a power of 2 below 16
-pub power-small : (i : ℕ) → i < 4 → 2 ^ i ≤ 8
-power-small i l = search (arith, pow-le-pow_right)
 
 -- the multiple by 0 alone
 pub multiples-start : (g : List ℕ) → All IsByte g → HasMultiples g 0 1 (replicate 16 zero_register)
@@ -77,7 +64,7 @@ pub multiples-more : (g : List ℕ) (rows : List Register) (i r : ℕ) (row by_b
     HasMultiples g 0 (2 ^ i + (r + 1)) (set rows (2 ^ i + r) row)
 multiples-more g rows i r row by_bit li l sum by h =
     let bit = 2 ^ i in
-    let small : bit ≤ 8 = power-small i li in
+    let small : bit ≤ 8 = search (arith, pow-le-pow_right) in
     let one : bit ≡ 1 * bit = omega arith in
     let joined : bit_xor r bit ≡ bit + r = cc (xor_comm r bit, digits i 1 r l) in
     let same : r * 2 ^ 0 ≡ r = omega arith in
@@ -89,21 +76,11 @@ multiples-more g rows i r row by_bit li l sum by h =
     cc (sum, read, by, packed-plus (scaled r g) (scaled bit g) (bytes-scaled r g rl) (bytes-scaled bit g bl), scaled-xor r bit g rl bl, joined) in
     search (arith, length-set, get_or-set_other, get_or-set_same)
 
--- the multiples of what is packed are those of its coefficients
-pub multiples-packed : (g : List ℕ) (v : ℕ) (rows : List Register) → length g ≤ 32 → All IsByte g →
-    v ≡ packed g → HasMultiples (unpacked 32 v) 0 16 rows → HasMultiples g 0 16 rows
-multiples-packed g v rows n a e h = search (arith, scaled-unpacked)
-
 -- the multiples of what is 16 times packed
 pub multiples-sixteen : (g : List ℕ) (v : ℕ) (rows : List Register) → length g ≤ 32 → All IsByte g →
     v ≡ packed (scaled 16 g) → HasMultiples (unpacked 32 v) 0 16 rows → HasMultiples g 4 16 rows
 multiples-sixteen g v rows n a e h =
-    record {
-      many = h.many;
-      each = λ f l.
-          let same : f * 2 ^ 0 ≡ f = omega arith in
-          cc (h.each f l, same, packed-scaled f 16 g v (omega arith) (lit< tt) n a e, product-by_sixteen f l);
-    }
+    search (arith, product-by_sixteen, length-map, scaled-unpacked, bytes-scaled, scaled-scaled)
 
 -- a multiple is the sum of those by the low four bits and by the high four
 pub multiple-of_halves : (g : List ℕ) (low high : List Register) (f : ℕ) → f < 256 →
@@ -146,7 +123,7 @@ held-step m i n v row l b k e h =
     let small : r < 256 = omega arith in
     let moved : List ℕ = drop 1 items ++ 0 ∷ [] in
     let sum : List ℕ = plus moved (scaled factor g) in
-    let rest : v / 2 ^ 8 ≡ packed moved = cc (packed-rest items one bytes, packed-zero_last (drop 1 items)) in
+    let rest : v / 2 ^ 8 ≡ packed moved = search (arith, packed-zero_last) in
     let moved_bytes : All IsByte moved = All-push IsByte (drop 1 items) 0 (All-drop IsByte 1 items bytes) (lit< tt) in
     let added = packed-plus moved (scaled factor g) moved_bytes (bytes-scaled factor g (xor_of_8 (get_or m i 0) r b small)) in
     record {
@@ -154,7 +131,3 @@ held-step m i n v row l b k e h =
       correction = correction-step m i n r items moved sum g l b k is first refl refl h.correction;
       same = cc;
     }
-
--- the error correction codewords that the register contains at last
-pub held-all : (d : List ℕ) (n v : ℕ) (e : List ℕ) → e ≡ unpacked n v → IsHeld d n v → IsCorrection d n e
-held-all d n v e is h = search (arith, unpacked-packed)

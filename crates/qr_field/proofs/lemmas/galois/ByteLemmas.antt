@@ -1,7 +1,6 @@
 -- Facts that are computed for each number below a bound, and what they say about products of bytes.
 use Rattle.std.proofs.Common.{◌≡◌, ℕ, zero, suc, ◌*◌, ◌/◌, ◌%◌, ◌^◌, ◌<◌, Bool, true, ◌&&◌, eqb, refl, subst, inl, inr, arith, bit_xor}
-use Rattle.std.proofs.lemmas.Bool.{cases_lt, and_parts, eqb-true}
-use Rattle.std.specs.Int.Bits.{xor_zero_r}
+use Rattle.std.{proofs.lemmas.Bool.{cases_lt, and_parts, eqb-true}, specs.Int.Bits.xor_zero_r}
 use Rattle.qr_field.specs.Galois.{carryless, product, remainder_of}
 
 -- a test at each number below n
@@ -23,25 +22,10 @@ same-below n f g h k l = eqb-true (f k) (g k) (below-at n (λ i. eqb (f i) (g i)
 
 -- ---- products
 
--- products by 1, computed
-right-unit : below 256 (λ a. eqb (product a 1) a) ≡ true
-unfolding carryless product remainder_of
-right-unit = refl
-
 -- products of 1, computed
 left-unit : below 256 (λ a. eqb (product 1 a) a) ≡ true
 unfolding carryless product remainder_of
 left-unit = refl
-
--- products by 0, computed
-right-zero : below 256 (λ a. eqb (product a 0) 0) ≡ true
-unfolding carryless product remainder_of
-right-zero = refl
-
--- products of 0, computed
-left-zero : below 256 (λ a. eqb (product 0 a) 0) ≡ true
-unfolding carryless product remainder_of
-left-zero = refl
 
 -- carryless products by 2, computed
 doubles : below 256 (λ a. eqb (carryless 8 2 a) (2 * a)) ≡ true
@@ -53,14 +37,10 @@ left-two : below 256 (λ a. eqb (bit_xor (a % 2 ^ 7 * 2) (a / 2 ^ 7 * 29)) (prod
 unfolding carryless product remainder_of
 left-two = refl
 
--- products by 16, computed
-right-sixteen : below 16 (λ a. eqb (product a 16) (a * 16)) ≡ true
-unfolding carryless product remainder_of
-right-sixteen = refl
-
 -- 1 is the unit
 pub product-by_one : (a : ℕ) → a < 256 → product a 1 ≡ a
-product-by_one = same-below 256 (λ a. product a 1) (λ a. a) right-unit
+unfolding carryless product remainder_of
+product-by_one = search (arith, same-below)
 
 -- 1 is the unit on the other side
 pub product-of_one : (a : ℕ) → a < 256 → product 1 a ≡ a
@@ -68,11 +48,13 @@ product-of_one = same-below 256 (λ a. product 1 a) (λ a. a) left-unit
 
 -- a product by 0 is 0
 pub product-by_zero : (a : ℕ) → a < 256 → product a 0 ≡ 0
-product-by_zero = same-below 256 (λ a. product a 0) (λ a. 0) right-zero
+unfolding carryless product remainder_of
+product-by_zero = search (arith, same-below)
 
 -- a product of 0 is 0
 pub product-of_zero : (a : ℕ) → a < 256 → product 0 a ≡ 0
-product-of_zero = same-below 256 (λ a. product 0 a) (λ a. 0) left-zero
+unfolding carryless product remainder_of
+product-of_zero = search (arith, same-below)
 
 -- a carryless product by 2 is a shift
 pub carryless-two : (a : ℕ) → a < 256 → carryless 8 2 a ≡ 2 * a
@@ -91,4 +73,5 @@ product-of_two_small a l =
 
 -- a product by 16 is 16 times an element that is below 16
 pub product-by_sixteen : (a : ℕ) → a < 16 → product a 16 ≡ a * 16
-product-by_sixteen = same-below 16 (λ a. product a 16) (λ a. a * 16) right-sixteen
+unfolding carryless product remainder_of
+product-by_sixteen = search (arith, same-below)

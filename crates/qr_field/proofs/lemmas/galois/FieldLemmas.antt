@@ -1,10 +1,9 @@
 -- The laws of the field of 256 elements: products commute, associate, distribute, and are 0 only if a factor is.
 use Rattle.std.proofs.Common.{◌≡◌, ℕ, ◌+◌, ◌-◌, ◌<◌, sym, ap, ◌∙◌, inl, inr, arith, bit_xor}
 use Rattle.std.{proofs.lemmas.{Bool.cases_eq, Nat.xor_of_8}, specs.Int.Bits.xor_zero_r}
-use Rattle.qr_field.specs.{Galois.product, Polynomial.power}
-use Rattle.qr_field.proofs.lemmas.galois.{BitLemmas.xor-cancel, ProductLemmas.{product-lt, product-xor}}
+use Rattle.qr_field.{specs.{Galois.product, Polynomial.power}, proofs.lemmas.galois.{BitLemmas.xor-cancel, ProductLemmas.{product-lt, product-xor}}}
 use Rattle.qr_field.proofs.lemmas.galois.ByteLemmas.{product-by_zero, product-of_zero, product-by_one}
-use Rattle.qr_field.proofs.lemmas.galois.PowerLemmas.{power-lt, power-add, power-round, powers-apart, exponent-of}
+use Rattle.qr_field.proofs.lemmas.galois.PowerLemmas.{power-lt, power-add, power-round, exponent-of}
 
 -- a product is 0 if its first factor is 0
 left-none : (a b : ℕ) → b < 256 → a ≡ 0 → product a b ≡ 0
@@ -97,9 +96,3 @@ product-factor a b l m n e =
 -- the sum of two elements is 0 only if they are equal
 pub sum-none : (a b : ℕ) → bit_xor a b ≡ 0 → a ≡ b
 sum-none a b e = cc (xor_zero_r a, xor-cancel a b)
-
--- powers with different exponents below 255 have a sum that is not 0
-pub powers-sum : (i j : ℕ) → i < j → j < 255 → bit_xor (power i) (power j) ≡ 0 → ⊥
-powers-sum i j l m e =
-    let h : i ≡ j = powers-apart i j (omega arith) m (sum-none (power i) (power j) e) in
-    absurd (omega (arith, h))

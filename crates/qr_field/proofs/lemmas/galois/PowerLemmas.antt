@@ -1,10 +1,8 @@
 -- Powers of 2 in the field, and the tables of powers and logarithms.
 use Rattle.std.proofs.Common.{◌≡◌, ℕ, zero, suc, ◌+◌, ◌-◌, ◌*◌, ◌/◌, ◌%◌, ◌<◌, ◌≤◌, true, eqb, ltb, get_or, refl, sym, ap, ◌∙◌, arith, lit<}
-use Rattle.qr_field.specs.declared.galois.TheConstants.{POWERS, LOGARITHMS}
+use Rattle.qr_field.specs.{declared.galois.TheConstants.{POWERS, LOGARITHMS}, Galois.{carryless, product, remainder_of}, Polynomial.power}
 use borrow.Author.Tests.{ltb-true}
-use Rattle.qr_field.specs.{Galois.{carryless, product, remainder_of}, Polynomial.power}
-use Rattle.qr_field.proofs.lemmas.galois.ByteLemmas.{below, below-at, same-below, product-of_one}
-use Rattle.qr_field.proofs.lemmas.galois.ProductLemmas.{product-lt, product-double}
+use Rattle.qr_field.proofs.lemmas.galois.{ByteLemmas.{below, below-at, same-below, product-of_one}, ProductLemmas.{product-lt, product-double}}
 
 -- ---- powers
 

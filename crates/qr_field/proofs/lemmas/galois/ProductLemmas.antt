@@ -1,8 +1,8 @@
 -- The product of two elements, which `product` computes; that of twice an element is twice the product.
-use Rattle.std.proofs.Common.{◌≡◌, ◌⊎◌, ℕ, ◌*◌, ◌<◌, sym, ap, ◌∙◌, subst, inl, inr, arith, bit_xor, lit<}
+use Rattle.std.proofs.{lemmas.Nat.xor_comm, Common.{◌≡◌, ◌⊎◌, ℕ, ◌*◌, ◌<◌, sym, ap, ◌∙◌, subst, inl, inr, arith, bit_xor, lit<}}
 use Rattle.{std.proofs.lemmas.Nat.xor_of_8, qr_field.specs.Galois.{carryless, prime_modulus, IsProduct, product}}
 use Rattle.qr_field.proofs.lemmas.galois.ByteLemmas.{carryless-two, product-by_zero, product-of_zero}
-use Rattle.qr_field.proofs.lemmas.galois.BitLemmas.{IsCongruent, congruent-turned, congruent-next, congruent-double, congruent-times, congruent-xor, carryless-xor, carryless-double, carryless-lt, remainder-is, remainder-one}
+use Rattle.qr_field.proofs.lemmas.galois.BitLemmas.{IsCongruent, congruent-next, congruent-double, congruent-times, congruent-xor, carryless-xor, carryless-double, carryless-lt, remainder-is, remainder-one}
 
 -- `product a b` is a product of a and b
 pub product-is : (a b : ℕ) → a < 256 → IsProduct a b (product a b)
@@ -20,10 +20,6 @@ product-one a b p q h k = remainder-one 8 prime_modulus (carryless 8 a b) p q h 
 -- a number that equals `product a b` is a product of a and b
 pub product-definition : (a b p : ℕ) → a < 256 → p ≡ product a b → IsProduct a b p
 product-definition a b p l e = subst (λ (t : ℕ). IsProduct a b t) (sym e) (product-is a b l)
-
--- each product of a and b equals `product a b`
-pub product-only : (a b p : ℕ) → a < 256 → p ≡ product a b → (q : ℕ) → IsProduct a b q → q ≡ p
-product-only a b p l e q h = product-one a b q p h (product-definition a b p l e)
 
 -- if one of two elements is 0, their product is 0
 pub product-none : (a b : ℕ) → a < 256 → b < 256 → (a ≡ 0) ⊎ (b ≡ 0) → 0 ≡ product a b
@@ -64,7 +60,7 @@ product-double a b l =
     let small : c < 256 = product-lt a b l in
     let one : IsSame (carryless 8 twice b) (carryless 8 (2 * a) b) =
     congruent-times 8 prime_modulus 8 twice (2 * a) b
-    (congruent-turned 8 prime_modulus (2 * a) twice (double-same a l)) in
+    (search (arith, xor_comm, double-same a l)) in
     let two : IsSame (carryless 8 (2 * a) b) (2 * c) =
     subst (λ (t : ℕ). IsSame t (2 * c)) (sym (carryless-double 8 a b))
     (congruent-double 8 prime_modulus (carryless 8 a b) c (product-same a b l)) in

@@ -1,15 +1,12 @@
 -- A polynomial with the value 0 at the first n powers of 2 is 0 or has over n coefficients: how far blocks lie apart.
+use Rattle.qr_field.proofs.lemmas.galois.{PowerLemmas.{powers-apart, power-lt, power-add}, BitLemmas.xor-swap, ProductLemmas.{product-lt, product-xor}}
 use Rattle.std.proofs.Common.{◌≡◌, ℕ, zero, suc, ◌+◌, ◌-◌, ◌*◌, ◌<◌, ◌≤◌, Option, None, Some, List, [], ◌∷◌, ◌++◌, length, map, take, refl, sym, ap, ◌∙◌, inl, inr, arith, bit_xor, length-append}
-use Rattle.std.proofs.lemmas.{Nat.xor_of_8, Bool.{cases_eq, cases_lt, eq-eqb, ne_eqb}}
+use Rattle.std.{proofs.lemmas.{Nat.xor_of_8, Bool.{cases_eq, cases_lt, eq-eqb, ne_eqb}}, specs.{List.All, Int.Bits.{xor_zero_l, xor_zero_r, xor_self}}}
 use Rattle.std.proofs.lemmas.List.{length-map, take_at, Elements.{All-nil, All-cons, All-head, All-tail}}
-use Rattle.std.specs.{List.All, Int.Bits.{xor_zero_l, xor_zero_r, xor_self}}
 use Rattle.qr_field.specs.{Galois.product, Steps.Polynomial.value_at, Polynomial.{IsByte, plus, power, IsCorrection}}
 use Rattle.qr_field.specs.Distance.{difference, differences, erasures, errors}
-use Rattle.qr_field.proofs.lemmas.galois.{BitLemmas.xor-swap, ProductLemmas.{product-lt, product-xor}}
-use Rattle.qr_field.proofs.lemmas.galois.ByteLemmas.{product-by_zero, product-of_zero, product-by_one}
-use Rattle.qr_field.proofs.lemmas.galois.PowerLemmas.{power-lt, power-add}
-use Rattle.qr_field.proofs.lemmas.galois.FieldLemmas.{product-assoc, product-front, product-by_sum, product-factor, powers-sum, sum-none}
-use Rattle.qr_field.proofs.lemmas.polynomial.ListLemmas.{length-plus, bytes-plus}
+use Rattle.qr_field.proofs.lemmas.{galois.ByteLemmas.{product-by_zero, product-of_zero, product-by_one}, polynomial.ListLemmas.{length-plus, bytes-plus}}
+use Rattle.qr_field.proofs.lemmas.galois.FieldLemmas.{product-assoc, product-front, product-by_sum, product-factor, sum-none}
 use Rattle.qr_field.proofs.lemmas.laws.ValueLemmas.{value-lt, value-zero, value-plus, block-bytes, block-root}
 
 -- ---- coefficients that are not 0
@@ -73,7 +70,7 @@ bytes-lowered k (c ∷ p) a =
 weight-lowered : (k : ℕ) (p : List ℕ) → k < 255 → length p ≤ k → All IsByte p → weight (lowered k p) ≡ weight p
 weight-lowered k [] h l a = refl
 weight-lowered k (c ∷ p) h l a =
-    search (arith, All-head, xor_of_8, power-lt, powers-sum, product-of_zero, difference-alike, product-factor, All-tail, weight-lowered k p h (omega arith) (All-tail IsByte c p a))
+    search (arith, All-head, xor_of_8, power-lt, product-of_zero, difference-alike, product-factor, All-tail, powers-apart, sum-none, weight-lowered k p h (omega arith) (All-tail IsByte c p a))
 
 -- the value of `lowered k p` at 2 to i is that of p at 2 to i + 1, plus 2 to k times that of p at 2 to i
 value-lowered : (i k : ℕ) (p : List ℕ) → All IsByte p →
@@ -85,26 +82,16 @@ value-lowered i k (c ∷ p) a =
     let m = length p in
     let own = power m in
     let lo = power-lt m in
-    let other = power k in
     let lk = power-lt k in
     let place = power (i * m) in
     let li = power-lt (i * m) in
     let exponent : m + i * m ≡ (i + 1) * m = omega arith in
     let first = product-assoc c own place lc lo li in
     let sum = power-add m (i * m) in
-    let second = product-assoc c other place lc lk li in
+    let second = product-assoc c (power k) place lc lk li in
     search (arith, product-front, product-xor, product-lt, product-by_sum, value-lt, xor-swap, length-lowered, value-lowered i k p lp)
 
--- if c ∷ p has the value 0 at 2 to i and to i + 1, and p has m coefficients, `lowered m p` has it at 2 to i
-lowered-root : (i c : ℕ) (p : List ℕ) → c < 256 → All IsByte p → value_at i (c ∷ p) ≡ 0 →
-    value_at (i + 1) (c ∷ p) ≡ 0 → value_at i (lowered (length p) p) ≡ 0
-lowered-root i c p lc lp e f = search (arith, power-lt, sum-none, product-front, power-add, value-lowered, xor_self)
-
 -- ---- few coefficients that are not 0
-
--- if every coefficient of p is 0, then the value of the polynomial c ∷ p at 1 is c
-value-alone : (c : ℕ) (p : List ℕ) → c < 256 → weight p ≡ 0 → value_at 0 (c ∷ p) ≡ c
-value-alone c p l e = search (arith, product-by_one, value-none, xor_zero_r)
 
 -- a polynomial with at most n coefficients that are not 0, and the value 0 at the first n powers of 2, is 0
 pub weight-none : (k n : ℕ) (p : List ℕ) → length p ≤ k → k ≤ 255 → All IsByte p → weight p ≤ n →
@@ -128,10 +115,10 @@ weight-none (suc k) n (c ∷ p) l h a w r =
           let same = weight-lowered (length p) p (omega arith) (omega arith) lp in
           let count = length-lowered (length p) p in
           let roots : (i : ℕ) → i < n - 1 → value_at i low ≡ 0 =
-          λ i m. lowered-root i c p lc lp (r i (omega arith)) (r (i + 1) (omega arith)) in
+          search (arith, power-lt, sum-none, product-front, power-add, value-lowered, xor_self) in
           let tail = weight-none k (n - 1) low (omega (arith, count)) hk (bytes-lowered (length p) p lp) (omega (arith, same, one, w)) roots in
           let empty : weight p ≡ 0 = sym same ∙ tail in
-          absurd (o (sym (value-alone c p lc empty) ∙ r 0 some))
+          absurd (o (sym (search (arith, product-by_one, value-none, xor_zero_r)) ∙ r 0 some))
     ]
 
 -- ---- blocks
@@ -196,9 +183,7 @@ errors-between (Some z ∷ rs) (x ∷ xs) (y ∷ ys) = grind (arith, difference-
 pub unambiguous-known : (n t : ℕ) (d e d' e' : List ℕ) (read : List (Option ℕ)) → IsCorrection d n e →
     IsCorrection d' n e' → length d ≡ length d' → length d + n ≤ 255 → erasures read + 2 * t ≤ n →
     errors read (d ++ e) ≤ t → errors read (d' ++ e') ≤ t → d ≡ d'
-unambiguous-known n t d e d' e' read c c' s l h a b =
-    let f = errors-between read (d ++ e) (d' ++ e') in
-    near-same n d e d' e' c c' s l (omega (arith, f, h, a, b))
+unambiguous-known n t d e d' e' read c c' s l h a b = near-same n d e d' e' c c' s l (omega (arith, errors-between read (d ++ e) (d' ++ e'), h, a, b))
 
 -- a list xs of which every codeword was read has 0 erasures
 pub erasures-read : (xs : List ℕ) → erasures (map (λ x. Some x) xs) ≡ 0

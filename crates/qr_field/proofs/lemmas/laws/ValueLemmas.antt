@@ -1,13 +1,10 @@
 -- The values of polynomials at the powers of 2: the value of a product is the product of the values.
 use Rattle.std.proofs.Common.{◌≡◌, ℕ, zero, suc, ◌+◌, ◌*◌, ◌<◌, List, [], ◌∷◌, ◌++◌, length, refl, sym, ap, ◌∙◌, subst, inl, inr, arith, lit<, bit_xor}
-use Rattle.std.proofs.lemmas.{Nat.xor_of_8, Bool.cases_eq, List.length-map}
-use Rattle.std.proofs.lemmas.List.Elements.{All-nil, All-cons, All-head, All-tail}
+use Rattle.std.proofs.lemmas.{Nat.xor_of_8, Bool.cases_eq, List.{length-map, Elements.{All-nil, All-cons, All-head, All-tail}}}
 use Rattle.std.specs.{List.All, Int.Bits.{xor_zero_l, xor_zero_r, xor_self}}
-use Rattle.qr_field.specs.{Galois.product, Steps.Polynomial.value_at}
-use Rattle.qr_field.specs.Polynomial.{IsByte, plus, zeros, scaled, times, power, generator_of, IsCorrection}
-use Rattle.qr_field.proofs.lemmas.galois.{BitLemmas.xor-swap, ProductLemmas.{product-lt, product-xor}}
+use Rattle.qr_field.specs.{Galois.product, Steps.Polynomial.value_at, Polynomial.{IsByte, plus, zeros, scaled, times, power, generator_of, IsCorrection}}
+use Rattle.qr_field.proofs.lemmas.galois.{BitLemmas.xor-swap, ProductLemmas.{product-lt, product-xor}, PowerLemmas.{power-lt, power-add}}
 use Rattle.qr_field.proofs.lemmas.galois.ByteLemmas.{product-by_zero, product-of_zero, product-by_one, product-of_one}
-use Rattle.qr_field.proofs.lemmas.galois.PowerLemmas.{power-lt, power-add}
 use Rattle.qr_field.proofs.lemmas.galois.FieldLemmas.{product-assoc, product-swap, product-by_sum}
 use Rattle.qr_field.proofs.lemmas.polynomial.ListLemmas.{length-plus, length-times, bytes-scaled}
 use Rattle.qr_field.proofs.lemmas.polynomial.PolynomialLemmas.{generator-shape, bytes-times, bytes-generator}
@@ -32,10 +29,8 @@ value-zeros i (suc k) = value-zero i (zeros k) ∙ value-zeros i k
 value-scaled : (i a : ℕ) (p : List ℕ) → a < 256 → All IsByte p → value_at i (scaled a p) ≡ product a (value_at i p)
 value-scaled i a [] l b = sym (product-by_zero a l)
 value-scaled i a (c ∷ p) l b =
-    let lx = power-lt (i * length p) in
-    let lc = All-head IsByte c p b in
     let lp = All-tail IsByte c p b in
-    search (arith, product-by_sum, product-lt, value-lt, length-map, product-assoc, value-scaled i a p l lp)
+    search (arith, product-by_sum, product-lt, value-lt, length-map, product-assoc, value-scaled i a p l lp, power-lt (i * length p), All-head IsByte c p b)
 
 -- the value of `plus xs ys`, which adds from the first coefficients on, if ys has k coefficients more than xs
 pub value-plus : (i k : ℕ) (xs ys : List ℕ) → length ys ≡ k + length xs → All IsByte xs → All IsByte ys →
@@ -44,20 +39,13 @@ value-plus i k [] ys e a b = search (arith, product-of_zero, power-lt, xor_zero_
 value-plus i k (x ∷ xs) [] e a b = absurd (omega (arith, e))
 value-plus i k (x ∷ xs) (y ∷ ys) e a b =
     let lx = All-head IsByte x xs a in
-    let ly = All-head IsByte y ys b in
     let lxs = All-tail IsByte x xs a in
-    let lys = All-tail IsByte y ys b in
     let f : length ys ≡ k + length xs = omega (arith, e) in
-    let place = power (i * length ys) in
-    let shift = power (i * k) in
-    let inner = power (i * length xs) in
-    let ls = power-lt (i * k) in
-    let li = power-lt (i * length xs) in
     let exponent : i * length ys ≡ i * length xs + i * k = ap (λ t. i * t) f ∙ omega arith in
     let split = power-add (i * length xs) (i * k) in
-    let front = product-assoc x inner shift lx li ls in
-    let head = product-xor x y place lx ly in
-    search (arith, product-xor, product-lt, value-lt, xor-swap, length-plus, value-plus i k xs ys f lxs lys)
+    let front = product-assoc x (power (i * length xs)) (power (i * k)) lx (power-lt (i * length xs)) (power-lt (i * k)) in
+    let head = product-xor x y (power (i * length ys)) lx (All-head IsByte y ys b) in
+    search (arith, product-xor, product-lt, value-lt, xor-swap, length-plus, value-plus i k xs ys f lxs (All-tail IsByte y ys b))
 
 -- the value of the product of q and a ∷ g at 2 to the power i is the product of the values of q and of a ∷ g at this power
 value-times : (i : ℕ) (q : List ℕ) (a : ℕ) (g : List ℕ) → All IsByte q → All IsByte (a ∷ g) →
@@ -67,16 +55,12 @@ value-times i (b ∷ q) a g bq bg =
     let lb = All-head IsByte b q bq in
     let lq = All-tail IsByte b q bq in
     let v = value_at i (a ∷ g) in
-    let lv = value-lt i (a ∷ g) bg in
     let place = power (i * length q) in
-    let lp = power-lt (i * length q) in
     let rest = times q (a ∷ g) in
-    let m = length-map (a ∷ g) (product b) in
-    let t = length-times q a g in
-    let longer : length (0 ∷ rest) ≡ length q + length (scaled b (a ∷ g)) = omega (arith, m, t) in
+    let longer : length (0 ∷ rest) ≡ length q + length (scaled b (a ∷ g)) = omega (arith, length-map (a ∷ g) (product b), length-times q a g) in
     let bytes : All IsByte (0 ∷ rest) = All-cons IsByte 0 rest (lit< tt) (bytes-times q (a ∷ g) lq) in
     let sum = value-plus i (length q) (scaled b (a ∷ g)) (0 ∷ rest) longer (bytes-scaled b (a ∷ g) lb) bytes in
-    let first = product-swap b v place lb lv lp in
+    let first = product-swap b v place lb (value-lt i (a ∷ g) bg) (power-lt (i * length q)) in
     let both = product-xor (product b place) (value_at i q) v (product-lt b place lb) (value-lt i q lq) in
     cc (sum, value-scaled i b (a ∷ g) lb bg, value-zero i rest, value-times i q a g lq bg)
 
@@ -86,16 +70,14 @@ value-times i (b ∷ q) a g bq bg =
 generator-root : (n i : ℕ) → i < n → value_at i (generator_of n) ≡ 0
 generator-root zero i l = absurd (omega arith)
 generator-root (suc n) i l =
-    let before = generator_of n in
     let factor : List ℕ = 1 ∷ power n ∷ [] in
     let bytes : All IsByte factor =
     All-cons IsByte 1 (power n ∷ []) (lit< tt) (All-cons IsByte (power n) [] (power-lt n) (All-nil IsByte)) in
-    let split = value-times i before 1 (power n ∷ []) (bytes-generator n) bytes in
+    let split = value-times i (generator_of n) 1 (power n ∷ []) (bytes-generator n) bytes in
     elim (cases_eq i n) [
       | inl e ↦ grind (arith, product-by_zero, value-lt, bytes-generator, product-of_one, power-lt, product-by_one, xor_zero_r, xor_self)
       | inr o ↦
-          let none = product-of_zero (value_at i factor) (value-lt i factor bytes) in
-          cc (generator-root n i (omega (arith, o)))
+          cc (generator-root n i (omega (arith, o)), product-of_zero (value_at i factor) (value-lt i factor bytes))
     ]
 
 -- a block of data codewords d and n error correction codewords e consists of bytes
@@ -109,6 +91,4 @@ block-root d n e c i l =
     let q = m.quotient in
     let s = generator-shape n in
     let bytes : All IsByte (1 ∷ s.0) = subst (λ (t : List ℕ). All IsByte t) s.1 (bytes-generator n) in
-    let whole = m.whole in
-    let shape = s.1 in
-    cc (generator-root n i l, value-times i q 1 s.0 m.bytes bytes, product-by_zero (value_at i q) (value-lt i q m.bytes))
+    cc (generator-root n i l, value-times i q 1 s.0 m.bytes bytes, product-by_zero (value_at i q) (value-lt i q m.bytes), m.whole, s.1)

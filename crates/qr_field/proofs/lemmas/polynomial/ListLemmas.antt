@@ -1,16 +1,10 @@
 -- Lists of coefficients: their sums, lengths and products.
 use Rattle.std.proofs.Common.{◌≡◌, ℕ, zero, suc, ◌+◌, ◌<◌, ◌≤◌, List, [], ◌∷◌, ◌++◌, length, take, refl, ap, arith, bit_xor, lit<, ltb, true}
-use Rattle.std.proofs.lemmas.{Bool.and_parts, Nat.xor_comm, Nat.xor_of_8}
-use Rattle.std.proofs.lemmas.List.{length-map, append-nil, drop_all, take_all, length-take}
-use Rattle.std.proofs.lemmas.List.Elements.{All-map, All-nil, All-cons, All-head, All-tail}
-use Rattle.std.specs.{List.{All, refill, list_all}, Int.Bits.{xor_assoc, xor_zero_r}}
+use Rattle.std.proofs.lemmas.{Bool.and_parts, Nat.{xor_comm, xor_of_8}, List.{length-map, length-take}}
+use Rattle.std.{proofs.lemmas.List.Elements.{All-map, All-nil, All-cons, All-head, All-tail}, specs.{List.{All, list_all}, Int.Bits.{xor_assoc, xor_zero_r}}}
 use borrow.Author.Tests.{ltb-true}
 use Rattle.qr_field.specs.{Galois.product, Polynomial.{IsByte, plus, zeros, scaled, times}}
 use Rattle.qr_field.proofs.lemmas.galois.{BitLemmas.xor-cancel, ProductLemmas.product-lt}
-
--- a list that is written over by a list of its own length is that list
-pub refill_same : (xs ws : List ℕ) → length ws ≡ length xs → refill (length xs) xs ws ≡ ws
-refill_same xs ws e = search (arith, drop_all, append-nil, take_all)
 
 -- ---- sums
 
@@ -123,9 +117,7 @@ pub times-snoc : (q : List ℕ) (f a : ℕ) (g : List ℕ) →
 times-snoc [] f a g = search (arith, length-map, snoc-zeros, plus-comm)
 times-snoc (b ∷ q) f a g =
     let ih = times-snoc q f a g in
-    let m = length-map (a ∷ g) (product b) in
-    let l = length-times q a g in
     let first = scaled b (a ∷ g) in
     let middle : List ℕ = 0 ∷ times q (a ∷ g) in
     let last : List ℕ = 0 ∷ (zeros (length q) ++ scaled f (a ∷ g)) in
-    cc (plus_assoc first (middle ++ 0 ∷ []) last, plus-snoc first middle (0 ∷ []) (omega (arith, m, l)))
+    cc (plus_assoc first (middle ++ 0 ∷ []) last, plus-snoc first middle (0 ∷ []) (omega (arith, length-map (a ∷ g) (product b), length-times q a g)))

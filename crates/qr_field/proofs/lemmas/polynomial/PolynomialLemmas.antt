@@ -35,8 +35,7 @@ quotient-one (x ∷ q) (y ∷ r) g a b l e =
     let both : take (length q) (plus (scaled x g) (times q (1 ∷ g))) ≡ take (length q) (plus (scaled x g) (times r (1 ∷ g))) =
     cc in
     let lq = length-times q 1 g in
-    let lr = length-times r 1 g in
-    let rest = same-plus (length q) (scaled x g) (times q (1 ∷ g)) (times r (1 ∷ g)) (omega (arith, lq)) (omega (arith, lr, lq)) both in
+    let rest = same-plus (length q) (scaled x g) (times q (1 ∷ g)) (times r (1 ∷ g)) (omega (arith, lq)) (omega (arith, length-times r 1 g, lq)) both in
     let ih = quotient-one q r g (All-tail IsByte x q a) (All-tail IsByte y r b) (omega arith) rest in
     cc
 
@@ -52,17 +51,12 @@ times-root c (x ∷ q) root l a =
 -- a generator polynomial begins with the coefficient 1 and has degree n
 pub generator-shape : (n : ℕ) → (g : List ℕ) × (generator_of n ≡ 1 ∷ g) × (length g ≡ n)
 generator-shape zero = ([], refl, refl)
-generator-shape (suc n) =
-    let s = generator-shape n in
-    let l = length-times (generator_of n) 1 (power n ∷ []) in
-    search (arith, product-by_one, xor_zero_r)
+generator-shape (suc n) = search (arith, product-by_one, xor_zero_r, generator-shape n, length-times (generator_of n) 1 (power n ∷ []))
 
 -- the product of two polynomials has bytes as coefficients, if the first has bytes as coefficients
 pub bytes-times : (q g : List ℕ) → All IsByte q → All IsByte (times q g)
 bytes-times [] g a = bytes-zeros (length g - 1)
-bytes-times (b ∷ q) g a =
-    let one = bytes-scaled b g (All-head IsByte b q a) in
-    search (arith, All-tail, bytes-plus, All-cons, bytes-times q g (All-tail IsByte b q a))
+bytes-times (b ∷ q) g a = search (arith, All-tail, bytes-plus, All-cons, bytes-times q g (All-tail IsByte b q a), bytes-scaled b g (All-head IsByte b q a))
 
 -- a generator polynomial has bytes as coefficients
 pub bytes-generator : (n : ℕ) → All IsByte (generator_of n)
@@ -100,17 +94,14 @@ correction-next p n b r rs g l e c =
     let lg : length g ≡ n = omega (arith, ap length e, ap length s.1, s.2) in
     let m = c.multiple in
     let w : times m.quotient (1 ∷ g) ≡ p ++ r ∷ rs = ap (λ t. times m.quotient t) e ∙ m.whole in
-    let lt = length-times m.quotient 1 g in
     let la = length-append p (r ∷ rs) in
     let lr : r < 256 = All-head IsByte r rs c.bytes in
-    let d = divide-step p m.quotient b r rs g l lr (omega (arith, lt, la, ap length w, c.count)) (omega (arith, c.count)) w in
-    let ls = length-append rs (0 ∷ []) in
+    let d = divide-step p m.quotient b r rs g l lr (omega (arith, length-times m.quotient 1 g, la, ap length w, c.count)) (omega (arith, c.count)) w in
     let lm = length-map g (product (bit_xor b r)) in
     let lf = xor_of_8 b r l lr in
     let moved = All-push IsByte rs 0 (All-tail IsByte r rs c.bytes) (lit< tt) in
-    let sum = length-plus (rs ++ 0 ∷ []) (scaled (bit_xor b r) g) (omega (arith, ls, lm, c.count)) in
     record {
-      count = omega (arith, sum, lm, lg);
+      count = omega (arith, length-plus (rs ++ 0 ∷ []) (scaled (bit_xor b r) g) (omega (arith, length-append rs (0 ∷ []), lm, c.count)), lm, lg);
       bytes = search (arith, bytes-plus, bytes-scaled);
       multiple = record {
         quotient = m.quotient ++ bit_xor b r ∷ [];
@@ -146,11 +137,9 @@ correction-one d n e f a b =
     let qb = b.multiple.quotient in
     let wa : times qa (1 ∷ g) ≡ d ++ e = ap (λ t. times qa t) (sym s.1) ∙ a.multiple.whole in
     let wb : times qb (1 ∷ g) ≡ d ++ f = ap (λ t. times qb t) (sym s.1) ∙ b.multiple.whole in
-    let ta = length-times qa 1 g in
     let tb = length-times qb 1 g in
-    let la = length-append d e in
     let lb = length-append d f in
-    let na : length qa ≡ length d = omega (arith, ta, la, ap length wa, a.count, s.2) in
+    let na : length qa ≡ length d = omega (arith, length-times qa 1 g, length-append d e, ap length wa, a.count, s.2) in
     let fronts : take (length qa) (times qa (1 ∷ g)) ≡ take (length qa) (times qb (1 ∷ g)) =
     cc (take_at d e (length qa) (sym na), take_at d f (length qa) (sym na)) in
     search (arith, quotient-one, append_cancel_left)

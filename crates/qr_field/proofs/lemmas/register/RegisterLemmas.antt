@@ -1,15 +1,12 @@
 -- Coefficients packed into one number, and a register of them.
 use Rattle.std.proofs.Common.{◌≡◌, ℕ, zero, suc, ◌+◌, ◌*◌, ◌/◌, ◌%◌, ◌^◌, ◌<◌, ◌≤◌, List, [], ◌∷◌, ◌++◌, length, take, drop, get_or, refl, sym, ap, ◌∙◌, arith, lit<, bit_xor, bit_or, bit_and}
 use Rattle.std.proofs.lemmas.Nat.{or_shifted, xor_block, xor_mod, xor_shr, and_block, and_mask, mod_low, shr_high}
-use Rattle.std.proofs.Math.Nat.{pow-suc, mul_assoc, mul_comm, div-div-eq-div-mul}
+use Rattle.std.proofs.{Math.Nat.{pow-suc, mul_assoc, mul_comm, div-div-eq-div-mul}, lemmas.List.Elements.{All-nil, All-cons, All-head, All-tail}}
 use Rattle.std.proofs.lemmas.List.{append-nil, drop_all, get_or-map, length-append, length-drop, length-map, length-take, map-append, take-append-drop, take_at}
-use Rattle.std.proofs.lemmas.List.Elements.{All-nil, All-cons, All-head, All-tail}
-use Rattle.std.specs.{List.All, Int.{byte_at, bytes_low_first, to_le_bytes, w64, w128}}
-use Rattle.std.specs.Int.Bits.{xor_zero_l, xor_zero_r, xor_self, and_zero_r}
+use Rattle.std.specs.{List.All, Int.{byte_at, bytes_low_first, to_le_bytes, w64, w128, Bits.{xor_zero_l, xor_zero_r, xor_self, and_zero_r}}}
 use borrow.Rule.Slice.PartMut.{put_mid}
 use Rattle.qr_field.specs.{Galois.product, Polynomial.{IsByte, plus, scaled, zeros}, Steps.Register.{packed, unpacked}}
-use Rattle.qr_field.proofs.lemmas.galois.ByteLemmas.{product-of_zero, product-by_zero, product-of_two}
-use Rattle.qr_field.proofs.lemmas.polynomial.ListLemmas.{bytes-scaled}
+use Rattle.qr_field.proofs.lemmas.{galois.ByteLemmas.{product-of_zero, product-by_zero, product-of_two}, polynomial.ListLemmas.bytes-scaled}
 
 -- ---- two halves of a register
 
@@ -38,10 +35,6 @@ packed-zero_last (x ∷ xs) = ap (λ t. t * 2 ^ 8 + x) (packed-zero_last xs)
 pub packed-first : (xs : List ℕ) (r : ℕ) → 1 ≤ length xs → All IsByte xs → packed xs % 2 ^ 8 ≡ get_or xs 0 r
 packed-first [] r l a = absurd (omega arith)
 packed-first (x ∷ xs) r l a = mod_low (packed xs) 8 x (All-head IsByte x xs a)
-
--- the coefficients after the first one
-pub packed-rest : (xs : List ℕ) → 1 ≤ length xs → All IsByte xs → packed xs / 2 ^ 8 ≡ packed (drop 1 xs)
-packed-rest xs l a = grind arith
 
 -- packed coefficients that are unpacked are the same coefficients
 pub unpacked-packed : (n : ℕ) (xs : List ℕ) → length xs ≡ n → All IsByte xs → unpacked n (packed xs) ≡ xs

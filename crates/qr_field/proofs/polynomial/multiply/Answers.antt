@@ -1,7 +1,4 @@
-use Rattle.std.proofs.lemmas.Grind.{common_steps}
-use Rattle.std.proofs.Common.{rules}
-use Rattle.std.proofs.lemmas.{Grind.common_steps, List.{drop_all, length-set, take_all}}
-use Rattle.qr_field.proofs.lemmas.polynomial.ListLemmas.{refill_same}
+use Rattle.std.proofs.{lemmas.{List.{append-nil, drop_all, length-set, take_all}, Grind.common_steps}, Common.rules}
 use Rattle.qr_field.proofs.polynomial.multiply.Goals as goal
 
 pub loop-coefficient-init : goal.loop-coefficient-init
@@ -11,4 +8,4 @@ pub loop-coefficient-preserved : goal.loop-coefficient-preserved
 loop-coefficient-preserved c = search (rules, length-set, common_steps)
 
 pub returns : goal.returns
-returns c = search (rules, take_all, drop_all, refill_same)
+returns c = search (rules, take_all, drop_all, append-nil)

@@ -1,7 +1,5 @@
-use Rattle.std.proofs.Common.{◌≡◌, ◌+◌, ◌*◌, ◌/◌, ◌%◌, ◌^◌, ◌∙◌, ap, arith}
-use Rattle.std.proofs.lemmas.Nat.{and_mask, or_shifted}
-use Rattle.qr_field.specs.{Polynomial.scaled, Steps.Register.{packed, unpacked}}
-use Rattle.qr_field.proofs.lemmas.register.RegisterLemmas.{byte-doubled, doubled-halves}
+use Rattle.std.proofs.{Common.{◌≡◌, ◌+◌, ◌*◌, ◌/◌, ◌%◌, ◌^◌, ◌∙◌, ap, arith}, lemmas.Nat.{and_mask, or_shifted}}
+use Rattle.qr_field.{specs.{Polynomial.scaled, Steps.Register.{packed, unpacked}}, proofs.lemmas.register.RegisterLemmas.{byte-doubled, doubled-halves}}
 use Rattle.qr_field.proofs.register.doubled.Goals as goal
 
 pub returns : goal.returns

@@ -1,7 +1,6 @@
-use Rattle.std.proofs.Common.{◌≡◌, ◌≤◌, ◌-◌, ◌+◌, cond, eqb, ◌/◌, ℕ, arith}
+use Rattle.std.proofs.Common.{rules, ◌≡◌, ◌≤◌, ◌-◌, ◌+◌, cond, eqb, ◌/◌, ℕ, arith}
 use Rattle.{std.proofs.lemmas.Bool.Decides.nat_tests, qr_layout.proofs.lemmas.alignment.TableLemmas.centres-agree}
 use Rattle.qr_layout.proofs.alignment.centre_list.Goals as goal
-use Rattle.qr_layout.proofs.alignment.centre_list.Goals.{then-number-eq1, else-number-eq1}
 
 first : (n i many : ℕ) → n ≡ 1 → i ≡ n - 1 → many ≡ 0 → many ≡ cond (eqb i 0) 0 ((i + 1) / 7 + 2)
 first n i many a b d = grind (arith, nat_tests)
@@ -14,9 +13,5 @@ returns c =
     let n = c.number-number.result in
     let i = c.from.result in
     let many = c.if-number-eq1.many in
-    let l = c.number-number.ensures.least in
-    let e : many ≡ cond (eqb i 0) 0 ((i + 1) / 7 + 2) = elim c.if-number-eq1.branch [
-      | then-number-eq1 w ↦ first n i many w.if-number-eq1.true c.from.ensures w.many-is
-      | else-number-eq1 w ↦ other n i many w.from-many.result w.if-number-eq1.false l c.from.ensures w.from-many.ensures w.many-is
-    ] in
+    let e : many ≡ cond (eqb i 0) 0 ((i + 1) / 7 + 2) = search rules in
     centres-agree c.args.version i many (omega arith) (omega arith) e

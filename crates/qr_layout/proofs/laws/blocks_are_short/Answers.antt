@@ -1,5 +1,6 @@
-use Rattle.{std.proofs.Common.arith, qr_layout.proofs.lemmas.blocks.BlockLemmas.blocks-short}
+use Rattle.std.proofs.Common.{rules}
+use Rattle.qr_layout.proofs.lemmas.blocks.BlockLemmas.{blocks-short}
 use Rattle.qr_layout.proofs.laws.blocks_are_short.Goals as goal
 
 pub returns-clause-most : goal.returns-clause-most
-returns-clause-most c = blocks-short c.args.level c.args.version (omega arith) (omega arith)
+returns-clause-most c = search (rules, blocks-short)

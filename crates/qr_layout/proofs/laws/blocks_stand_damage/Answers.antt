@@ -1,5 +1,6 @@
-use Rattle.{std.proofs.Common.arith, qr_layout.proofs.lemmas.blocks.BlockLemmas.damage-stood}
+use Rattle.std.proofs.Common.{rules}
+use Rattle.qr_layout.proofs.lemmas.blocks.BlockLemmas.{damage-stood}
 use Rattle.qr_layout.proofs.laws.blocks_stand_damage.Goals as goal
 
 pub returns : goal.returns
-returns c = damage-stood c.args.level c.args.version (omega arith) (omega arith)
+returns c = search (rules, damage-stood)

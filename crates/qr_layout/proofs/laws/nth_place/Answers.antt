@@ -1,5 +1,4 @@
-use Rattle.std.proofs.Common.{◌≡◌, Option, refl, sym, ap, ◌∙◌, arith}
-use Rattle.std.proofs.lemmas.Iterator.Consumers.{nth_from_yields_List, YieldsList-from_first}
+use Rattle.std.proofs.{Common.{◌≡◌, Option, refl, sym, ap, ◌∙◌, arith}, lemmas.Iterator.Consumers.{nth_from_yields_List, YieldsList-from_first}}
 use Rattle.std.specs.{List.slice_get, Option.option_map}
 use Rattle.qr_layout.{specs.declared.region.Place.Place, proofs.lemmas.order.OrderLemmas.only-order}
 use Rattle.qr_layout.proofs.laws.nth_place.Goals as goal

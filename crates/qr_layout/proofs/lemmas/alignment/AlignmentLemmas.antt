@@ -1,14 +1,11 @@
 -- The alignment patterns and the encoding region, as tests of their parts.
 use Rattle.qr_layout.proofs.lemmas.alignment.TableLemmas.{below, below-from}
-use Rattle.std.proofs.Common.{◌≡◌, ℕ, ◌+◌, ◌-◌, ◌<◌, ◌≤◌, Bool, true, false, not, ◌&&◌, ◌||◌, cond, ltb, leb, List, [], ◌∷◌, map, refl, sym, ap, ◌∙◌, inl, inr, ◌⊎◌, arith}
-use Rattle.std.proofs.lemmas.{Bool.Decides.nat_tests, List.Elements.{All-nil, All-cons, All-weaker}}
-use Rattle.std.proofs.lemmas.{Bool.and_parts, List.Folds.list_any-append}
+use Rattle.std.proofs.Common.{◌≡◌, ℕ, ◌+◌, ◌-◌, ◌<◌, ◌≤◌, Bool, true, false, not, ◌&&◌, ◌||◌, cond, ltb, leb, List, [], ◌∷◌, map, refl, ap, ◌∙◌, arith}
+use Rattle.std.proofs.lemmas.{Bool.{Decides.nat_tests, and_parts}, List.{Elements.{All-nil, All-cons, All-weaker}, Folds.list_any-append}}
 use Rattle.std.specs.List.{All, list_all, list_any, flat_map}
 use Rattle.qr_layout.specs.Region.{is_corner, is_timing, is_version_information, is_alignment, ring_of, is_in_region}
-use Rattle.qr_layout.specs.{declared.region.Rectangle.Rectangle, Rectangles.AreFixed, Rectangles.is_in_rectangle}
-use Rattle.qr_layout.specs.Steps.Rectangles.{IsCentreInside, IsInside, alignment_rectangles, fixed_list, rectangle_around, taken_rectangles}
-use Rattle.qr_layout.specs.{declared.region.Place.Place, Version.side_of}
-use Rattle.qr_layout.specs.Alignment.{centres_of, is_corner_pair, alignment_places}
+use Rattle.qr_layout.specs.{declared.region.{Rectangle.Rectangle, Place.Place}, Rectangles.{AreFixed, is_in_rectangle}, Version.side_of}
+use Rattle.qr_layout.specs.{Steps.Rectangles.{IsCentreInside, IsInside, fixed_list, taken_rectangles}, Alignment.{centres_of, is_corner_pair, alignment_places}}
 
 -- a test of the items of a flat map goes over the lists that it joins
 list_any-flat_map : {X Y : Type 0} (p : Y → Bool) (f : X → List Y) (xs : List X) → list_any p (flat_map f xs) ≡ list_any (λ x. list_any p (f x)) xs
@@ -49,10 +46,6 @@ alignment_parts r c s cs =
 -- the square round a centre has the rings 0 to 2
 square-rings : (a b r c : ℕ) → is_in_rectangle r c (record { top = a - 2; bottom = a + 3; left = b - 2; right = b + 3 }) ≡ leb (ring_of a b r c) 2
 square-rings a b r c = grind (arith, nat_tests)
-
--- the squares of the alignment patterns have their rings 0 to 2
-alignment-rectangles : (r c : ℕ) (ms : List Place) → list_any (λ m. is_in_rectangle r c (rectangle_around m)) ms ≡ list_any (λ m. leb (ring_of m.row m.col r c) 2) ms
-alignment-rectangles r c ms = list_any-same _ _ (λ m. square-rings m.row m.col r c) ms
 
 -- ---- the rectangles that cover all but the alignment patterns
 
@@ -105,11 +98,7 @@ region_outside v bs a r c h k = search (arith, region-parts)
 -- the same for the rectangles of a version, with the alignment patterns as rectangles too
 pub region-taken : (v r c : ℕ) → 1 ≤ v → v ≤ 40 → r < side_of v → c < side_of v → is_in_region v r c ≡ not (list_any (is_in_rectangle r c) (taken_rectangles v))
 region-taken v r c l m h k =
-    let s = side_of v in
-    let p = is_in_rectangle r c in
-    let ms = alignment_places s (centres_of v) in
-    region_outside v (fixed_list v) (fixed-are v l m) r c h k
-    ∙ ap not (ap (λ b. list_any p (fixed_list v) || b) (sym (list_any-map p rectangle_around ms ∙ alignment-rectangles r c ms)) ∙ sym (list_any-append p (fixed_list v) (alignment_rectangles s (centres_of v))))
+    search (arith, region_outside, fixed-are, list_any-map, list_any-append, list_any-same, square-rings)
 
 -- no place below the last row is in the region
 pub region-row-out : (v r c : ℕ) → side_of v ≤ r → false ≡ is_in_region v r c
@@ -125,26 +114,20 @@ region-col-out v r c h = grind (arith, nat_tests)
 pub region-free : (v r c : ℕ) → r < side_of v → c < side_of v → is_corner (side_of v) r c ≡ false → is_timing r c ≡ false → is_version_information v r c ≡ false → is_in_region v r c ≡ not (is_alignment v r c)
 region-free v r c h k i j l = rw (region-parts v r c h k, i, j, l) refl
 
--- the same by the tests of these parts
-pub region-none : (v r c s : ℕ) (e : Bool) → s ≡ side_of v → r < s → c < s → false ≡ is_corner s r c → false ≡ is_timing r c → false ≡ is_version_information v r c → e ≡ is_alignment v r c → not e ≡ is_in_region v r c
-region-none v r c s e y h k i j l m = search (arith, region-free)
-
--- a place in the corners, on a timing pattern or in the version information is not in the region
-region-hidden : (v r c : ℕ) → ((is_corner (side_of v) r c ≡ true) ⊎ ((is_timing r c ≡ true) ⊎ (is_version_information v r c ≡ true))) → false ≡ is_in_region v r c
-unfolding is_in_region
-region-hidden v r c h = search arith
-
 -- a place in the corners is not in the region
 pub region-corners : (v r c : ℕ) → is_corner (side_of v) r c ≡ true → false ≡ is_in_region v r c
-region-corners v r c h = region-hidden v r c (inl h)
+unfolding is_in_region
+region-corners v r c h = search arith
 
 -- a place on a timing pattern is not in the region
 pub region-timing : (v r c : ℕ) → is_timing r c ≡ true → false ≡ is_in_region v r c
-region-timing v r c h = region-hidden v r c (inr (inl h))
+unfolding is_in_region
+region-timing v r c h = search arith
 
 -- a place in the version information is not in the region
 pub region-version : (v r c : ℕ) → is_version_information v r c ≡ true → false ≡ is_in_region v r c
-region-version v r c h = region-hidden v r c (inr (inr h))
+unfolding is_in_region
+region-version v r c h = search arith
 
 pub ruleset region_out = (region-row-out, region-col-out, region-corners, region-timing, region-version)
 

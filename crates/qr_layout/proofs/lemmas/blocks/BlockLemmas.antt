@@ -66,11 +66,6 @@ laws-of l v a b = let h : are_lawful l v ≡ true = every-at are_lawful all-lawf
   most_small = λ k. grind (arith, nat_tests);
 }
 
--- the difference that the code computes is that of the definition
-pub data-value : (l : Level) (v t b n : ℕ) → t ≡ total_codewords_of v → b ≡ block_count_of v l → n ≡ correction_len_of v l → t - b * n ≡ data_codewords_of v l
-unfolding data_codewords_of
-data-value l v t b n et eb en = cc
-
 -- products of equal numbers are equal
 same-product : (a b c d : ℕ) → a ≡ c → b ≡ d → a * b ≡ c * d
 same-product a b c d e f = cc
@@ -101,9 +96,7 @@ blocks-total l v r h k lr = search (arith, laws-of)
 
 -- the blocks of each version and level together have its codewords
 pub blocks-sound : (l : Level) (v : ℕ) → 1 ≤ v → v ≤ 40 → AreWhole v l (blocks_of v l)
-blocks-sound l v h k =
-    let f = laws-of l v h k in
-    search (arith, blocks-sum, blocks-total)
+blocks-sound l v h k = search (arith, blocks-sum, blocks-total, laws-of l v h k)
 
 -- no block has more than 153 codewords, computed
 longest-all : every (λ l v. leb (longest_of (blocks_of v l)) 153) ≡ true

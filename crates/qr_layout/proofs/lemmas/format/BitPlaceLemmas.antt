@@ -1,8 +1,7 @@
 -- The places of the bits of the format and version information.
 use Rattle.std.proofs.Common.{◌≡◌, ℕ, zero, suc, ◌+◌, ◌-◌, ◌*◌, ◌<◌, ◌≤◌, Bool, true, false, ◌&&◌, ◌||◌, cond, eqb, ltb, leb, None, Some, refl, ap, ◌∙◌, inl, inr, ◌⊎◌, arith}
-use Rattle.std.proofs.lemmas.Bool.{Decides.nat_tests, and_parts, cases_lt, cases_Bool}
-use Rattle.std.specs.List.{find, range_with_len}
-use Rattle.qr_layout.specs.{Version.side_of, Region.is_version_copy, Region.is_version_information}
+use Rattle.std.{proofs.lemmas.Bool.{Decides.nat_tests, and_parts, cases_lt, cases_Bool}, specs.List.{find, range_with_len}}
+use Rattle.qr_layout.specs.{Version.side_of, Region.is_version_information}
 use Rattle.qr_layout.specs.Format.{first_place, second_place, version_place, mirror_of, is_at, format_bit_at, version_bit_at}
 
 -- the only one of n numbers from a on that passes the test is the one that is found
@@ -64,14 +63,10 @@ second-here s r c i l a h = grind (arith, nat_tests)
 pub either : (a b : Bool) → (a || b) ≡ true → (a ≡ true) ⊎ (b ≡ true)
 either a b h = grind (arith, nat_tests)
 
--- a bit that is at a place is the bit that may be there
-stands-here : (s r c i : ℕ) → 21 ≤ s → i < 15 → stands s r c i ≡ true → i ≡ bit_here s r c
-stands-here s r c i l a h = search (arith, either, nat_tests, second-here)
-
 -- the bit of the format information that a place contains
 pub format-at : (s r c : ℕ) → 21 ≤ s → format_bit_at s r c ≡ cond (ltb (bit_here s r c) 15 && stands s r c (bit_here s r c)) (Some (bit_here s r c)) None
 unfolding format_bit_at
-format-at s r c l = first-one 15 (stands s r c) (bit_here s r c) (λ j b k. stands-here s r c j l b k)
+format-at s r c l = first-one 15 (stands s r c) (bit_here s r c) (λ j b k. (search (arith, either, nat_tests, second-here)))
 
 -- column 8
 pub format_in_column_8 : (s r : ℕ) → 21 ≤ s → r < s → format_bit_at s r 8
@@ -100,10 +95,6 @@ version_here s r c = cond (ltb r 6) (3 * r + (c + 11 - s)) (3 * c + (r + 11 - s)
 version-here : (s r c i : ℕ) → 21 ≤ s → i < 18 → stands_for_version s r c i ≡ true → i ≡ version_here s r c
 version-here s r c i l a h = grind (arith, nat_tests)
 
--- the bit is there exactly in the two copies
-version-stands : (s r c : ℕ) → 21 ≤ s → (ltb (version_here s r c) 18 && stands_for_version s r c (version_here s r c)) ≡ (is_version_copy s r c || is_version_copy s c r)
-version-stands s r c l = grind (arith, nat_tests)
-
 -- the bit of the version information that a place contains
 pub version_at : (v r c : ℕ) → version_bit_at v r c ≡ cond (is_version_information v r c) (Some (version_here (side_of v) r c)) None
 unfolding version_bit_at
@@ -115,5 +106,5 @@ version_at v r c =
           let t : ltb v 7 ≡ false = grind (arith, nat_tests) in
           let u : leb 7 v ≡ true = grind (arith, nat_tests) in
           rw (t, u) (first-one 18 (stands_for_version s r c) (version_here s r c) (λ j b h. version-here s r c j (omega arith) b h)
-          ∙ ap (λ b. cond b (Some (version_here s r c)) None) (version-stands s r c (omega arith)))
+          ∙ ap (λ b. cond b (Some (version_here s r c)) None) (search (arith, nat_tests)))
     ]

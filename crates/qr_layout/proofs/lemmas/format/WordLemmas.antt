@@ -62,16 +62,12 @@ passed : (n divisor k x : ℕ) → (2 ^ n ≤ divisor) × (divisor < 2 ^ (n + 1)
 unfolding is_remainder
 passed n divisor k x d h = search arith
 
--- two bits of the level and three of the mask are below 32
-five-small : (l : Level) (mask : ℕ) → mask < 8 → five_bits l mask < 32
-five-small l mask h = grind arith
-
 -- the format information contains a remainder
 pub format-word-remainder : (l : Level) (mask : ℕ) → mask < 8 → IsFormatWord (five_bits l mask) (format_word_of l mask)
 unfolding format_word_of
 format-word-remainder l mask h = record {
   rest = word_remainder 10 format_generator 5 (five_bits l mask * 2 ^ 10);
-  remainder = passed 10 format_generator 5 (five_bits l mask * 2 ^ 10) (omega arith, omega arith) (below-at 32 (λ i. is_remainder 10 format_generator 5 (i * 2 ^ 10)) format-remainders (five_bits l mask) (five-small l mask h));
+  remainder = passed 10 format_generator 5 (five_bits l mask * 2 ^ 10) (omega arith, omega arith) (below-at 32 (λ i. is_remainder 10 format_generator 5 (i * 2 ^ 10)) format-remainders (five_bits l mask) (search (arith)));
   word_is = refl;
 }
 

@@ -1,10 +1,8 @@
 -- The indices of places in the order: each index below the count is that of one place of the region.
-use Rattle.std.proofs.Common.{◌≡◌, ℕ, zero, suc, ◌<◌, ◌≤◌, List, [], ◌∷◌, ◌++◌, length, get_or, refl, ap, ◌∙◌, subst, arith}
-use Rattle.std.proofs.Math.Seq.{get_or-append_seam}
+use Rattle.std.proofs.{Common.{◌≡◌, ℕ, zero, suc, ◌<◌, ◌≤◌, List, [], ◌∷◌, ◌++◌, length, get_or, refl, ap, ◌∙◌, subst, arith}, Math.Seq.get_or-append_seam}
 use Rattle.qr_layout.specs.{declared.region.Place.Place, Steps.Order.to_come, Steps.Order.first_cursor}
 use Rattle.qr_layout.specs.{Region.InRegion, Version.module_count_of, Order.IsOrder, Order.index_of}
-use Rattle.qr_layout.proofs.lemmas.order.{ListLemmas.{split, length-mid}, WalkLemmas.to_come-start}
-use Rattle.qr_layout.proofs.lemmas.order.OrderLemmas.{order-has, order-length, index-at}
+use Rattle.qr_layout.proofs.lemmas.order.{ListLemmas.{split, length-mid}, WalkLemmas.to_come-start, OrderLemmas.{order-has, order-length, index-at}}
 
 -- a list cut at an item by its index
 cut-at : (ms : List Place) (n : ℕ) (d : Place) → n < length ms → (front : List Place) × (back : List Place) × (ms ≡ front ++ get_or ms n d ∷ back) × (length front ≡ n)
@@ -26,11 +24,7 @@ item-index v ms m d o h =
 pub index-small : (v : ℕ) (ms : List Place) (m : Place) → IsOrder v ms → InRegion v m → index_of v m < length ms
 index-small v ms m o h =
     let w = split m ms (order-has v ms o m h) in
-    let e = index-at v w.0 w.1 m (subst (IsOrder v) w.2 o) in
-    let f = ap length w.2 in
-    let g = length-mid m w.0 w.1 in
-    let k = length-append-le w.0 w.1 in
-    omega arith
+    omega (arith, index-at v w.0 w.1 m (subst (IsOrder v) w.2 o), ap length w.2, length-mid m w.0 w.1, length-append-le w.0 w.1)
   where
     length-append-le : (xs ys : List Place) → length xs ≤ length (xs ++ ys)
     length-append-le [] ys = omega arith
@@ -40,8 +34,7 @@ index-small v ms m o h =
 pub index-below : (v : ℕ) (m : Place) → 1 ≤ v → v ≤ 40 → InRegion v m → index_of v m < module_count_of v
 index-below v m l k h =
     let o = to_come-start v in
-    let e = order-length v (to_come v (first_cursor v)) l k o in
-    search (arith, index-small)
+    search (arith, index-small, order-length v (to_come v (first_cursor v)) l k o)
 
 -- two places with the same index are the same place
 pub index-one : (v : ℕ) (m n : Place) → InRegion v m → InRegion v n → index_of v m ≡ index_of v n → m ≡ n

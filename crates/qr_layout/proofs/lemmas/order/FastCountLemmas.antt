@@ -5,8 +5,7 @@ use Rattle.std.{proofs.lemmas.Bool.{cases_lt, Decides.nat_tests}, specs.List.{li
 use Rattle.qr_layout.specs.{Region.is_in_region, declared.region.Rectangle.Rectangle, Order.places_passing}
 use Rattle.qr_layout.specs.Version.{total_codewords_of, remainder_bits_of, module_count_of}
 use Rattle.qr_layout.specs.{Rectangles.is_in_rectangle, Steps.Rectangles.taken_rectangles, Version.side_of, Alignment.centres_of}
-use Rattle.qr_layout.proofs.lemmas.alignment.{AlignmentLemmas.region-taken, TableLemmas.below}
-use Rattle.qr_layout.proofs.lemmas.order.CountLemmas.{sum_below, sum_below-same, places-sum}
+use Rattle.qr_layout.proofs.lemmas.{alignment.{AlignmentLemmas.region-taken, TableLemmas.below}, order.CountLemmas.{sum_below, sum_below-same, places-sum}}
 
 -- the row goes through the rectangle
 abbrev pub is_in_rows : ℕ → Rectangle → Bool

@@ -1,18 +1,12 @@
 -- A version has one order, and the length of the order is the number of modules of the encoding region.
-use Rattle.std.proofs.Common.{◌≡◌, ℕ, ◌+◌, ◌≤◌, Bool, true, leb, eqb, List, [], ◌∷◌, ◌++◌, ◌&&◌, length, refl, sym, ◌∙◌, subst, inl, inr, arith}
+use Rattle.std.proofs.Common.{◌≡◌, ℕ, ◌+◌, ◌≤◌, true, leb, eqb, List, [], ◌∷◌, ◌++◌, ◌&&◌, length, refl, sym, ◌∙◌, subst, inl, inr, arith}
 use Rattle.{std.proofs.lemmas.Bool.{and_parts, eqb-true}, qr_layout.specs.declared.region.Place.Place}
 use borrow.Author.Tests.{leb-true}
-use Rattle.qr_layout.specs.Order.{Key, key_of, is_before, IsOrder, places_passing, index_of}
-use Rattle.qr_layout.specs.Version.{total_codewords_of, remainder_bits_of, module_count_of}
+use Rattle.qr_layout.specs.{Order.{key_of, is_before, IsOrder, places_passing, index_of}, Version.{total_codewords_of, remainder_bits_of, module_count_of}}
 use Rattle.qr_layout.specs.{Region.is_in_region, Region.InRegion, Version.side_of, Alignment.centres_of, Laws.region_size}
 use Rattle.qr_layout.proofs.lemmas.{alignment.TableLemmas.{below, below-from}, region.RegionLemmas.{row-in, col-in}}
 use Rattle.qr_layout.proofs.lemmas.order.ListLemmas.{Mem, Rises, Distinct, Mem-at, All-of-Mem, All-rec, Mem-left, Mem-right, Mem-append, Rises-of-pairs, one-rising, Mem-of-Contains}
-use Rattle.qr_layout.proofs.lemmas.order.{CountLemmas.count-of, PathLemmas.before-parts}
-use Rattle.qr_layout.proofs.lemmas.order.FastCountLemmas.{region-count, agrees, agrees-40}
-
--- no two keys are each before the other
-before-asym : (a b : Key) → is_before a b ≡ true → is_before b a ≡ true → ⊥
-before-asym a b h k = search (arith, before-parts)
+use Rattle.qr_layout.proofs.lemmas.order.{CountLemmas.count-of, PathLemmas.before-parts, FastCountLemmas.{region-count, agrees, agrees-40}}
 
 -- a list that rises has no item twice
 Rises-distinct : {X : Type 0} (R : X → X → Type 0) → ((x y : X) → R x y → R y x → ⊥) → (xs : List X) → Rises R xs → Distinct xs
@@ -25,7 +19,7 @@ Before v m n = is_before (key_of v m) (key_of v n) ≡ true
 
 -- no two modules are each before the other
 asym : (v : ℕ) (m n : Place) → Before v m n → Before v n m → ⊥
-asym v m n h k = before-asym (key_of v m) (key_of v n) h k
+asym v m n h k = search (arith, before-parts)
 
 -- each item of the order is in the region
 pub order-mem : (v : ℕ) (ms : List Place) → IsOrder v ms → (m : Place) → Mem m ms → InRegion v m
@@ -93,20 +87,15 @@ Rises-after : {X : Type 0} (R : X → X → Type 0) (front back : List X) (m : X
 Rises-after R [] back m h x k = Mem-at (R m) back x h.0 k
 Rises-after R (y ∷ ys) back m h x k = Rises-after R ys back m h.1 x k
 
--- two tests that pass, passed together
-&&-both : (a b : Bool) → a ≡ true → b ≡ true → (a && b) ≡ true
-&&-both a b e f = rw (e, f) refl
-
 -- the index of a place of the order is the number of places before it
 pub index-at : (v : ℕ) (front back : List Place) (m : Place) → IsOrder v (front ++ m ∷ back) → index_of v m ≡ length front
 unfolding index_of
 index-at v front back m o =
     let whole = front ++ m ∷ back in
     let rises = Rises-of-pairs (Before v) whole o.rising in
-    let p = λ (r : ℕ) (c : ℕ). is_in_region v r c && is_before (key_of v (record { row = r; col = c })) (key_of v m) in
-    sym (count-of (side_of v) p front
+    sym (count-of (side_of v) (λ (r : ℕ) (c : ℕ). is_in_region v r c && is_before (key_of v (record { row = r; col = c })) (key_of v m)) front
     (Rises-distinct (Before v) (asym v) front (Rises-first (Before v) front (m ∷ back) rises))
-    (λ x k. let w = order-mem v whole o x (Mem-left x front (m ∷ back) k) in (row-in v x w, col-in v x w, &&-both _ _ w (Rises-front (Before v) front back m rises x k)))
+    (λ x k. let w = order-mem v whole o x (Mem-left x front (m ∷ back) k) in (row-in v x w, col-in v x w, (rw (w, (Rises-front (Before v) front back m rises x k)) refl)))
     (λ x a b k.
     let w : is_in_region v x.row x.col ≡ true = (and_parts _ (is_before (key_of v x) (key_of v m)) k).0 in
     let l = (and_parts (is_in_region v x.row x.col) (is_before (key_of v x) (key_of v m)) k).1 in

@@ -1,8 +1,6 @@
 -- The cursors of the walk: a step leaves one fewer, and a cursor with fewer left has a later key. v is a version.
-use Rattle.std.proofs.Common.{◌≡◌, ℕ, ◌+◌, ◌-◌, ◌*◌, ◌<◌, ◌≤◌, Bool, true, ◌⊎◌, arith}
-use Rattle.std.proofs.{Math.Nat.mul-le-mul_right, lemmas.Bool.Decides.nat_tests}
-use Rattle.qr_layout.specs.{declared.order.Cursor.Cursor, Version.side_of}
-use Rattle.qr_layout.specs.Order.{Key, key_of, is_before}
+use Rattle.std.proofs.{Common.{◌≡◌, ℕ, ◌+◌, ◌-◌, ◌*◌, ◌<◌, ◌≤◌, Bool, true, ◌⊎◌, arith}, Math.Nat.mul-le-mul_right, lemmas.Bool.Decides.nat_tests}
+use Rattle.qr_layout.specs.{declared.order.Cursor.Cursor, Version.side_of, Order.{Key, key_of, is_before}}
 use Rattle.qr_layout.specs.Steps.Order.{half_of, place_of, rows_before_of, left_of, next_of, IsCursor}
 
 -- if p is positive, then w is at most p * w
@@ -36,10 +34,6 @@ key_of-place : (v : ℕ) (a : Cursor) → IsCursor v a → 0 < a.strips_left →
 unfolding key_of
 key_of-place v a i k = search arith
 
--- fewer than s rows come before a cursor a whose row is below s
-pub rows_before-bound : (s : ℕ) (a : Cursor) → a.row < s → rows_before_of s a < s
-rows_before-bound s a k = grind (arith, nat_tests)
-
 -- if p is below q, then p * w + w is at most q * w
 pub mul-lt : (p q w : ℕ) → p < q → p * w + w ≤ q * w
 mul-lt p q w k = search (arith, mul-le-mul_right)
@@ -65,5 +59,4 @@ before-test a b h = grind (arith, nat_tests)
 -- if cursor b has fewer cursors left than cursor a, then the module at b has a later key than the module at a
 pub is_before-left : (v : ℕ) (a b : Cursor) → IsCursor v a → IsCursor v b → 0 < a.strips_left → 0 < b.strips_left → left_of (side_of v) b < left_of (side_of v) a → is_before (key_of v (place_of a)) (key_of v (place_of b)) ≡ true
 unfolding left_of
-is_before-left v a b i j k l m =
-    search (arith, rows_before-bound, half_of-bound, key_of-place, before-test, before-arith)
+is_before-left v a b i j k l m = search (arith, half_of-bound, key_of-place, before-test, before-arith, nat_tests)

@@ -2,12 +2,11 @@
 use Rattle.std.proofs.Common.{◌≡◌, ℕ, zero, suc, ◌+◌, ◌-◌, ◌*◌, ◌<◌, ◌≤◌, Bool, true, false, cond, List, [], ◌∷◌, ◌++◌, length, get_or, refl, sym, ap, ◌∙◌, subst, inl, inr, arith}
 use Rattle.std.{proofs.Math.Nat.mul-le-mul_right, specs.List.{AllPairs, AllByRecursion, Contains}}
 use Rattle.std.proofs.lemmas.{Bool.cases_lt, Bool.Decides.nat_tests, List.Elements.All-from_recursion}
-use Rattle.qr_layout.specs.declared.{region.Place.Place, order.Cursor.Cursor}
-use Rattle.qr_layout.specs.Order.{key_of, is_before, IsOrder, IsOrderAfter}
+use Rattle.qr_layout.specs.{declared.{region.Place.Place, order.Cursor.Cursor}, Order.{key_of, is_before, IsOrder, IsOrderAfter}}
 use Rattle.qr_layout.specs.Steps.Order.{half_of, place_of, left_of, next_of, IsCursor, places_among, to_come, first_cursor, cursor_at}
 use Rattle.qr_layout.specs.{Region.is_in_region, Region.InRegion, Version.side_of}
 use Rattle.qr_layout.proofs.lemmas.{order.ListLemmas.Rises, region.RegionLemmas.{row-in, col-in, col-not_timing}}
-use Rattle.qr_layout.proofs.lemmas.order.PathLemmas.{half_of-bound, rows_before-bound, mul-lt, mul-le_one, next-left, next-IsCursor, is_before-left}
+use Rattle.qr_layout.proofs.lemmas.order.PathLemmas.{half_of-bound, mul-lt, mul-le_one, next-left, next-IsCursor, is_before-left}
 
 -- ---- lists
 
@@ -47,20 +46,15 @@ same-arith p q w x y a b k l e = search (arith, mul-lt, mul-le_one)
 half_of-same : (a b : Bool) → half_of a ≡ half_of b → a ≡ b
 half_of-same a b e = grind (arith, nat_tests)
 
--- two rows x and y that come after equally many rows of a strip are the same row
-rows_before-same : (s x y : ℕ) (u : Bool) → x < s → y < s → cond u (s - 1 - x) x ≡ cond u (s - 1 - y) y → x ≡ y
-rows_before-same s x y u k l e = grind (arith, nat_tests)
-
 -- a cursor a in a strip has at least one cursor left, because a itself is counted
 left-positive : (v : ℕ) (a : Cursor) → IsCursor v a → 0 < a.strips_left → 0 < left_of (side_of v) a
 unfolding left_of
-left-positive v a i k = search (arith, mul-le_one, rows_before-bound, half_of-bound)
+left-positive v a i k = search (arith, mul-le_one, half_of-bound, nat_tests)
 
 -- two cursors a and b with equally many cursors left are the same cursor
 same-cursor : (v : ℕ) (a b : Cursor) → IsCursor v a → IsCursor v b → 0 < a.strips_left → 0 < b.strips_left → left_of (side_of v) a ≡ left_of (side_of v) b → a ≡ b
 unfolding left_of
-same-cursor v a b i j k l e =
-    grind (arith, rows_before-bound, half_of-bound, same-arith, rows_before-same, half_of-same)
+same-cursor v a b i j k l e = grind (arith, half_of-bound, same-arith, nat_tests, half_of-same)
 
 -- ---- the walk, n cursors at a time
 
@@ -145,15 +139,10 @@ pub at-place : (m : Place) → (m.col ≡ 6 → ⊥) → place_of (cursor_at m) 
 unfolding cursor_at
 at-place m h = grind (arith, nat_tests)
 
--- at the beginning of the walk of version v, both cursors of each row of each strip are left
-pub start-left : (v : ℕ) → left_of (side_of v) (first_cursor v) ≡ (8 + 2 * v) * (2 * side_of v)
-unfolding left_of
-start-left v = grind (arith, nat_tests)
-
 -- no cursor b has more cursors left than the beginning of the walk
 start-most : (v : ℕ) (b : Cursor) → IsCursor v b → left_of (side_of v) b ≤ left_of (side_of v) (first_cursor v)
 unfolding left_of
-start-most v b j = search (arith, mul-le-mul_right, start-left)
+start-most v b j = search (arith, mul-le-mul_right, nat_tests)
 
 -- ---- the order
 
@@ -161,8 +150,7 @@ start-most v b j = search (arith, mul-le-mul_right, start-left)
 pub to_come-start : (v : ℕ) → IsOrder v (to_come v (first_cursor v))
 unfolding to_come
 to_come-start v =
-    let s = side_of v in
-    let n = left_of s (first_cursor v) in
+    let n = left_of (side_of v) (first_cursor v) in
     let i = start-IsCursor v in
     record {
       in_region = search (arith, All-from_recursion, All-weaker_rec, stops);
@@ -202,11 +190,6 @@ to_come-next v a i k =
     let e : left_of s a ≡ suc (left_of s (next_of s a)) = omega arith in
     search (arith, places-suc)
 
--- past the last strip the walk yields no module
-pub to_come-end : (v : ℕ) (a : Cursor) → a.strips_left ≡ 0 → to_come v a ≡ []
-unfolding to_come left_of
-to_come-end v a e = search (arith, places-nil)
-
 -- the modules that the walk yields after the cursor of module m are the modules that come after m in the order
 pub after : (v : ℕ) (m : Place) → InRegion v m → IsOrderAfter v m (to_come v (next_of (side_of v) (cursor_at m)))
 unfolding to_come
@@ -229,26 +212,6 @@ walk-order v n s e f =
 
 -- ---- one step of the code
 
--- if the code steps from cursor a to cursor b, then b is a cursor of the walk or the end of the walk
-pub step-cursor : (v : ℕ) (a b : Cursor) → IsCursor v a → 0 < a.strips_left → b ≡ next_of (side_of v) a → IsCursor v b
-step-cursor v a b i k f = rw f (next-IsCursor v a i k)
-
--- if the code steps from cursor a to cursor b, then b has fewer cursors left than a
-pub step-left : (v : ℕ) (a b : Cursor) → IsCursor v a → 0 < a.strips_left → b ≡ next_of (side_of v) a → left_of (side_of v) b < left_of (side_of v) a
-step-left v a b i k f = search (arith, next-left)
-
--- if the code steps from a, where m is in the region, to b, then the modules from a on are m and those from b on
-pub step-yields : (v : ℕ) (a b : Cursor) (m : Place) (t : Bool) → IsCursor v a → 0 < a.strips_left → b ≡ next_of (side_of v) a → m ≡ place_of a → t ≡ is_in_region v m.row m.col → t ≡ true → to_come v a ≡ m ∷ to_come v b
-step-yields v a b m t i k f g h j = search (arith, to_come-next)
-
--- if the code steps from a, where the module is not in the region, to b, then the modules from a on are those from b on
-pub step-passes : (v : ℕ) (a b : Cursor) (m : Place) (t : Bool) → IsCursor v a → 0 < a.strips_left → b ≡ next_of (side_of v) a → m ≡ place_of a → t ≡ is_in_region v m.row m.col → t ≡ false → to_come v a ≡ to_come v b
-step-passes v a b m t i k f g h j = search (arith, to_come-next)
-
--- if the code resumes the walk after module m at cursor b, the modules from b on are those after m in the order
-pub after-order : (v : ℕ) (m : Place) (a b : Cursor) (t : Bool) → t ≡ is_in_region v m.row m.col → t ≡ true → a ≡ cursor_at m → b ≡ next_of (side_of v) a → IsOrderAfter v m (to_come v b)
-after-order v m a b t h j f g = rw (g, f) (after v m (sym h ∙ j))
-
 -- the cursor a that the code computes for module m is in a strip
 pub after-strips : (m : Place) (a : Cursor) → a ≡ cursor_at m → 0 < a.strips_left
 after-strips m a f = rw f (at-strips m)
@@ -256,7 +219,3 @@ after-strips m a f = rw f (at-strips m)
 -- the cursor a that the code computes for a module m of the encoding region is a cursor of the walk
 pub after-cursor : (v : ℕ) (m : Place) (a : Cursor) (t : Bool) → t ≡ is_in_region v m.row m.col → t ≡ true → a ≡ cursor_at m → IsCursor v a
 after-cursor v m a t h j f = rw f (at-IsCursor v m (row-in v m (sym h ∙ j)) (col-in v m (sym h ∙ j)))
-
--- if xs is m followed by ys, then ys is shorter than xs
-pub length-less : (xs ys : List Place) (m : Place) → xs ≡ m ∷ ys → length ys < length xs
-length-less xs ys m e = rw e (omega arith)

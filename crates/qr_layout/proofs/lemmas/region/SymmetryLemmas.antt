@@ -1,8 +1,7 @@
 -- The encoding region is the same when rows and columns are exchanged.
 use Rattle.std.proofs.Common.{◌≡◌, ℕ, Bool, false, not, ◌&&◌, ◌||◌, leb, List, [], ◌∷◌, refl, sym, ap, ◌∙◌, arith}
 use Rattle.std.{proofs.{Math.Bool.{and_comm, or_comm}, lemmas.Bool.Decides.nat_tests}, specs.List.list_any}
-use Rattle.qr_layout.specs.{Alignment.{centres_of, is_corner_pair}, Version.side_of}
-use Rattle.qr_layout.specs.Region.{is_alignment, is_in_region, is_version_information, ring_of}
+use Rattle.qr_layout.specs.{Alignment.{centres_of, is_corner_pair}, Version.side_of, Region.{is_alignment, is_in_region, is_version_information, ring_of}}
 use Rattle.qr_layout.proofs.lemmas.alignment.AlignmentLemmas.{any-places, list_any-same}
 
 -- no item passes a test that always fails

@@ -1,15 +1,12 @@
 -- Which places contain the bits of the format and version information, and that all other free places are the region.
 use Rattle.std.proofs.Common.{◌≡◌, ℕ, ◌+◌, ◌-◌, ◌<◌, ◌≤◌, max, Bool, true, false, not, ◌&&◌, ◌||◌, cond, eqb, ltb, Option, None, Some, refl, sym, ap, ◌∙◌, inl, inr, ◌⊎◌, arith}
-use Rattle.std.proofs.lemmas.Bool.{Decides.nat_tests, and_parts, eqb-true}
-use Rattle.std.specs.{Int.abs_diff, List.{find, range_with_len}, Option.option_map_or}
+use Rattle.std.{proofs.lemmas.Bool.{Decides.nat_tests, and_parts, eqb-true}, specs.{Int.abs_diff, List.{find, range_with_len}, Option.option_map_or}}
 use Rattle.qr_layout.specs.{declared.{region.Place.Place, role.Role.Role}, Version.side_of, Alignment.centres_of}
-use Rattle.qr_layout.specs.declared.role.Role.TheVariants.{Fixed, FormatBit, VersionBit, Region}
+use Rattle.qr_layout.{specs.declared.role.Role.TheVariants.{Fixed, FormatBit, VersionBit, Region}, proofs.lemmas.role.RoleSymmetryLemmas.role-symmetric}
 use Rattle.qr_layout.specs.Region.{is_alignment, is_corner, is_in_region, is_timing, is_version_information, ring_of}
 use Rattle.qr_layout.specs.Role.{finder_ring, is_alignment_light, pattern_colour, is_dark_module, role_of}
 use Rattle.qr_layout.specs.Format.{first_place, second_place, version_place, mirror_of, is_at, format_bit_at, version_bit_at}
-use Rattle.qr_layout.proofs.lemmas.alignment.TableLemmas.{below, below-at, below-from}
-use Rattle.qr_layout.proofs.lemmas.alignment.AlignmentLemmas.{region-free, region-parts}
-use Rattle.qr_layout.proofs.lemmas.role.RoleSymmetryLemmas.{role-symmetric}
+use Rattle.qr_layout.proofs.lemmas.alignment.{TableLemmas.{below, below-at, below-from}, AlignmentLemmas.{region-free, region-parts}}
 use Rattle.qr_layout.proofs.lemmas.format.BitPlaceLemmas.{either, first-at, bit_here, stands, format-at, format_in_column_8, format_in_row_8, version_at}
 
 -- the choice of a role, over what its parts say
@@ -22,14 +19,6 @@ unfolding role_of
 role-with v r c = refl
 
 -- ---- the places of the bits
-
--- a role that is a bit of the format information comes from its place
-with-format : (a : Option Bool) (t : Bool) (f g : Option ℕ) (i : ℕ) → role_with a t f g ≡ FormatBit i → f ≡ Some i
-with-format a t f g i h = grind (arith, nat_tests)
-
--- a role that is a bit of the version information comes from its place
-with-version : (a : Option Bool) (t : Bool) (f g : Option ℕ) (i : ℕ) → role_with a t f g ≡ VersionBit i → g ≡ Some i
-with-version a t f g i h = grind (arith, nat_tests)
 
 -- a module at the row and column of another is that one
 at-place : (m n : Place) → is_at n m.row m.col ≡ true → m ≡ n
@@ -46,7 +35,7 @@ found-format s m i h = let w = first-at 15 (λ i. is_at (first_place i) m.row m.
 
 -- a bit of the format information is only at its two places
 pub format-only : (v : ℕ) (m : Place) (i : ℕ) → role_of v m.row m.col ≡ FormatBit i → (i < 15) × ((m ≡ first_place i) ⊎ (m ≡ second_place (side_of v) i))
-format-only v m i h = found-format (side_of v) m i (with-format (pattern_colour v m.row m.col) _ _ (version_bit_at v m.row m.col) i (sym (role-with v m.row m.col) ∙ h))
+format-only v m i h = found-format (side_of v) m i (search (arith, role-with, nat_tests))
 
 -- if a place has version information, the version is 7 or more
 old-enough : (v i : ℕ) (o : Option ℕ) → cond (ltb v 7) None o ≡ Some i → (7 ≤ v) × (o ≡ Some i)
@@ -58,12 +47,11 @@ unfolding version_bit_at
 found-version v m i h =
     let p : ℕ → Bool = λ i. is_at (version_place (side_of v) i) m.row m.col || is_at (mirror_of (version_place (side_of v) i)) m.row m.col in
     let o = old-enough v i (find p (range_with_len 0 18)) h in
-    let w = first-at 18 p i o.1 in
-    search (arith, either-place)
+    search (arith, either-place, first-at 18 p i o.1)
 
 -- a bit of the version information is only at its two places
 pub version-only : (v : ℕ) (m : Place) (i : ℕ) → role_of v m.row m.col ≡ VersionBit i → (7 ≤ v) × (i < 18) × ((m ≡ version_place (side_of v) i) ⊎ (m ≡ mirror_of (version_place (side_of v) i)))
-version-only v m i h = found-version v m i (with-version (pattern_colour v m.row m.col) _ (format_bit_at (side_of v) m.row m.col) _ i (sym (role-with v m.row m.col) ∙ h))
+version-only v m i h = found-version v m i (search (arith, role-with, nat_tests))
 
 -- whether a role is the other
 is_role : Role → Role → Bool
@@ -202,9 +190,6 @@ far-edge s r c l j n h k = grind arith
 down-full : (s r : ℕ) → 21 ≤ s → r < s → (r ≡ 6 → ⊥) → is_dark_module s r 8 ≡ false → (r ≤ 8) ⊎ (s - 8 ≤ r) → format_bit_at s r 8 ≡ None → ⊥
 down-full s r l i k d h f = search (arith, format_in_column_8)
 
-across-full : (s c : ℕ) → 21 ≤ s → c < s → (c ≡ 6 → ⊥) → (c ≡ 8 → ⊥) → (c ≤ 8) ⊎ (s - 8 ≤ c) → format_bit_at s 8 c ≡ None → ⊥
-across-full s c l i k n h f = search (arith, format_in_row_8)
-
 -- a place that is in no pattern, contains no bit and is not the dark module is outside the corners
 corners-free : (s r c : ℕ) → 21 ≤ s → r < s → c < s → 5 ≤ finder_ring s r c → (r ≡ 6 → ⊥) → (c ≡ 6 → ⊥) → is_dark_module s r c ≡ false → format_bit_at s r c ≡ None → is_corner s r c ≡ false
 corners-free s r c l i j k m n d f = truth _ (λ h. elim (corner-parts s r c h) [
@@ -220,7 +205,7 @@ corners-free s r c l i j k m n d f = truth _ (λ h. elim (corner-parts s r c h) 
     down h e = down-full s r l i m (rw e at d) h (rw e at f)
 
     across : (c ≤ 8) ⊎ (s - 8 ≤ c) → r ≡ 8 → (c ≡ 8 → ⊥) → ⊥
-    across h e o = across-full s c l j n o h (rw e at f)
+    across h e o = search (arith, format_in_row_8)
 
 -- a place off the corners
 record IsOffCorners (s r c : ℕ) : Type 0 where
@@ -315,8 +300,7 @@ pub role-region : (v r c : ℕ) → 1 ≤ v → r < side_of v → c < side_of v 
 role-region v r c l i j h =
     let s = side_of v in
     let w = with-region (pattern_colour v r c) (is_dark_module s r c) (format_bit_at s r c) (version_bit_at v r c) (sym (role-with v r c) ∙ h) in
-    let p = pattern-none v r c w.no_pattern in
-    search (arith, not-six, corners-free, ring-far, region-free, timing-free, version-free)
+    search (arith, not-six, corners-free, ring-far, region-free, timing-free, version-free, pattern-none v r c w.no_pattern)
 
 -- a place off the corners, the timing patterns and the version information is in an alignment pattern or in the region
 pub off-role : (v r c : ℕ) → 1 ≤ v → r < side_of v → c < side_of v → is_corner (side_of v) r c ≡ false → is_timing r c ≡ false → is_version_information v r c ≡ false

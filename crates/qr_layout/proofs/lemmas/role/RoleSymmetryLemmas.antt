@@ -1,15 +1,11 @@
 -- The function patterns are their own transposes, if just bit 7 of the format information, opposite the dark module, is set.
-use Rattle.std.proofs.{lemmas.Bool.{eqb-true, Decides.nat_tests}, Math.Bool.{and_comm, or_comm}}
-use Rattle.std.proofs.Common.{◌≡◌, ℕ, ◌-◌, ◌%◌, ◌<◌, ◌≤◌, Bool, true, false, not, ◌&&◌, ◌||◌, cond, eqb, min, List, [], ◌∷◌, Option, None, Some, refl, sym, ◌∙◌, arith}
-use Rattle.std.specs.{List.find, Option.option_map_or}
-use Rattle.qr_layout.specs.{declared.{role.Role.Role}, Version.side_of}
-use Rattle.qr_layout.specs.declared.role.Role.TheVariants.{Fixed, FormatBit, VersionBit, Region}
+use Rattle.std.{proofs.{lemmas.Bool.{eqb-true, Decides.nat_tests}, Math.Bool.{and_comm, or_comm}}, specs.{List.find, Option.option_map_or}}
+use Rattle.std.proofs.Common.{◌≡◌, ℕ, ◌-◌, ◌%◌, ◌<◌, ◌≤◌, Bool, true, not, ◌&&◌, ◌||◌, cond, eqb, min, List, [], ◌∷◌, Option, None, Some, refl, ◌∙◌, arith}
+use Rattle.qr_layout.specs.{declared.role.Role.{Role, TheVariants.{Fixed, FormatBit, VersionBit, Region}}, Version.side_of}
 use Rattle.qr_layout.specs.Role.{finder_ring, is_alignment_light, pattern_colour, is_dark_module, role_of}
-use Rattle.qr_layout.specs.Format.{first_place, second_place, is_at, format_bit_at, version_bit_at}
-use Rattle.qr_layout.specs.{Alignment.centres_of, Alignment.is_corner_pair, Region.ring_of}
-use Rattle.qr_layout.proofs.lemmas.alignment.AlignmentLemmas.{any-places, list_any-same}
+use Rattle.qr_layout.specs.{Format.{first_place, second_place, is_at, format_bit_at, version_bit_at}, Alignment.{centres_of, is_corner_pair}, Region.ring_of}
+use Rattle.qr_layout.proofs.lemmas.{alignment.AlignmentLemmas.{any-places, list_any-same}, region.SymmetryLemmas.{any-pairs, alignment-symmetric}}
 use Rattle.qr_layout.proofs.lemmas.format.BitPlaceLemmas.{first-at, format_in_column_8, format_in_row_8, format_off}
-use Rattle.qr_layout.proofs.lemmas.region.SymmetryLemmas.{any-pairs, alignment-symmetric}
 
 -- ---- the patterns
 
@@ -24,10 +20,6 @@ finder-symmetric s r c = nearest (ring_of 3 3 r c) (ring_of 3 (s - 4) r c) (ring
     nearest : (a b d x y z : ℕ) → a ≡ x → b ≡ y → d ≡ z → min a (min b d) ≡ min x (min z y)
     nearest a b d x y z e f g = grind arith
 
--- a centre with row and column exchanged has its light ring at the places with row and column exchanged
-on-ring : (s a b r c : ℕ) → (not (is_corner_pair s a b) && eqb (ring_of a b r c) 1) ≡ (not (is_corner_pair s b a) && eqb (ring_of b a c r) 1)
-on-ring s a b r c = grind (arith, nat_tests)
-
 -- the light rings of the alignment patterns
 light-symmetric : (v r c : ℕ) → is_alignment_light v r c ≡ is_alignment_light v c r
 unfolding is_alignment_light
@@ -36,8 +28,7 @@ light-symmetric v r c =
     let cs = centres_of v in
     any-places (λ m. eqb (ring_of m.row m.col r c) 1) s cs
     ∙ (any-pairs (λ a b. not (is_corner_pair s a b) && eqb (ring_of a b r c) 1) cs cs
-    ∙ (list_any-same _ _ (λ b. list_any-same _ _ (λ a. on-ring s a b r c) cs) cs
-    ∙ sym (any-places (λ m. eqb (ring_of m.row m.col c r) 1) s cs)))
+    ∙ (search (arith, list_any-same, any-places, nat_tests)))
 
 -- the timing patterns: where they cross, both are dark
 timing : (r c : ℕ) (x : Option Bool) → cond (eqb r 6) (Some (eqb (c % 2) 0)) (cond (eqb c 6) (Some (eqb (r % 2) 0)) x) ≡ cond (eqb c 6) (Some (eqb (r % 2) 0)) (cond (eqb r 6) (Some (eqb (c % 2) 0)) x)
@@ -66,17 +57,13 @@ version-symmetric v r c = search (arith, find-same, or_comm, and_comm)
 abbrev seven : Bool → Option ℕ → Option Bool
 seven t o = cond t (Some true) (option_map_or (λ i. Some (eqb i 7)) o None)
 
--- what it means that a test for 8 fails
-not-eight : (n : ℕ) → eqb n 8 ≡ false → n ≡ 8 → ⊥
-not-eight n h e = grind (arith, nat_tests)
-
 -- column 8 and row 8
 eights : (s r : ℕ) → 21 ≤ s → r < s → seven (is_dark_module s r 8) (format_bit_at s r 8) ≡ seven (is_dark_module s 8 r) (format_bit_at s 8 r)
-eights s r l h = search (arith, eqb-true, format_in_column_8, format_in_row_8, not-eight, nat_tests)
+eights s r l h = search (arith, eqb-true, format_in_column_8, format_in_row_8, nat_tests)
 
 -- the dark module and the format information
 seven-symmetric : (s r c : ℕ) → 21 ≤ s → r < s → c < s → seven (is_dark_module s r c) (format_bit_at s r c) ≡ seven (is_dark_module s c r) (format_bit_at s c r)
-seven-symmetric s r c l h k = grind (arith, eqb-true, eights, not-eight, nat_tests, format_off)
+seven-symmetric s r c l h k = search (arith, eqb-true, eights, nat_tests, format_off)
 
 -- ---- the roles
 

@@ -1,47 +1,30 @@
 -- The places of the strips of version v in the encoding region, one strip after the other, are its order.
 use Rattle.std.proofs.Common.{◌≡◌, ℕ, zero, suc, ◌+◌, ◌-◌, ◌*◌, ◌<◌, ◌≤◌, false, cond, List, [], ◌∷◌, ◌++◌, refl, sym, ap, ◌∙◌, arith}
-use Rattle.std.proofs.lemmas.{List.Elements.All-from_recursion, Bool.Decides.nat_tests}
-use Rattle.std.specs.List.{All, AllByRecursion}
-use Rattle.qr_layout.specs.declared.{region.Place.Place, order.Cursor.Cursor, strips.Strip.Strip}
+use Rattle.std.{proofs.lemmas.{List.Elements.All-from_recursion, Bool.Decides.nat_tests}, specs.List.{All, AllByRecursion}}
+use Rattle.qr_layout.specs.{declared.{region.Place.Place, order.Cursor.Cursor, strips.Strip.Strip}, Version.side_of, Order.{IsOrder, in_region_of}}
 use Rattle.qr_layout.specs.Steps.Order.{place_of, left_of, next_of, places_among, to_come, first_cursor}
 use Rattle.qr_layout.specs.Strips.{rows_from, both_of, places_of, strip_at, strips_to_come}
-use Rattle.qr_layout.specs.{Version.side_of, Order.IsOrder, Order.in_region_of}
-use Rattle.qr_layout.proofs.lemmas.order.WalkLemmas.{places-nil, places-suc, start-left, to_come-start}
+use Rattle.qr_layout.proofs.lemmas.order.WalkLemmas.{places-nil, places-suc, to_come-start}
 
 -- the right places of n rows of strips, from cursor a on, in the encoding region or not
 pairs_among : ℕ → ℕ → Cursor → List Place
 pairs_among v zero a = []
 pairs_among v (suc n) a = place_of a ∷ pairs_among v n (next_of (side_of v) (next_of (side_of v) a))
 
--- the right places of 0 rows are the empty list
-pairs-nil : (v : ℕ) (a : Cursor) → pairs_among v 0 a ≡ []
-unfolding pairs_among
-pairs-nil v a = refl
-
 -- the right places of n + 1 rows from a on are the place of a and the right places of n rows from two steps on
 pairs-suc : (v n : ℕ) (a : Cursor) → pairs_among v (suc n) a ≡ place_of a ∷ pairs_among v n (next_of (side_of v) (next_of (side_of v) a))
 unfolding pairs_among
 pairs-suc v n a = refl
 
--- if cursor a is at the right place of a row, then one step leads to the place to the left of it
-second-place : (s : ℕ) (a : Cursor) → a.at_left ≡ false → place_of (next_of s a) ≡ record { row = a.row; col = (place_of a).col - 1 }
-unfolding next_of
-second-place s a e = rw e refl
-
--- if cursor a is at the right place of a row, then two steps lead to the right place of a row
-right-again : (s : ℕ) (a : Cursor) → a.at_left ≡ false → (next_of s (next_of s a)).at_left ≡ false
-unfolding next_of
-right-again s a e = grind (arith, nat_tests)
-
 -- the places of n rows from a on that are in the encoding region are those that 2 * n steps of the walk visit
 kept : (v n : ℕ) (a : Cursor) → a.at_left ≡ false → in_region_of v (both_of (pairs_among v n a)) ≡ places_among v (2 * n) a
-kept v zero a e = cc (pairs-nil v a, places-nil v a)
+unfolding next_of pairs_among
+kept v zero a e = search (arith, places-nil)
 kept v (suc n) a e =
     let s = side_of v in
-    let b = next_of s a in
-    let h = kept v n (next_of s b) (right-again s a e) in
+    let h = kept v n (next_of s (next_of s a)) (search (arith, nat_tests)) in
     let two : suc (suc (2 * n)) ≡ 2 * suc n = omega arith in
-    search (arith, second-place, places-suc, pairs-suc)
+    search (arith, places-suc, pairs-suc)
 
 -- ---- row by row, and strip by strip
 
@@ -49,28 +32,17 @@ kept v (suc n) a e =
 abbrev at_row : ℕ → ℕ → ℕ → Cursor
 at_row s p k = record { strips_left = p; row = cond (strip_at p).upward (s - 1 - k) k; at_left = false }
 
--- two steps lead from row k of strip p to row k + 1 of this strip, if there is such a row
-next-row : (s p k : ℕ) → k + 1 < s → next_of s (next_of s (at_row s p k)) ≡ at_row s p (k + 1)
-unfolding next_of
-next-row s p k l = grind (arith, nat_tests)
-
--- two steps lead from the last row of strip p + 1 to the first row of strip p
-next-strip : (s p k : ℕ) → k + 1 ≡ s → next_of s (next_of s (at_row s (suc p) k)) ≡ at_row s p 0
-unfolding next_of
-next-strip s p k e = grind (arith, nat_tests)
-
 -- the right places from row k of a strip on are those of the rows left in it, and then those of the strips after it
 rows-then : (v p k n m : ℕ) → k + suc n ≡ side_of v → pairs_among v (suc n + m) (at_row (side_of v) (suc p) k) ≡ rows_from (side_of v) (strip_at (suc p)) k (suc n) ++ pairs_among v m (at_row (side_of v) p 0)
+unfolding next_of
 rows-then v p k zero m e =
-    let s = side_of v in
-    let a = at_row s (suc p) k in
+    let a = at_row (side_of v) (suc p) k in
     let q : suc zero + m ≡ suc m = omega arith in
-    cc (pairs-suc v m a, next-strip s p k (omega arith))
+    search (arith, pairs-suc, nat_tests)
 rows-then v p k (suc n) m e =
-    let s = side_of v in
-    let a = at_row s (suc p) k in
+    let a = at_row (side_of v) (suc p) k in
     let q : suc (suc n) + m ≡ suc (suc n + m) = omega arith in
-    search (arith, pairs-suc, next-row, rows-then v p (k + 1) n m (omega arith))
+    search (arith, pairs-suc, nat_tests, rows-then v p (k + 1) n m (omega arith))
 
 -- the right places of all rows of the strips
 abbrev all_rows : ℕ → List Strip → List Place
@@ -79,7 +51,8 @@ all_rows s (x ∷ xs) = rows_from s x 0 s ++ all_rows s xs
 
 -- the right places from the first row of strip p on are those of strip p and of the strips to the left of it
 rows-all : (v p : ℕ) → pairs_among v (p * side_of v) (at_row (side_of v) p 0) ≡ all_rows (side_of v) (strips_to_come p)
-rows-all v zero = let e : zero * side_of v ≡ 0 = omega arith in cc (pairs-nil v (at_row (side_of v) 0 0))
+unfolding pairs_among
+rows-all v zero = search arith
 rows-all v (suc p) =
     let s = side_of v in
     let n = s - 1 in
@@ -102,18 +75,15 @@ places-both s (x ∷ xs) = search (arith, both-append, places-both s xs)
 
 -- the number of cursors left at the beginning of the walk is twice the number of rows of all strips
 left-start : (v : ℕ) → 2 * ((8 + 2 * v) * side_of v) ≡ left_of (side_of v) (first_cursor v)
-left-start v = omega (arith, start-left v)
-
--- the walk begins at the right place of the first row of the rightmost strip
-start-row : (v : ℕ) → at_row (side_of v) (8 + 2 * v) 0 ≡ first_cursor v
-start-row v = grind (arith, nat_tests)
+unfolding left_of
+left-start v = search (arith, nat_tests)
 
 -- the places of all strips, when the places outside the encoding region are left out, are the order
 pub strips-order : (v n : ℕ) → n ≡ v → IsOrder v (in_region_of v (places_of (side_of v) (strips_to_come (8 + 2 * n))))
 unfolding to_come
 strips-order v n e =
     let h : 8 + 2 * n ≡ 8 + 2 * v = omega arith in
-    let rows : pairs_among v ((8 + 2 * v) * side_of v) (first_cursor v) ≡ all_rows (side_of v) (strips_to_come (8 + 2 * v)) = ap (pairs_among v ((8 + 2 * v) * side_of v)) (sym (start-row v)) ∙ rows-all v (8 + 2 * v) in
+    let rows : pairs_among v ((8 + 2 * v) * side_of v) (first_cursor v) ≡ all_rows (side_of v) (strips_to_come (8 + 2 * v)) = ap (pairs_among v ((8 + 2 * v) * side_of v)) (sym (search (arith, nat_tests))) ∙ rows-all v (8 + 2 * v) in
     rw (h, ← places-both (side_of v) (strips_to_come (8 + 2 * v)), ← rows, kept v ((8 + 2 * v) * side_of v) (first_cursor v) refl, left-start v) (to_come-start v)
 
 -- both columns of strip x are columns of the square
@@ -138,7 +108,3 @@ all-inside v (suc p) l = (strip-inside v p l, all-inside v p (omega arith))
 -- all strips of version v have both columns in the square
 pub strips-inside : (v n : ℕ) → n ≡ v → All (Inside v) (strips_to_come (8 + 2 * n))
 strips-inside v n e = All-from_recursion (Inside v) _ (all-inside v (8 + 2 * n) (omega arith))
-
--- the strips from strip p on are strip p and the strips from strip p - 1 on
-pub strips-next : (p : ℕ) (x : Strip) → 0 < p → x ≡ strip_at p → strips_to_come p ≡ x ∷ strips_to_come (p - 1)
-strips-next p x l e = grind (arith, nat_tests)

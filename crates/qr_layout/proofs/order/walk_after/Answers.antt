@@ -1,5 +1,5 @@
+use Rattle.qr_layout.proofs.lemmas.order.{PathLemmas.next-IsCursor, WalkLemmas.{after, after-strips, after-cursor}}
 use Rattle.std.proofs.Common.{rules}
-use Rattle.qr_layout.proofs.lemmas.order.WalkLemmas.{after-order, after-strips, after-cursor, step-cursor}
 use Rattle.qr_layout.proofs.order.walk_after.Goals as goal
 
 pub next-next-requires-clause-strips_left : goal.next-next-requires-clause-strips_left
@@ -9,7 +9,7 @@ pub next-next-requires-clause-cursor : goal.next-next-requires-clause-cursor
 next-next-requires-clause-cursor c = search (rules, after-cursor)
 
 pub invariant_of-result : goal.invariant_of-result
-invariant_of-result c = search (rules, step-cursor, after-cursor, after-strips)
+invariant_of-result c = search (rules, after-cursor, after-strips, next-IsCursor)
 
 pub returns-clause-rest : goal.returns-clause-rest
-returns-clause-rest c = search (rules, after-order)
+returns-clause-rest c = search (rules, after)

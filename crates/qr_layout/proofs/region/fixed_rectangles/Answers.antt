@@ -1,6 +1,5 @@
 use Rattle.std.proofs.Common.{rules, ◌≡◌, arith, subst, sym}
-use Rattle.qr_layout.specs.{Rectangles.AreFixed, Steps.Rectangles.fixed_list}
-use Rattle.qr_layout.proofs.lemmas.alignment.AlignmentLemmas.{fixed-are}
+use Rattle.qr_layout.{specs.{Rectangles.AreFixed, Steps.Rectangles.fixed_list}, proofs.lemmas.alignment.AlignmentLemmas.fixed-are}
 use Rattle.qr_layout.proofs.region.fixed_rectangles.Goals as goal
 
 pub returns-then-has_version_information : goal.returns-then-has_version_information

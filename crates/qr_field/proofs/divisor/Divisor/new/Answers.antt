@@ -1,8 +1,7 @@
-use Rattle.std.proofs.Common.{◌≡◌, ◌≤◌, length, drop, ap, ◌∙◌, arith}
-use Rattle.std.{proofs.lemmas.List.{length-drop, Elements.{All-drop}}, specs.List.{All}}
-use Rattle.qr_field.specs.{Polynomial.{IsByte, generator_of}, Steps.Register.{divisor_of, packed, value_of}}
-use Rattle.qr_field.proofs.lemmas.polynomial.PolynomialLemmas.{bytes-generator, generator-shape}
-use Rattle.qr_field.proofs.lemmas.divisor.DivisorLemmas.{multiples-packed, multiples-sixteen, packed-sixteen}
+use Rattle.qr_field.proofs.lemmas.{register.RegisterLemmas.scaled-unpacked, polynomial.PolynomialLemmas.{bytes-generator, generator-shape}}
+use Rattle.std.{proofs.{Common.{rules, ◌≡◌, ◌≤◌, length, drop, ap, ◌∙◌, arith}, lemmas.List.{length-drop, Elements.All-drop}}, specs.List.All}
+use Rattle.qr_field.specs.{Polynomial.IsByte, Steps.Register.{divisor_of, packed, value_of}}
+use Rattle.qr_field.proofs.lemmas.divisor.DivisorLemmas.{multiples-sixteen, packed-sixteen}
 use Rattle.qr_field.proofs.divisor.Divisor.new.Goals as goal
 
 pub invariant_of-result : goal.invariant_of-result
@@ -12,15 +11,14 @@ invariant_of-result c =
     let is : c.as_slice.result.now ≡ divisor = c.as_slice.ensures.value ∙ ap (drop 1) c.generator.ensures in
     let by_one : v ≡ packed divisor = c.new-by_one.ensures ∙ ap packed is in
     let shape = generator-shape c.args.n in
-    let few : length divisor ≤ 32 =
-    omega (arith, length-drop 1 (generator_of c.args.n), ap length shape.1, shape.2, c.requires.most) in
-    let bytes : All IsByte divisor = All-drop IsByte 1 (generator_of c.args.n) (bytes-generator c.args.n) in
+    let few : length divisor ≤ 32 = search (rules, length-drop) in
+    let bytes : All IsByte divisor = search (rules, All-drop, bytes-generator) in
     let by_sixteen =
     packed-sixteen divisor v (value_of c.doubled.result) (value_of c.doubled-2.result) (value_of c.doubled-3.result)
     (value_of c.doubled-by_sixteen.result) few bytes by_one c.doubled.ensures c.doubled-2.ensures c.doubled-3.ensures
     c.doubled-by_sixteen.ensures in (
       c.requires.least,
       c.requires.most,
-      multiples-packed divisor v c.multiples.result few bytes by_one c.multiples.ensures,
+      search (arith, scaled-unpacked),
       multiples-sixteen divisor (value_of c.doubled-by_sixteen.result) c.multiples-2.result few bytes by_sixteen c.multiples-2.ensures,
     )

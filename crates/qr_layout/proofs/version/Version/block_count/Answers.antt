@@ -1,7 +1,6 @@
 use Rattle.std.proofs.Common.{rules}
-use Rattle.qr_layout.specs.Blocks.{block_count_of}
+use Rattle.qr_layout.{specs.Blocks.block_count_of, proofs.version.Version.block_count.Goals.{in-L, in-M, in-Q, in-H}}
 use Rattle.qr_layout.proofs.version.Version.block_count.Goals as goal
-use Rattle.qr_layout.proofs.version.Version.block_count.Goals.{in-L, in-M, in-Q, in-H}
 
 pub returns : goal.returns
 unfolding block_count_of

@@ -1,7 +1,6 @@
 use Rattle.std.proofs.Common.{rules}
-use Rattle.qr_layout.specs.Blocks.{correction_len_of}
+use Rattle.qr_layout.{specs.Blocks.correction_len_of, proofs.version.Version.correction_len.Goals.{in-L, in-M, in-Q, in-H}}
 use Rattle.qr_layout.proofs.version.Version.correction_len.Goals as goal
-use Rattle.qr_layout.proofs.version.Version.correction_len.Goals.{in-L, in-M, in-Q, in-H}
 
 pub returns : goal.returns
 unfolding correction_len_of
