@@ -1,11 +1,9 @@
 -- The lemmas that attributes of functions name.
 use Rattle.std.proofs.{Common.{append-nil, append_assoc}, lemmas.List.{take_all, Sums.sum_by_more}}
-use Rattle.qr_bits.proofs.lemmas.bits.BitLemmas.{bits_of-whole, byte-first, filled-none, filled-some, number-after, power-fits}
-use Rattle.qr_bits.proofs.lemmas.folding.FoldingLemmas.{length-folded}
-use Rattle.qr_bits.proofs.lemmas.{laws.DataLemmas.length-stream, lower_bound.LeastLemmas.least-held}
-use Rattle.qr_bits.proofs.lemmas.padding.PaddingLemmas.{pads-even, pads-none, pads-odd}
+use Rattle.qr_bits.proofs.lemmas.{bits.BitLemmas.{byte-first, number-after, power-fits}, folding.FoldingLemmas.length-folded}
+use Rattle.qr_bits.proofs.lemmas.{laws.DataLemmas.length-stream, lower_bound.LeastLemmas.least-held, padding.PaddingLemmas.{pads-even, pads-none, pads-odd}}
 
-pub ruleset writing_bits = (bits_of-whole, byte-first, filled-some, filled-none, number-after, power-fits)
+pub ruleset writing_bits = (byte-first, number-after, power-fits)
 
 pub ruleset lengths = (length-folded, length-stream)
 

@@ -75,8 +75,8 @@ abbrev pub HasFit : Interpretation → ℕ → Rule → List ℕ → ℕ → Typ
 HasFit i v r xs n = (ms : List Mode) × IsAssignment i r xs ms × (bits v (runs_of (doubled i xs ms)) ≤ n)
 
 -- A lower bound on the bits that a byte takes in any mode, in sixths of a bit. It is 20 for a digit (three digits take
--- 10 bits), 33 for any other byte up to `Z` (two characters take 11 bits), and 39 for a byte above `Z`, which only byte
--- mode and kanji mode can write (ISO/IEC 18004:2015, 7.4.3 to 7.4.6)
+-- 10 bits), 33 for any other byte up to `Z` (two characters take 11 bits), and 39 for a byte above `Z`. Only byte mode
+-- and kanji mode can write such a byte, and two of them in kanji mode take 13 bits (ISO/IEC 18004:2015, 7.4.3 to 7.4.6)
 abbrev pub least_sixths : ℕ → ℕ
 least_sixths b = if is_digit b then 20 else (if nat_le b 90 then 33 else 39)
 

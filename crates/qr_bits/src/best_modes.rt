@@ -104,7 +104,7 @@ fn row_for(numbers: &PerState) -> u32
     numbers.start % 4 + 4 * last
 }
 
-// The choices of alphanumeric mode for a byte.
+// The choices for a byte in alphanumeric mode.
 #[derive(Clone, Copy)]
 struct CharacterChoices {
     // The choice if the byte begins a segment.

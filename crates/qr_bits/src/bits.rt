@@ -1,7 +1,7 @@
 //! Writes bits into codewords, and reads bits from codewords. The most significant bit of each codeword is its first
 //! (ISO/IEC 18004:2015, 7.4.10).
 
-ghost use Rattle.std.specs.Prelude.{Bool, IfOk, List, OnOk, [], drop, length, take, ◌%◌, ◌*◌, ◌++◌, ◌+◌, ◌<◌, ◌^◌, ◌≡◌, ◌≤◌};
+ghost use Rattle.std.specs.Prelude.{Bool, IfOk, List, OnOk, [], drop, length, take, ◌%◌, ◌*◌, ◌++◌, ◌+◌, ◌-◌, ◌<◌, ◌^◌, ◌≡◌, ◌≤◌};
 ghost use Rattle.std.specs.List.{slice_index_or};
 ghost use Rattle.qr_bits.specs.Padding.{filled};
 ghost use Rattle.qr_bits.specs.Bits.{bits_of, field, value};
@@ -44,81 +44,52 @@ impl BitWriter {
     }
 
     // Writes the lowest `width` bits of `number`, the most significant first. The higher bits may have any value.
+    #[tactic(auto, using(crate::proofs::Named::writing_bits))]
     pub(crate) fn put(&mut self, width: u8, number: u16) -> Result<(), AllocError>
         requires { width ≤ 16 }
         ensures { OnOk result (self.new ≡ self.old ++ field width number) }
     {
         let size = 1u32 << width;
+        // These are at most 23 bits: 7 that were left before, and 16 new ones.
         let bits = size * u32::from(self.rest) + u32::from(number) % size;
-        let left = push_whole(&mut self.whole, bits, self.width + width)?;
+        let mut left = self.width + width;
+        let whole = &mut self.whole;
+        while left >= 8 {
+            left -= 8;
+            whole.push(((bits >> left) % 256) as u8)?;
+        }
         self.rest = (bits % (1 << left)) as u8;
         self.width = left;
         Ok(())
     }
 
+    // Writes the bits of `bytes`. After them the last codeword has as many bits as before, because each byte adds eight.
+    #[tactic(auto, unfolding(crate::specs::Bits::bits_of))]
     pub(crate) fn put_bytes(&mut self, bytes: &[u8]) -> Result<(), AllocError>
         ensures { OnOk result (self.new ≡ self.old ++ bits_of bytes.now) }
     {
-        self.rest = push_bytes(&mut self.whole, self.width, self.rest, bytes)?;
+        let width = self.width;
+        let size = 1u16 << width;
+        let mut rest = self.rest;
+        let whole = &mut self.whole;
+        for byte in bytes {
+            let bits = 256 * u16::from(rest) + u16::from(*byte);
+            whole.push((bits >> width) as u8)?;
+            rest = (bits % size) as u8;
+        }
+        self.rest = rest;
         Ok(())
     }
 
-    // Fills the last codeword with zeros, if it is not whole.
-    #[tactic(auto, using(crate::proofs::Named::writing_bits))]
-    pub(crate) fn fill(&mut self) -> Result<(), AllocError>
-        ensures { OnOk result (self.new ≡ filled self.old) }
+    // Fills the last codeword with zeros, if it is not whole, and returns the codewords (ISO/IEC 18004:2015, 7.4.10).
+    pub(crate) fn into_codewords(mut self) -> Result<Vec<u8>, AllocError>
+        ensures { IfOk result (λ whole. bits_of whole.items ≡ filled self) }
     {
         let width = self.width;
-        if width > 0 {
-            self.put(8 - width, 0)?;
-        }
-        Ok(())
-    }
-
-    #[tactic(auto, using(crate::proofs::Named::writing_bits))]
-    pub(crate) fn into_codewords(self) -> Vec<u8>
-        requires { length self % 8 ≡ 0 }
-        ensures { bits_of result.items ≡ self }
-    {
+        self.put((8 - width) % 8, 0)?;
         let BitWriter { whole, .. } = self;
-        whole
+        Ok(whole)
     }
-}
-
-// Takes the lowest `width` bits of `bits`, the most significant first, and appends them to `whole` as far as they make
-// whole bytes. Returns the number of bits that are left, which are the lowest bits of `bits`. At most 23 bits are
-// taken: 7 that were left before, and 16 new ones.
-#[tactic(auto, using(crate::proofs::Named::writing_bits))]
-fn push_whole(whole: &mut Vec<u8>, bits: u32, width: u8) -> Result<u8, AllocError>
-    requires { width ≤ 23 }
-    ensures { IfOk result (λ left. (left < 8)
-        × (bits_of whole.new.items ++ field left bits ≡ bits_of whole.old.items ++ field width bits)) }
-{
-    let mut left = width;
-    while left >= 8 {
-        left -= 8;
-        whole.push(((bits >> left) % 256) as u8)?;
-    }
-    Ok(left)
-}
-
-// Appends the `width` bits of `rest` and then the bits of `bytes` to `whole`, as far as they make whole bytes. Returns
-// the bits that are left, as a number. There are `width` bits left again, because each byte of `bytes` adds eight bits.
-#[tactic(auto, unfolding(crate::specs::Bits::bits_of))]
-fn push_bytes(whole: &mut Vec<u8>, width: u8, mut rest: u8, bytes: &[u8]) -> Result<u8, AllocError>
-    requires few { width < 8 }
-    requires rest { rest < 2 ^ width }
-    ensures rest { IfOk result (λ left. left < 2 ^ width) }
-    ensures bits { IfOk result (λ left. bits_of whole.new.items ++ field width left
-        ≡ (bits_of whole.old.items ++ field width rest) ++ bits_of bytes.now) }
-{
-    let size = 1u16 << width;
-    for byte in bytes {
-        let bits = 256 * u16::from(rest) + u16::from(*byte);
-        whole.push((bits >> width) as u8)?;
-        rest = (bits % size) as u8;
-    }
-    Ok(rest)
 }
 
 // The byte at the index `i`, or 0 after the last byte.
@@ -134,8 +105,9 @@ fn byte_at(bytes: &[u8], i: usize) -> u32
     }
 }
 
-// The three bytes from the index `at` on, as a number of 24 bits. They contain any 16 neighbouring bits that begin in
-// the first byte. What the contract says of the second and the third byte is for the prover.
+// The three bytes from the index `at` on, as a number of 24 bits. A byte past the end counts as 0. They contain any 16
+// neighbouring bits that begin in the first byte. What the contract says of the second and the third byte is for the
+// prover.
 #[inline(always)]
 fn three_bytes(bytes: &[u8], at: usize) -> u32
     requires { at ≤ length bytes.now }

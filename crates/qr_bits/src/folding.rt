@@ -1,6 +1,6 @@
 //! Folding: small letters become capitals, because alphanumeric mode has no small letters.
 
-ghost use Rattle.std.specs.Prelude.{◌≡◌, length, map, vec_len, IfOk};
+ghost use Rattle.std.specs.Prelude.{◌≡◌, length, vec_len, IfOk};
 ghost use Rattle.qr_bits.specs.Folding.{folded, folded_around_pairs};
 
 use crate::best_modes::begins_with_pair;

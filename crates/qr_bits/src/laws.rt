@@ -32,7 +32,7 @@ use std::alloc::AllocError;
 /// Bits are parsed as an optional structured append header and segments, without other items, exactly if they are the
 /// bit stream of this header and these segments, followed by an end. An end is fewer than four bits, or the terminator
 /// and anything after it. Segments may be empty, and need not take the fewest bits.
-#[tactic(auto, using(crate::proofs::lemmas::parsing::StreamReadingLemmas::parse_plain, crate::proofs::lemmas::parsing::StreamReadingLemmas::parse_takes))]
+#[tactic(auto, using(crate::proofs::lemmas::parsing::ItemLemmas::parse_plain, crate::proofs::lemmas::parsing::ItemLemmas::parse_takes))]
 pub fn streams_are_parsed()
     ensures { StreamsAreParsed }
 {}

@@ -4,7 +4,7 @@
 //! width depends on the mode and the version.
 
 ghost use Rattle.std.specs.Prelude.{IsTrue, ◌<◌, ◌==◌, ◌^◌, ◌≡◌, ◌≤◌};
-ghost use Rattle.qr_bits.specs.Modes.{character_value, characters, count_width, in_twos, indicator, is_alphanumeric, is_digit, is_kanji_pair, kanji_value, byte_count, may_use, payload_bits, suits};
+ghost use Rattle.qr_bits.specs.Modes.{character_value, characters, count_width, in_twos, is_alphanumeric, is_digit, is_kanji_pair, kanji_value, byte_count, may_use, payload_bits, suits};
 ghost use Rattle.std.specs.List.{list_all, position};
 ghost use Rattle.qr_bits.specs.Parsing.{character, mode_of};
 
@@ -45,32 +45,21 @@ pub enum Rule {
 // modes, so each of them has a mode indicator. The terminator stands where the next mode indicator would be.
 pub(crate) const TERMINATOR: u16 = 0b0000;
 
-const NUMERIC: u16 = 0b0001;
+pub(crate) const NUMERIC: u16 = 0b0001;
 
-const ALPHANUMERIC: u16 = 0b0010;
+pub(crate) const ALPHANUMERIC: u16 = 0b0010;
 
 pub(crate) const STRUCTURED_APPEND: u16 = 0b0011;
 
-const BYTE: u16 = 0b0100;
+pub(crate) const BYTE: u16 = 0b0100;
 
-const KANJI: u16 = 0b1000;
+pub(crate) const KANJI: u16 = 0b1000;
 
 pub(crate) const ECI: u16 = 0b0111;
 
 pub(crate) const FNC1_FIRST: u16 = 0b0101;
 
 pub(crate) const FNC1_SECOND: u16 = 0b1001;
-
-pub(crate) fn indicator(mode: Mode) -> u16
-    ensures { result ≡ indicator mode }
-{
-    match mode {
-        Mode::Numeric => NUMERIC,
-        Mode::Alphanumeric => ALPHANUMERIC,
-        Mode::Byte => BYTE,
-        Mode::Kanji => KANJI,
-    }
-}
 
 #[tactic(auto, unfolding(crate::specs::Parsing::mode_of))]
 pub(crate) fn mode_of(indicator: u16) -> Result<Mode, ParseFault>

@@ -14,7 +14,7 @@ use crate::fault::BitFault;
 use crate::interpretation::{Interpretation, interpretation_bits};
 use crate::modes::INPUT_MAX;
 use crate::segmentation::{Segmented, bit_len};
-use crate::stream::{HEADER_BITS, Header, put_header, put_interpretation, put_segments};
+use crate::stream::{HEADER_BITS, Header, put_segments, put_start};
 use qr_layout::{Level, Version};
 use std::alloc::{AllocError, Global};
 
@@ -65,8 +65,7 @@ pub fn codewords(
     let left = capacity - used;
     let len = usize::from(version.data_codewords(level));
     let mut writer = BitWriter::with_capacity(alloc, len)?;
-    put_header(&mut writer, header)?;
-    put_interpretation(&mut writer, interpretation)?;
+    put_start(&mut writer, header, interpretation)?;
     put_segments(
         &mut writer,
         &segmented.characters,
@@ -74,8 +73,7 @@ pub fn codewords(
         version,
     )?;
     writer.put(TERMINATOR_BITS.min(left) as u8, 0)?;
-    writer.fill()?;
-    let mut codewords = writer.into_codewords();
+    let mut codewords = writer.into_codewords()?;
     pad(&mut codewords, len)?;
     Ok(codewords)
 }

@@ -3,7 +3,7 @@
 //! characters of all segments are appended to one list, `out`. Then `interpreted` returns the bytes that these
 //! characters stand for.
 
-ghost use Rattle.std.specs.Prelude.{Err, IfOk, List, MatchResult, drop, length, take, true, ℕ, ◌%◌, ◌*◌, ◌++◌, ◌+◌, ◌<◌, ◌^◌, ◌≡◌, ◌≤◌};
+ghost use Rattle.std.specs.Prelude.{Err, IfOk, List, MatchResult, length, take, true, ℕ, ◌%◌, ◌*◌, ◌++◌, ◌+◌, ◌<◌, ◌^◌, ◌≡◌, ◌≤◌};
 ghost use Rattle.qr_bits.specs.Modes.{byte_count, payload_bits};
 ghost use Rattle.qr_bits.specs.Bits.{bits_of};
 ghost use Rattle.qr_bits.specs.Parsing.{IsResultOf, bytes_of, character, characters_of, digits_of, first_header, header_at, application_at, designator_at, item_at, items_of, kanji_pair, leading_number, pairs_of, parse, segment_at, values_of};

@@ -17,7 +17,8 @@ ghost use Rattle.qr_bits.specs.Stream.{character_bits, digit_bits, kanji_bits, s
 use crate::bits::BitWriter;
 use crate::interpretation::Interpretation;
 use crate::modes::{
-    ECI, FNC1_FIRST, Mode, STRUCTURED_APPEND, character_value, count_width, indicator, kanji_value,
+    ALPHANUMERIC, BYTE, ECI, FNC1_FIRST, KANJI, Mode, NUMERIC, STRUCTURED_APPEND, character_value,
+    count_width, kanji_value,
 };
 use crate::parsing::NUMBERS;
 use crate::segmentation::Segment;
@@ -47,28 +48,24 @@ pub fn parity(input: &[u8]) -> u8
     input.iter().fold(0, |parity, byte| parity ^ *byte)
 }
 
-// Writes the header. The contract also says that the parity is a byte; this is for the prover.
-#[tactic(auto, unfolding(crate::specs::Header::header_stream))]
-pub(crate) fn put_header(writer: &mut BitWriter, header: Option<Header>) -> Result<(), AllocError>
-    ensures { OnOk result ((writer.new ≡ writer.old ++ header_stream header) × ForSome header (λ h. h.parity < 256)) }
-{
-    let Some(header) = header else {
-        return Ok(());
-    };
-    writer.put(4, STRUCTURED_APPEND)?;
-    writer.put(4, u16::from(header.position))?;
-    writer.put(4, u16::from(header.last))?;
-    writer.put(8, u16::from(header.parity))
-}
-
-#[tactic(auto, unfolding(crate::specs::Interpretation::interpretation_stream))]
-pub(crate) fn put_interpretation(
+// Writes what comes before the segments: the header if there is one, and the ECI header or FNC1 of the interpretation.
+// The contract also says that the parity is a byte; this is for the prover.
+#[tactic(auto, unfolding(crate::specs::Header::header_stream, crate::specs::Interpretation::interpretation_stream))]
+pub(crate) fn put_start(
     writer: &mut BitWriter,
+    header: Option<Header>,
     interpretation: Interpretation,
 ) -> Result<(), AllocError>
     requires { InterpretationFits interpretation }
-    ensures { OnOk result (writer.new ≡ writer.old ++ interpretation_stream interpretation) }
+    ensures { OnOk result ((writer.new ≡ writer.old ++ (header_stream header ++ interpretation_stream interpretation))
+        × ForSome header (λ h. h.parity < 256)) }
 {
+    if let Some(header) = header {
+        writer.put(4, STRUCTURED_APPEND)?;
+        writer.put(4, u16::from(header.position))?;
+        writer.put(4, u16::from(header.last))?;
+        writer.put(8, u16::from(header.parity))?;
+    }
     match interpretation {
         Interpretation::Default => Ok(()),
         Interpretation::Eci(number) => {
@@ -133,11 +130,13 @@ fn put_segment(
     ensures { OnOk result (writer.new ≡ writer.old ++ segment_stream version mode bytes.now) }
 {
     // In kanji mode two bytes count as one character.
-    let count = match mode {
-        Mode::Kanji => bytes.len() / 2,
-        _ => bytes.len(),
+    let (indicator, count) = match mode {
+        Mode::Numeric => (NUMERIC, bytes.len()),
+        Mode::Alphanumeric => (ALPHANUMERIC, bytes.len()),
+        Mode::Byte => (BYTE, bytes.len()),
+        Mode::Kanji => (KANJI, bytes.len() / 2),
     };
-    writer.put(4, indicator(mode))?;
+    writer.put(4, indicator)?;
     writer.put(count_width(version, mode), count as u16)?;
     match mode {
         Mode::Numeric => put_digits(writer, bytes),

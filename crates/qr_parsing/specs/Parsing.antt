@@ -1,4 +1,5 @@
--- Which texts are drawings of squares that begin as symbols do.
+-- Which texts are drawings of squares. The squares need not be symbols, but two of their modules have the colours that
+-- they have in every symbol (`BeginsAsSymbol`).
 use Rattle.std.specs.Prelude.{◌≡◌, ℕ, ◌<◌, ◌≤◌, List, length, true, false}
 use Rattle.std.specs.List.{All}
 use Rattle.qr_matrix.specs.Grid.{Grid, IsSquare, colour}

@@ -102,15 +102,18 @@ pub(crate) fn size_in(text: &[u8]) -> Option<Size>
 }
 
 // Returns the number of at most five digits that begins at index `at`, and the index after the byte that follows the
-// number.
+// number. A number is read only if at least six bytes are left, as they always are in a drawing.
 #[inline(always)]
 fn number_after(text: &[u8], at: usize) -> Option<(u32, usize)>
-    requires { at + 6 ≤ length text.now }
+    requires { at ≤ length text.now }
     ensures within { IfSome result (λ s. (at < s.1) × (s.1 ≤ length text.now)) }
     ensures reads { (n byte : ℕ) (rest : List ℕ) → n ≤ NUMBER_MAX → is_digit byte ≡ false → 4 ≤ length rest
         → drop at text.now ≡ decimal n ++ byte ∷ rest
         → MatchOption result ⊥ (λ s. (s.0 ≡ n) × (drop s.1 text.now ≡ rest)) }
 {
+    if at + 6 > text.len() {
+        return None;
+    }
     let mut number = 0;
     for i in 0..6usize {
         // This is above 9 if the byte is no digit.
@@ -130,8 +133,7 @@ struct DarkBox {
     modules: u32,
 }
 
-// Returns the box that begins at index `at`, and the index after the box. A number is read only if at least six bytes
-// are left, as they always are in a drawing.
+// Returns the box that begins at index `at`, and the index after the box.
 fn box_at(text: &[u8], at: usize) -> Option<(DarkBox, usize)>
     requires { at ≤ length text.now }
     ensures within { IfSome result (λ s. (at < s.1) × (s.1 ≤ length text.now)) }
@@ -142,21 +144,9 @@ fn box_at(text: &[u8], at: usize) -> Option<(DarkBox, usize)>
     if at + 7 > text.len() || text[at] != b'M' {
         return None;
     }
-    let Some((x, after_x)) = number_after(text, at + 1) else {
-        return None;
-    };
-    if after_x + 6 > text.len() {
-        return None;
-    }
-    let Some((y, after_y)) = number_after(text, after_x) else {
-        return None;
-    };
-    if after_y + 6 > text.len() {
-        return None;
-    }
-    let Some((modules, after_modules)) = number_after(text, after_y) else {
-        return None;
-    };
+    let (x, after_x) = number_after(text, at + 1)?;
+    let (y, after_y) = number_after(text, after_x)?;
+    let (modules, after_modules) = number_after(text, after_y)?;
     // `number_after` has passed the `v`. What is left of the box is `1h-`, the number of modules again, and `z`.
     let back = if modules < 10 {
         5

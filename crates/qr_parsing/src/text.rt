@@ -9,9 +9,10 @@ use crate::sheet::{SIDE_MIN, Sheet, WIDTH_MAX};
 use qr_drawing::Drawing;
 use std::alloc::{AllocError, Global};
 
-// A UTF8 drawing has the first byte of a block character among its first 22 bytes. The module in column 7 of its first
-// row is light, so the character there is a block character. The seven characters before it have at most three bytes
-// each.
+// A UTF8 drawing has the first byte of a block character among its first 22 bytes. In such a drawing the filled parts
+// of a character are light modules. The module in column 7 of the first row is light: it is in the margin or, without a
+// margin, in the separator of the finder pattern. So a block character shows it. The seven characters before it have at
+// most three bytes each.
 const BLOCK_WITHIN: usize = 22;
 
 // Returns the index of the first byte that is `sign`, or the length if there is none.

@@ -1,7 +1,7 @@
 -- The table of best modes. It has a row for each byte, with the best mode of the byte for each state that may come
 -- before it. (The file `RunState` says what a state is.) A choice is a mode of a byte, with the least number of bits
--- that this byte and all later ones can then take. `rest` has the best choices for the byte after a given byte, one for
--- each state that may come between the two. `pair` says whether the byte may begin a kanji pair.
+-- that this byte and all later ones can then take. `rest` has the best choices for the next byte, one for each state
+-- that may come before it. `pair` says whether the byte may begin a kanji pair.
 use Rattle.std.specs.Prelude.{◌≡◌, ℕ, ◌+◌, ◌<◌, ◌/◌, ◌%◌, ◌^◌, nat_le, Bool, List, [], ◌∷◌, map, IsTrue}
 use Rattle.qr_bits.specs.declared.modes.Mode.{Mode}
 use Rattle.qr_bits.specs.declared.modes.Mode.TheVariants.{Alphanumeric}

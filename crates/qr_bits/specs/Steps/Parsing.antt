@@ -7,8 +7,8 @@ use Rattle.qr_bits.specs.declared.fault.ParseFault.TheVariants.{Memory}
 use Rattle.qr_bits.specs.Modes.{byte_count, payload_bits}
 use Rattle.qr_bits.specs.Parsing.{◌>>=◌, values_of}
 
--- The code has returned the fault `e` where a definition has the result `read`. Either `e` is `Memory`, since an
--- allocation was refused, or `read` is the same fault `e`
+-- The code has returned the fault `e`, and the definition of what it should return yields `read`. Either `e` is
+-- `Memory`, since an allocation was refused, or `read` is the same fault `e`
 abbrev pub IsFaultOf : {A : Type 0} → ParseFault → Result A ParseFault → Type 0
 IsFaultOf e read = (e ≡ Memory) ⊎ (read ≡ Err e)
 

@@ -46,9 +46,9 @@ pub record ShowsOn (kind : Drawing) (width count : ℕ) (bytes : List ℕ) (marg
   pub places : (k y x : ℕ) → k < count → y < width → x < width
       → is_dark_on kind width bytes k y x ≡ is_dark_at margin (square_at squares k) y x
 
--- The only type of drawing that a text can have. A text that begins with `<` can only be an SVG document, and one with
--- a block character only a UTF8 text. In the other two types byte 14, counted from 0, belongs to a light module. So it
--- is a space if the text is an ASCII text, and another byte if the text is an inverse ASCII text
+-- If a text is a drawing, this is its type. A text that begins with `<` can only be an SVG document, and one with a
+-- block character only a UTF8 text. In the other two types byte 14, counted from 0, belongs to a light module. So it is
+-- a space if the text is an ASCII text, and another byte if the text is an inverse ASCII text
 abbrev pub kind_in : List ℕ → Drawing
 kind_in text =
     if slice_index_or text 0 0 == 60 then Svg else

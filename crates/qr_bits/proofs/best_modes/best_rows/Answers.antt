@@ -1,9 +1,8 @@
 use Rattle.std.proofs.Common.{◌≡◌, ℕ, ◌+◌, ◌-◌, ◌<◌, ◌≤◌, suc, [], ◌∷◌, length, get_or, take, drop, refl, arith, rules}
-use Rattle.std.proofs.Math.{Seq.drop-length, Seq.drop-cons, Nat.le_refl}
-use Rattle.std.proofs.lemmas.List.{reverse-append, take_all, length-drop}
+use Rattle.std.proofs.{Math.{Seq.{drop-length, drop-cons}, Nat.le_refl}, lemmas.List.{reverse-append, take_all, length-drop}}
 use Rattle.qr_bits.specs.{Modes.is_kanji_pair, Steps.RunState.begins_with_pair, Steps.BestModes.IsRow}
 use Rattle.qr_bits.specs.{Steps.RunState.is_gs1, declared.interpretation.Interpretation.Interpretation}
-use Rattle.qr_bits.proofs.lemmas.best_modes.TableLemmas.{some-interpretation, best-none, best-more, small-more, small-row, zeros, zeros-small}
+use Rattle.qr_bits.proofs.lemmas.best_modes.TableLemmas.{some-interpretation, best-none, best-more, small-more, small-row, zeros}
 use Rattle.qr_bits.proofs.best_modes.best_rows.Goals as goal
 
 -- n rows are in the table, and k bytes have none yet
@@ -17,7 +16,7 @@ none n l e = omega arith
 pub loop-i-init : goal.loop-i-init
 loop-i-init c = record {
   len = none _ _ c.in_ok-table.ensures.len;
-  small = zeros-small _;
+  small = search (rules, zeros);
   best = λ n g. rw (drop-length c.args.input.now, c.in_ok-table.ensures.items) (best-none n c.args.version c.args.rule is_kanji_pair _ zeros);
   flags = search (rules, drop-length);
 }
@@ -43,6 +42,4 @@ loop-i-preserved c =
     }
 
 pub returns : goal.returns
-returns c =
-    let all = (rows _ _ _ c.loop-i.invariant.len).1 c.loop-i-test.false in
-    search arith
+returns c = search (arith, (rows _ _ _ c.loop-i.invariant.len).1 c.loop-i-test.false)

@@ -1,8 +1,7 @@
 use Rattle.std.proofs.{Common.◌≡◌, Common.◌+◌, Common.◌<◌, Common.◌≤◌, Common.ℕ, Common.min, Common.refl, Common.ap, Common.◌∙◌, Common.arith, Math.Nat.div-lt_iff_lt-mul, Math.Nat.min-eq_left, lemmas.Nat.pow_pos}
 use Rattle.qr_bits.specs.{declared.{modes.Mode.Mode, run_state.RunState.RunState}, Steps.BestModes.{in_state, bits_at, character_choice}}
-use Rattle.qr_bits.specs.declared.modes.Mode.TheVariants.{Numeric, Byte, Kanji}
+use Rattle.qr_bits.specs.{declared.modes.Mode.TheVariants.{Numeric, Byte, Kanji}, Steps.RunState.{state_after, byte_cost, may_begin, may_end, choice_number}}
 use Rattle.qr_bits.specs.declared.run_state.RunState.TheVariants.{Start, Digit1, Digit2, Digit3, Character1, Character2, InBytes, HalfPair, WholePair}
-use Rattle.qr_bits.specs.Steps.RunState.{state_after, byte_cost, may_begin, may_end, choice_number}
 use Rattle.qr_bits.proofs.lemmas.best_modes.ChoiceLemmas.{byte-used, character-less, half-choice, number-less, row-choice}
 use Rattle.qr_bits.proofs.best_modes.choices.Goals as goal
 
@@ -35,13 +34,10 @@ returns-clause-row c = λ i r x digit characters.
     let s : bits_at rest InBytes < 10000000 = (div-lt_iff_lt-mul {k = 4} {x = rest.in_bytes} {y = 10000000} (pow_pos 2)).1 c.requires.6 in
     let n = rw digit at (c.choice_if-digits.ensures _ Numeric h.numeric_is) in
     let b : c.choice_if-bytes.result ≡ of Start Byte = rw (byte-used r) (c.choice_if-bytes.ensures _ Byte h.byte_is) in
-    let k = c.choice_if-pairs.ensures _ Kanji h.kanji_is in
-    let d2 = rw digit at c.next_if-digit2.ensures in
-    let d3 = rw digit at c.next_if-digit3.ensures in
     let d1 = rw digit at c.next_if-digit1.ensures in
     let b1 : c.next_if-in_bytes.result ≡ of InBytes Byte = rw (byte-used r) c.next_if-in_bytes.ensures in
     let k1 = c.next_if-half_pair.ensures in
-    let bk = rw (b, k) at c.min-others.ensures in
+    let bk = rw (b, c.choice_if-pairs.ensures _ Kanji h.kanji_is) at c.min-others.ensures in
     let ab = rw (characters.0, bk) at c.min-no_digits.ensures in
     let nbk = rw (n, bk) at c.min-no_characters.ensures in
     let start = rw (n, ab) at c.min-start.ensures in
@@ -49,8 +45,8 @@ returns-clause-row c = λ i r x digit characters.
     (number-less _ Numeric 4 _ _) (character-less i v r x t rest) (number-less _ Byte 8 _ _) (number-less _ Kanji 13 _ _) in
     elim [
       | Start ↦ row-choice i v r Start x t rest _ _ (c.row_for.ensures.modes Start) refl s start
-      | Digit1 ↦ row-choice i v r Digit1 x t rest _ _ (c.row_for.ensures.modes Digit1) refl s (rw (d2, ab) at c.min.ensures)
-      | Digit2 ↦ row-choice i v r Digit2 x t rest _ _ (c.row_for.ensures.modes Digit2) refl s (rw (d3, ab) at c.min-2.ensures)
+      | Digit1 ↦ row-choice i v r Digit1 x t rest _ _ (c.row_for.ensures.modes Digit1) refl s (rw (rw digit at c.next_if-digit2.ensures, ab) at c.min.ensures)
+      | Digit2 ↦ row-choice i v r Digit2 x t rest _ _ (c.row_for.ensures.modes Digit2) refl s (rw (rw digit at c.next_if-digit3.ensures, ab) at c.min-2.ensures)
       | Digit3 ↦ row-choice i v r Digit3 x t rest _ _ (c.row_for.ensures.modes Digit3) refl s ((rw (d1, start) at c.min-3.ensures) ∙ m.0)
       | Character1 ↦ row-choice i v r Character1 x t rest _ _ (c.row_for.ensures.modes Character1) refl s ((rw (characters.1, nbk) at c.min-4.ensures) ∙ m.1)
       | Character2 ↦ row-choice i v r Character2 x t rest _ _ (c.row_for.ensures.modes Character2) refl s ((rw (characters.2, start) at c.min-5.ensures) ∙ m.2)

@@ -1,8 +1,6 @@
-use Rattle.std.proofs.Common.{◌≡◌, true, false, ◌&&◌, sym, ◌∙◌, rules}
-use Rattle.std.proofs.Math.Bool.{and-false}
-use Rattle.std.proofs.lemmas.Bool.{false≢true}
+use Rattle.std.proofs.{lemmas.Bool.{ne_eqb, false≢true}, Common.{◌≡◌, true, false, ◌&&◌, sym, ◌∙◌, rules}, Math.Bool.and-false}
 use Rattle.qr_bits.specs.{declared.modes.Mode.TheVariants.Alphanumeric, Interpretation.character_for, Steps.RunState.may_begin, Steps.Segmentation.is_escaped}
-use Rattle.qr_bits.proofs.lemmas.best_modes.{ChoiceLemmas.{digit-itself, digit-written, own-character}, TableLemmas.{no-flag}}
+use Rattle.qr_bits.proofs.lemmas.best_modes.ChoiceLemmas.{digit-written, own-character}
 use Rattle.qr_bits.proofs.best_modes.row_of.Goals as goal
 
 pub returns-then-not-pair-clause-row : goal.returns-then-not-pair-clause-row
@@ -14,9 +12,8 @@ returns-then-not-pair-clause-row c = λ i g.
     rw c.if-not-pair.true (c.choices.ensures.row i r x (sym digit) (c.character_choices-characters.ensures i r x false (sym own.1) (sym own.0)))
 
 pub returns-then-not-pair-clause-flag : goal.returns-then-not-pair-clause-flag
-returns-then-not-pair-clause-flag c =
-    let digit = sym (c.may_begin-digit.ensures false) ∙ c.if-digit.true in
-    search (rules, no-flag, digit-itself, and-false)
+unfolding may_begin
+returns-then-not-pair-clause-flag c = search (rules, and-false, ne_eqb, sym (c.may_begin-digit.ensures false) ∙ c.if-digit.true)
 
 pub returns-then-pair-clause-row : goal.returns-then-pair-clause-row
 returns-then-pair-clause-row c = λ i g p.

@@ -1,7 +1,5 @@
-use Rattle.std.proofs.Common.{◌≡◌, ◌+◌, ◌-◌, ◌*◌, ◌/◌, ◌%◌, ◌≤◌, length, drop, append-nil, append_assoc, arith, rules}
-use Rattle.std.proofs.lemmas.List.{drop-drop}
-use Rattle.qr_bits.specs.{Bits.bits_of, Parsing.bytes_of}
-use Rattle.qr_bits.proofs.lemmas.bits.WindowLemmas.{byte-window, bytes_of-more}
+use Rattle.std.proofs.{Common.{◌≡◌, ◌+◌, ◌-◌, ◌*◌, ◌/◌, ◌%◌, ◌≤◌, length, drop, append-nil, append_assoc, arith, rules}, lemmas.List.drop-drop}
+use Rattle.qr_bits.{specs.{Bits.bits_of, Parsing.bytes_of}, proofs.lemmas.bits.WindowLemmas.{byte-window, bytes_of-more}}
 use Rattle.qr_bits.proofs.bits.push_bytes_at.Goals as goal
 
 pub loop-i-init : goal.loop-i-init

@@ -1,5 +1,4 @@
-use Rattle.std.proofs.Common.{◌≡◌, ℕ, ◌+◌, ◌<◌, true, List, [], ◌∷◌, length, drop, get_or, refl, ap, ◌∙◌, arith, rules}
-use Rattle.std.proofs.Math.Bool.{and-true, and_assoc}
+use Rattle.std.proofs.{Common.{◌≡◌, ℕ, ◌+◌, ◌<◌, true, List, [], ◌∷◌, length, drop, get_or, refl, ap, ◌∙◌, arith, rules}, Math.Bool.{and-true, and_assoc}}
 use Rattle.std.proofs.lemmas.List.{drop_more, get_or-drop, length-drop}
 use Rattle.qr_bits.specs.Interpretation.{are_fields}
 use Rattle.qr_bits.proofs.interpretation.may_all_precede.Goals as goal
@@ -13,9 +12,8 @@ short-fields (x ∷ y ∷ xs) h = absurd (omega arith)
 pub loop-i-preserved : goal.loop-i-preserved
 unfolding are_fields
 loop-i-preserved c =
-    let l = c.loop-i in
     let xs = c.args.firsts.now in
-    let i = l.i in
+    let i = c.loop-i.i in
     let inside : i + 1 < length xs = search (rules, length-drop) in
     let first : drop i xs ≡ get_or xs i 0 ∷ drop (i + 1) xs = drop_more xs i 0 (omega arith) in
     let second : drop (i + 1) xs ≡ get_or xs (i + 1) 0 ∷ drop (i + 1 + 1) xs = drop_more xs (i + 1) 0 inside in

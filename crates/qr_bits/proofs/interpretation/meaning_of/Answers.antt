@@ -1,9 +1,11 @@
-use Rattle.std.proofs.Common.{arith, append-nil}
-use Rattle.qr_bits.proofs.lemmas.interpretation.MeaningLemmas.{bytes-end, ecis-end}
+use Rattle.qr_bits.specs.Interpretation.{meant_bytes, eci_changes}
+use Rattle.std.proofs.{lemmas.List.drop_all, Common.{rules, append-nil}}
 use Rattle.qr_bits.proofs.interpretation.meaning_of.Goals as goal
 
 pub returns-clause-bytes : goal.returns-clause-bytes
-returns-clause-bytes c = search (arith, bytes-end, append-nil)
+unfolding meant_bytes
+returns-clause-bytes c = search (rules, append-nil, drop_all)
 
 pub returns-clause-ecis : goal.returns-clause-ecis
-returns-clause-ecis c = search (arith, ecis-end, append-nil)
+unfolding eci_changes
+returns-clause-ecis c = search (rules, append-nil, drop_all)

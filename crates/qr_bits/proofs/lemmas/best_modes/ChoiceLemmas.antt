@@ -1,15 +1,11 @@
 -- The best mode for a byte is the one whose number is the least.
-use Rattle.std.proofs.Common.{◌≡◌, ℕ, ◌+◌, ◌*◌, ◌/◌, ◌%◌, ◌<◌, ◌≤◌, Bool, true, false, ◌&&◌, min, refl, sym, ◌∙◌, ⊎_elim, arith}
+use Rattle.std.proofs.Common.{◌≡◌, ℕ, ◌+◌, ◌*◌, ◌/◌, ◌%◌, ◌<◌, ◌≤◌, Bool, true, false, ◌&&◌, min, refl, ◌∙◌, ⊎_elim, arith}
 use Rattle.std.proofs.lemmas.Bool.{cases_lt, cond_both, ne_eqb}
-use Rattle.qr_bits.specs.declared.interpretation.Interpretation.{Interpretation, TheVariants.{Default, Gs1, Eci}}
-use Rattle.qr_bits.specs.Interpretation.{character_for, is_doubled}
-use Rattle.qr_bits.proofs.lemmas.interpretation.WrittenLemmas.{doubled-rank, single-byte}
-use Rattle.qr_bits.specs.{declared.modes.Mode.Mode, declared.modes.Rule.Rule, Segmentation.rank, Modes.may_use}
-use Rattle.qr_bits.specs.declared.modes.Mode.TheVariants.{Numeric, Alphanumeric, Byte, Kanji}
+use Rattle.qr_bits.specs.{declared.interpretation.Interpretation.{Interpretation, TheVariants.{Default, Gs1, Eci}}, Interpretation.{character_for, is_doubled}}
+use Rattle.qr_bits.proofs.lemmas.{interpretation.WrittenLemmas.{doubled-rank, single-byte}, modes.CharacterLemmas.digit-character}
+use Rattle.qr_bits.specs.{declared.modes.{Mode.{Mode, TheVariants.{Numeric, Alphanumeric, Byte, Kanji}}, Rule.Rule}, Segmentation.rank, Modes.may_use}
 use Rattle.qr_bits.specs.declared.run_state.{PerState.PerState, RunState.{RunState, TheVariants.{Start, Character2, InBytes, HalfPair}}}
-use Rattle.qr_bits.specs.Steps.BestModes.{bits_at, character_choice}
-use Rattle.qr_bits.proofs.lemmas.modes.CharacterLemmas.{digit-character}
-use Rattle.qr_bits.specs.Steps.Segmentation.{is_escaped}
+use Rattle.qr_bits.specs.Steps.{BestModes.{bits_at, character_choice}, Segmentation.is_escaped}
 use Rattle.qr_bits.specs.Steps.RunState.{is_gs1, state_after, state_in, state_on, byte_cost, cost_in, may_take_in, may_begin, may_take, may_end, choice_number, ranked, IsChoice}
 
 -- the least of the numbers of the four modes
@@ -17,9 +13,6 @@ abbrev pub least_of : (Mode → Bool) → (Mode → ℕ) → ℕ
 least_of may cost =
     min (choice_number (may Numeric) (cost Numeric) Numeric)
     (min (choice_number (may Alphanumeric) (cost Alphanumeric) Alphanumeric) (min (choice_number (may Byte) (cost Byte) Byte) (choice_number (may Kanji) (cost Kanji) Kanji)))
-
-least-under : (m : Mode → Bool) (f : Mode → ℕ) (k : Mode) → m k ≡ true → least_of m f ≤ 4 * f k + rank k
-least-under m f k t = grind arith
 
 -- the number is that of a mode that may be used
 abbrev IsTaken : (Mode → Bool) → (Mode → ℕ) → ℕ → Type 0
@@ -51,11 +44,6 @@ pub take-begin : (r : Rule) (p : RunState) (x : ℕ) (pair : Bool) (m : Mode) �
 unfolding may_end may_take
 take-begin r p x pair m e = grind arith
 
--- a byte in byte mode is one character
-pub byte-in : (i : Interpretation) (p : RunState) (x : ℕ) → state_in i p x Byte ≡ InBytes
-unfolding state_after
-byte-in i p x = rw (single-byte i x).0 refl
-
 -- the characters of a byte add at most 33 bits
 pub cost_in-bound : (i : Interpretation) (v : ℕ) (p : RunState) (x : ℕ) (m : Mode) → cost_in i v p x m ≤ 33
 unfolding byte_cost state_after
@@ -70,14 +58,14 @@ half-choice i v r x pair cost c m chosen is = rw chosen (search (arith, ranked-n
 -- the least number is that of the mode of lowest rank among those that lead to the fewest bits
 pub least-choice : (i : Interpretation) (v : ℕ) (r : Rule) (p : RunState) (x : ℕ) (q : Bool) (cost : RunState → ℕ) (c : ℕ) (n : Mode) → n ≡ ranked (c % 4) → may_end p ≡ true → cost InBytes < 10000000
     → c ≡ least_of (λ k. may_begin r (character_for i x k) q k) (λ k. cost_in i v p x k + cost (state_in i p x k)) → IsChoice i v r p x q cost n (c / 4)
-unfolding may_begin
+unfolding may_begin state_after
 least-choice i v r p x q cost c n chosen e small is =
     let may : Mode → Bool = λ k. may_begin r (character_for i x k) q k in
     let t : Mode → ℕ = λ k. cost_in i v p x k + cost (state_in i p x k) in
     let take : (k : Mode) → may_take_in i r p x q k ≡ may k = λ k. take-begin r p (character_for i x k) q k e in
-    let under : (k : Mode) → may_take_in i r p x q k ≡ true → c ≤ 4 * t k + rank k = λ k ok. rw is (least-under may t k (sym (take k) ∙ ok)) in
+    let under : (k : Mode) → may_take_in i r p x q k ≡ true → c ≤ 4 * t k + rank k = λ k ok. rw is (search arith) in
     let most : c ≤ 4 * t Byte + rank Byte = under Byte (take Byte ∙ byte-used r) in
-    let later : cost (state_in i p x Byte) < 10000000 = rw (byte-in i p x) small in
+    let later : cost (state_in i p x Byte) < 10000000 = search (arith, single-byte) in
     let few : c < 4294967295 = omega (arith, cost_in-bound i v p x Byte) in
     let taken : IsTaken may t c = rw is (taken-least may t (rw is at few)) in
     let m = taken.0 in
@@ -109,14 +97,7 @@ no-escape r x q h = grind (arith, ne_eqb)
 -- a digit is one character, and may be written in alphanumeric mode
 pub digit-written : (i : Interpretation) (r : Rule) (x : ℕ) (q : Bool) → may_begin r x q Numeric ≡ true
     → (is_doubled i x Alphanumeric ≡ false) × (may_begin r (character_for i x Alphanumeric) q Alphanumeric ≡ true)
-digit-written Default r x q h = (refl, digit-character r x q h)
-digit-written (Eci k) r x q h = (refl, digit-character r x q h)
-digit-written Gs1 r x q h = search (arith, no-escape, digit-character)
-
--- each mode writes a digit as itself
-pub digit-itself : (r : Rule) (x : ℕ) (q : Bool) → may_begin r x q Numeric ≡ true → is_escaped Alphanumeric x ≡ false
-unfolding may_begin
-digit-itself r x q h = grind (arith, ne_eqb)
+digit-written i r x q h = grind (arith, digit-character, no-escape)
 
 -- a byte that alphanumeric mode writes as itself is one character
 pub own-character : (i : Interpretation) (x : ℕ) → (is_gs1 i && is_escaped Alphanumeric x) ≡ false → (is_doubled i x Alphanumeric ≡ false) × (character_for i x Alphanumeric ≡ x)
@@ -131,7 +112,3 @@ state_after-whole p e = grind arith
 pub on-after : (p : RunState) (m : Mode) → state_on (state_after p m) ≡ state_after (state_after p m) m
 unfolding state_on state_after
 on-after p m = grind arith
-
--- as `on-after`, after the characters of a byte
-pub on-in : (i : Interpretation) (p : RunState) (x : ℕ) (m : Mode) → state_on (state_in i p x m) ≡ state_after (state_in i p x m) m
-on-in i p x m = search (arith, cond_both, on-after)

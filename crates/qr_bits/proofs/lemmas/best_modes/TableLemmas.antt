@@ -1,18 +1,13 @@
 -- A table of best modes, filled from the last byte to the first.
-use Rattle.std.proofs.Common.{◌≡◌, ℕ, ◌+◌, ◌*◌, ◌%◌, ◌≤◌, Bool, true, List, [], ◌∷◌, ◌++◌, length, replicate, reverse, append_assoc, IsTrue, refl, ◌<◌, false, arith, lit<}
-use Rattle.std.proofs.lemmas.{Bool.false≢true, Bool.and_from, Bool.cond_both, List.reverse-append}
-use Rattle.qr_bits.specs.declared.{modes.Mode.Mode, modes.Rule.Rule, run_state.RunState.RunState}
-use Rattle.qr_bits.specs.declared.modes.Mode.TheVariants.{Byte, Kanji}
-use Rattle.qr_bits.specs.declared.interpretation.Interpretation.{Interpretation, TheVariants.{Default, Gs1}}
-use Rattle.qr_bits.specs.Segmentation.{rank}
+use Rattle.std.proofs.Common.{◌≡◌, ℕ, ◌+◌, ◌*◌, ◌%◌, ◌≤◌, Bool, true, List, [], ◌∷◌, length, replicate, IsTrue, refl, ◌<◌, false, arith, lit<}
+use Rattle.std.proofs.lemmas.Bool.{false≢true, and_from, cond_both}
+use Rattle.qr_bits.specs.{declared.{modes.{Mode.{Mode, TheVariants.{Byte, Kanji}}, Rule.Rule}, run_state.RunState.RunState}, Segmentation.rank}
+use Rattle.qr_bits.specs.declared.{interpretation.Interpretation.{Interpretation, TheVariants.{Default, Gs1}}, run_state.PerState.PerState}
 use Rattle.qr_bits.specs.declared.run_state.RunState.TheVariants.{Start, Digit1, Digit2, Digit3, Character1, Character2, InBytes, HalfPair, WholePair}
-use Rattle.qr_bits.specs.declared.run_state.PerState.{PerState}
 use Rattle.qr_bits.specs.Steps.RunState.{is_gs1, state_after, state_in, may_take_in, begins_with_pair, may_begin, may_take, may_end, allowed_in, cost_of, cost_of_all, ranked}
-use Rattle.qr_bits.specs.Steps.BestModes.{in_state, bits_at, is_flagged, mode_at, follow, follow_in, IsRow, IsSmall}
-use Rattle.qr_bits.proofs.lemmas.run_state.{BestLemmas.BestBelow, BestLemmas.best-step}
-use Rattle.qr_bits.proofs.lemmas.interpretation.WrittenLemmas.{single-byte}
-use Rattle.qr_bits.proofs.lemmas.best_modes.ChoiceLemmas.{byte-used, byte-in, cost_in-bound, take-begin}
-use Rattle.qr_bits.proofs.lemmas.run_state.AssignmentLemmas.{may_end-after}
+use Rattle.qr_bits.specs.Steps.BestModes.{in_state, bits_at, mode_at, follow, follow_in, IsRow, IsSmall}
+use Rattle.qr_bits.proofs.lemmas.{run_state.{BestLemmas.{BestBelow, best-step}, AssignmentLemmas.may_end-after}, interpretation.WrittenLemmas.single-byte}
+use Rattle.qr_bits.proofs.lemmas.best_modes.ChoiceLemmas.{byte-used, cost_in-bound, take-begin}
 
 -- data of GS1 have an interpretation, and other data too
 pub some-interpretation : (g : Bool) → (i : Interpretation) × (g ≡ is_gs1 i)
@@ -21,9 +16,9 @@ some-interpretation false = (Default, refl)
 
 -- byte mode for each byte is an allowed rest if no half pair is open
 pub bytes-rest : (i : Interpretation) (r : Rule) (test : ℕ → ℕ → Bool) (p : RunState) (xs : List ℕ) → may_end p ≡ true → allowed_in i r test p xs (replicate (length xs) Byte) ≡ true
-unfolding allowed_in may_begin may_end
+unfolding allowed_in may_begin may_end state_after
 bytes-rest i r test p [] e = e
-bytes-rest i r test p (x ∷ xs) e = rw (byte-in i p x) (search (arith, and_from, take-begin, byte-used, bytes-rest i r test InBytes xs refl))
+bytes-rest i r test p (x ∷ xs) e = search (arith, and_from, take-begin, byte-used, single-byte, bytes-rest i r test InBytes xs refl)
 
 -- no half pair is open after a byte that is not in kanji mode
 pub in-end : (i : Interpretation) (p : RunState) (x : ℕ) (m : Mode) → rank m < 3 → may_end (state_in i p x m) ≡ true
@@ -68,9 +63,6 @@ pub zeros : (p : RunState) → bits_at (record { start = 0; digit1 = 0; digit2 =
 unfolding in_state
 zeros p = grind arith
 
-pub zeros-small : (n : ℕ) (p : RunState) → bits_at (record { start = 0; digit1 = 0; digit2 = 0; digit3 = 0; character1 = 0; character2 = 0; in_bytes = 0; half_pair = 0; whole_pair = 0 }) p ≤ n
-zeros-small n p = omega (arith, zeros p)
-
 -- the modes of all numbers as one row: two bits for each state
 abbrev pub packed : PerState → ℕ
 packed n = n.start % 4 + 4 * (n.digit1 % 4 + 4 * (n.digit2 % 4 + 4 * (n.digit3 % 4 + 4 * (n.character1 % 4 + 4 * (n.character2 % 4 + 4 * (n.in_bytes % 4 + 4 * (n.half_pair % 4 + 4 * (n.whole_pair % 4))))))))
@@ -79,10 +71,6 @@ packed n = n.start % 4 + 4 * (n.digit1 % 4 + 4 * (n.digit2 % 4 + 4 * (n.digit3 %
 pub packed_mode : (n : PerState) (p : RunState) → mode_at (packed n) p ≡ ranked (in_state n p % 4)
 unfolding mode_at in_state
 packed_mode n p = search arith
-
--- the bits of the states are below the flag
-pub no-flag : (row : ℕ) → row < 262144 → is_flagged row ≡ false
-no-flag row h = grind arith
 
 -- a row with its flag has the same modes
 pub flagged_mode : (row : ℕ) (p : RunState) → mode_at (row + 262144) p ≡ mode_at row p
@@ -96,15 +84,3 @@ follow-default p [] [] h = refl
 follow-default p [] (row ∷ rows) h = absurd (omega arith)
 follow-default p (x ∷ xs) [] h = absurd (omega arith)
 follow-default p (x ∷ xs) (row ∷ rows) h = cc (follow-default (state_after p (mode_at row p)) xs rows (omega arith))
-
--- the modes found so far, the mode of one more row, and then the modes of the other rows
-pub led-on : (p : RunState) (items rows : List ℕ) (row : ℕ) (ms all : List Mode) (m : Mode) → items ≡ rows ++ row ∷ [] → m ≡ mode_at row p
-    → ms ++ follow p (reverse items) ≡ all → (ms ++ m ∷ []) ++ follow (state_after p m) (reverse rows) ≡ all
-unfolding follow
-led-on p items rows row ms all m last is so_far = search (arith, reverse-append, append_assoc)
-
--- as `led-on`, where the rows are those of bytes
-pub led-on-in : (i : Interpretation) (p : RunState) (x : ℕ) (xs items rows : List ℕ) (row : ℕ) (ms all : List Mode) (m : Mode) → items ≡ rows ++ row ∷ [] → m ≡ mode_at row p
-    → ms ++ follow_in i p (x ∷ xs) (reverse items) ≡ all → (ms ++ m ∷ []) ++ follow_in i (state_in i p x m) xs (reverse rows) ≡ all
-unfolding follow_in
-led-on-in i p x xs items rows row ms all m last is so_far = search (arith, reverse-append, append_assoc)

@@ -2,10 +2,8 @@
 use Rattle.std.proofs.Common.{◌≡◌, ℕ, zero, suc, ◌+◌, ◌-◌, ◌*◌, ◌/◌, ◌%◌, ◌^◌, ◌<◌, ◌≤◌, Bool, List, [], ◌∷◌, ◌++◌, length, get_or, take, drop, refl, ap, arith, append_assoc}
 use Rattle.std.proofs.lemmas.{List.{drop-drop, drop-append-le, take-append-le, get_or-drop, length-drop}, Nat.{pow-add, pow_pos, shr_split}}
 use Rattle.std.proofs.Math.Nat.{mod-lt, div-div-eq-div-mul}
-use Rattle.qr_bits.specs.Parsing.{bytes_of}
-use Rattle.qr_bits.specs.Bits.{field, value, bits_of}
-use Rattle.qr_bits.proofs.lemmas.bits.BitLemmas.{bits_of-append, field-join, field-low, length-bits_of}
-use Rattle.qr_bits.proofs.lemmas.stream.StreamLemmas.{drop-field, read-field}
+use Rattle.qr_bits.specs.{Parsing.bytes_of, Bits.{field, value, bits_of}}
+use Rattle.qr_bits.proofs.lemmas.{bits.BitLemmas.{bits_of-append, field-join, field-low, length-bits_of}, stream.StreamLemmas.{drop-field, read-field}}
 
 field-split : (a b n : ℕ) → field (a + b) n ≡ field a (n / 2 ^ b) ++ field b n
 unfolding field

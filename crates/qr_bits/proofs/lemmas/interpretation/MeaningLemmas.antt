@@ -1,18 +1,14 @@
 -- What the characters of items stand for, item by item.
-use Rattle.std.proofs.Common.{◌≡◌, ℕ, ◌+◌, ◌<◌, ◌≤◌, Bool, false, List, [], ◌∷◌, ◌++◌, length, take, drop, get_or, Option, None, refl, sym, arith}
+use Rattle.std.proofs.Common.{◌≡◌, ℕ, ◌+◌, ◌<◌, ◌≤◌, false, List, [], ◌∷◌, length, take, drop, get_or, Option, None, refl, sym, arith}
 use Rattle.std.{proofs.Math.Seq.drop-cons, proofs.lemmas.List.{take-append-drop, drop_all}}
-use Rattle.qr_bits.specs.declared.{modes.Mode.Mode, segmentation.Segment.Segment, stream.Header.Header}
-use Rattle.qr_bits.specs.declared.interpretation.{Item.Item, Item.TheVariants.{Data}}
+use Rattle.qr_bits.specs.declared.{segmentation.Segment.Segment, stream.Header.Header, interpretation.Item.Item}
 use Rattle.qr_bits.specs.{Stream.Suits, Interpretation.{plain, meant, meant_bytes, eci_changes, fnc1_of}, Parsing.{content_of, plain_content}}
-
-meant-without : (m : Mode) (xs : List ℕ) → meant false m xs ≡ xs
-meant-without m xs = grind arith
 
 -- Segments alone stand for their characters.
 pub meant-plain : (segs : List Segment) (xs : List ℕ) → Suits xs segs → meant_bytes false (plain segs) xs ≡ xs
 unfolding meant_bytes Suits
 meant-plain [] xs h = sym h
-meant-plain (s ∷ ss) xs h = search (arith, meant-without, take-append-drop, meant-plain ss (drop s.len xs) h.2)
+meant-plain (s ∷ ss) xs h = search (arith, take-append-drop, meant-plain ss (drop s.len xs) h.2)
 
 pub ecis-plain : (segs : List Segment) (n : ℕ) (xs : List ℕ) → eci_changes false n (plain segs) xs ≡ []
 unfolding eci_changes
@@ -25,23 +21,6 @@ plain-meant h segs xs s = rw (meant-plain segs xs s, ecis-plain segs 0 xs) refl
 -- the items from index `i` on, of which the first is `x`
 pub item-next : (items : List Item) (i : ℕ) (d x : Item) → i < length items → get_or items i d ≡ x → drop i items ≡ x ∷ drop (i + 1) items
 item-next items i d x h e = rw (← e) (search (arith, drop-cons))
-
--- A segment without FNC1 before it stands for its characters.
-pub bytes-next : (s : Segment) (is : List Item) (xs : List ℕ) → meant_bytes false (Data s ∷ is) xs ≡ take s.len xs ++ meant_bytes false is (drop s.len xs)
-unfolding meant_bytes
-bytes-next s is xs = rw (meant-without s.mode (take s.len xs)) refl
-
-pub ecis-next : (s : Segment) (n : ℕ) (is : List Item) (xs : List ℕ) → eci_changes false n (Data s ∷ is) xs ≡ eci_changes false (n + length (take s.len xs)) is (drop s.len xs)
-unfolding eci_changes
-ecis-next s n is xs = rw (meant-without s.mode (take s.len xs)) refl
-
-pub bytes-end : (fnc1 : Bool) (items : List Item) (i : ℕ) (xs : List ℕ) → length items ≤ i → meant_bytes fnc1 (drop i items) xs ≡ []
-unfolding meant_bytes
-bytes-end fnc1 items i xs h = rw (drop_all i items h) refl
-
-pub ecis-end : (fnc1 : Bool) (n : ℕ) (items : List Item) (i : ℕ) (xs : List ℕ) → length items ≤ i → eci_changes fnc1 n (drop i items) xs ≡ []
-unfolding eci_changes
-ecis-end fnc1 n items i xs h = rw (drop_all i items h) refl
 
 -- The FNC1 among the items from index `i` on, if that item is `x`.
 pub fnc1_next : (items : List Item) (i : ℕ) (d x : Item) → i < length items → get_or items i d ≡ x → fnc1_of (drop i items) ≡ fnc1_of (x ∷ drop (i + 1) items)

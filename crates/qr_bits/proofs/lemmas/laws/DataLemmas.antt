@@ -3,15 +3,12 @@ use Rattle.std.proofs.Common.{◌≡◌, ℕ, zero, suc, ◌+◌, ◌-◌, ◌*�
 use Rattle.std.proofs.lemmas.{Bool.lt-ltb, Bool.cases_lt, Bool.or_right, List.length-replicate, List.drop_all}
 use Rattle.qr_layout.specs.{declared.level.Level.Level, Blocks.data_codewords_of}
 use Rattle.qr_bits.specs.{declared.{segmentation.Segment.Segment, stream.Header.Header}, Parsing.{content_of, plain_content, ends, parse}}
-use Rattle.qr_bits.specs.{Bits.bits_of, Segmentation.bits, Header.header_bits, Stream.IsStream}
-use Rattle.qr_bits.specs.Interpretation.{interpretation_bits, items_in}
-use Rattle.qr_bits.specs.declared.interpretation.Interpretation.{Interpretation}
-use Rattle.qr_bits.specs.declared.interpretation.Interpretation.TheVariants.{Default}
-use Rattle.qr_bits.proofs.lemmas.interpretation.MeaningLemmas.{plain-meant}
+use Rattle.qr_bits.specs.{Bits.bits_of, Segmentation.bits, Header.header_bits, Stream.IsStream, Interpretation.{interpretation_bits, items_in}}
+use Rattle.qr_bits.specs.declared.interpretation.Interpretation.{Interpretation, TheVariants.Default}
+use Rattle.qr_bits.proofs.lemmas.{interpretation.MeaningLemmas.plain-meant, parsing.ValueLemmas.{bytes-again, bytes-takes}}
 use Rattle.qr_bits.specs.Padding.{capacity_of, terminated, filled, pads, padded, IsData}
 use Rattle.qr_bits.proofs.lemmas.{bits.BitLemmas.length-bits_of, padding.PaddingLemmas.{length-header_stream, length-interpretation_stream}}
-use Rattle.qr_bits.proofs.lemmas.parsing.ValueLemmas.{bytes-again, bytes-takes}
-use Rattle.qr_bits.proofs.lemmas.{stream.WritingLemmas.length-segments_stream, parsing.StreamReadingLemmas.parse-again}
+use Rattle.qr_bits.proofs.lemmas.{stream.WritingLemmas.length-segments_stream, parsing.ItemLemmas.parse-again}
 
 -- The length of a stream is the number of bits of its header and its segments.
 pub length-stream : (v : ℕ) (xs : List ℕ) (segs : List Segment) (h : Option Header) (i : Interpretation) (stream : List Bool) → IsStream v xs segs h i stream → length stream ≡ header_bits h + interpretation_bits i + bits v segs
@@ -46,9 +43,7 @@ tail-of n stream h =
 -- A parse of data codewords returns what they were made of.
 pub data-again : (v : ℕ) (l : Level) (xs : List ℕ) (segs : List Segment) (h : Option Header) (i : Interpretation) (cw : List ℕ) → IsData v l xs segs h i cw
     → parse v (bits_of cw) ≡ Ok (content_of h (items_in i segs) xs)
-data-again v l xs segs h i cw d =
-    let t = tail-of (data_codewords_of v l) d.stream d.fits in
-    search (arith, parse-again)
+data-again v l xs segs h i cw d = search (arith, parse-again, tail-of (data_codewords_of v l) d.stream d.fits)
 
 -- As `data-again`, without an ECI header and FNC1.
 pub data-plain : (v : ℕ) (l : Level) (xs : List ℕ) (segs : List Segment) (h : Option Header) (cw : List ℕ) → IsData v l xs segs h Default cw
@@ -60,9 +55,8 @@ pub data-found : (v : ℕ) (l : Level) (xs : List ℕ) (segs : List Segment) (h 
     → (cw : List ℕ) × IsData v l xs segs h i cw
 data-found v l xs segs h i stream is fits =
     let n = data_codewords_of v l in
-    let all = padded n stream in
     let len = length-padded n stream fits in
-    let w = bytes-takes n all (omega arith) in
+    let w = bytes-takes n (padded n stream) (omega arith) in
     grind (arith, drop_all, bits_of, append-nil)
 
 same-bytes : (xs ys : List ℕ) → All (λ b. b < 256) xs → All (λ b. b < 256) ys → bits_of xs ≡ bits_of ys → xs ≡ ys

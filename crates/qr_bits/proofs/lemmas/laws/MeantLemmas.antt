@@ -1,15 +1,11 @@
 -- The characters of segments stand for the input, under its interpretation.
-use Rattle.std.proofs.Common.{◌≡◌, ℕ, ◌+◌, ◌≤◌, true, List, [], ◌∷◌, ◌++◌, length, take, drop, sum_by, Option, None, refl, sym, arith}
-use Rattle.std.proofs.Math.Nat.{le_refl}
+use Rattle.std.proofs.{Common.{◌≡◌, ℕ, ◌+◌, ◌≤◌, true, List, [], ◌∷◌, ◌++◌, length, take, drop, sum_by, Option, None, refl, sym, arith}, Math.Nat.le_refl}
 use Rattle.std.proofs.lemmas.{List.Sums.sum_by-cons, List.nil_from_length, List.{take-append-drop, take-append-le, drop-append-le, take_all, drop_all, length-drop}}
-use Rattle.qr_bits.specs.declared.{modes.Mode.Mode, modes.Rule.Rule, segmentation.Segment.Segment, stream.Header.Header}
-use Rattle.qr_bits.specs.declared.modes.Mode.TheVariants.{Numeric, Alphanumeric, Byte, Kanji}
-use Rattle.qr_bits.specs.declared.interpretation.Interpretation.{Interpretation, TheVariants.{Default, Gs1, Eci}}
-use Rattle.qr_bits.specs.Interpretation.{plain, items_in, ecis_in, fnc1_in, fnc1_of, eci_changes, meant, meant_bytes, are_fields, characters_gs1, doubled_gs1, MayWrite}
-use Rattle.qr_bits.specs.{Segmentation.{runs_of, IsLeastSegmentation}, Steps.Segmentation.{written, written_in}, Parsing.content_of}
-use Rattle.qr_bits.proofs.lemmas.segmentation.CoverLemmas.{covers-suits}
+use Rattle.qr_bits.specs.declared.{modes.Rule.Rule, segmentation.Segment.Segment, stream.Header.Header, interpretation.Interpretation.Interpretation}
+use Rattle.qr_bits.specs.Interpretation.{plain, items_in, ecis_in, fnc1_in, fnc1_of, eci_changes, meant, meant_bytes, are_fields, MayWrite}
+use Rattle.qr_bits.specs.{Segmentation.IsLeastSegmentation, Steps.Segmentation.written_in, Parsing.content_of}
+use Rattle.qr_bits.proofs.lemmas.{segmentation.CoverLemmas.covers-suits, parsing.FieldLemmas.fields_again}
 use Rattle.qr_bits.proofs.lemmas.segmentation.{BackLemmas.sum_by-runs_of, BytesOnlyLemmas.assignment-length, RunLemmas.{runs-written, segments_of}}
-use Rattle.qr_bits.proofs.lemmas.parsing.FieldLemmas.{fields_again}
 use Rattle.qr_bits.proofs.lemmas.interpretation.{MeaningLemmas.{meant-plain, ecis-plain}, WrittenLemmas.{fields-drop, fields-take}}
 
 fnc1-plain : (segs : List Segment) → fnc1_of (plain segs) ≡ None
@@ -23,12 +19,6 @@ unfolding eci_changes
 ecis-fnc1 [] n xs = refl
 ecis-fnc1 (s ∷ ss) n xs = ecis-fnc1 ss (n + length (meant true s.mode (take s.len xs))) (drop s.len xs)
 
-meant-written : (m : Mode) (xs : List ℕ) → are_fields xs ≡ true → meant true m (written m xs) ≡ xs
-meant-written Numeric xs h = refl
-meant-written Alphanumeric xs h = fields_again xs h
-meant-written Byte xs h = refl
-meant-written Kanji xs h = refl
-
 take-front : (xs ys : List ℕ) → take (length xs) (xs ++ ys) ≡ xs
 take-front xs ys = search (arith, take-append-le, le_refl, take_all)
 
@@ -41,18 +31,11 @@ unfolding meant_bytes written_in segments_of
 segments-meant [] xs h len = sym (nil_from_length xs (omega arith))
 segments-meant (s ∷ ss) xs h len =
     let later = segments-meant ss (drop s.len xs) (fields-drop s.len xs h) (omega (arith, length-drop s.len xs, sum_by-cons (λ (t : Segment). t.len) s ss)) in
-    search (arith, take-front, drop-front, meant-written, fields-take, take-append-drop)
-
-gs1-meant : (xs : List ℕ) (ms : List Mode) → length ms ≡ length xs → are_fields xs ≡ true → meant_bytes true (plain (runs_of (doubled_gs1 xs ms))) (characters_gs1 xs ms) ≡ xs
-gs1-meant xs ms h f = search (arith, runs-written, segments-meant, sum_by-runs_of)
+    search (arith, take-front, drop-front, fields-take, take-append-drop, fields_again)
 
 -- The characters of the least segmentation stand for the input.
 pub least-meant : (i : Interpretation) (v : ℕ) (r : Rule) (xs ys : List ℕ) (segs : List Segment) (h : Option Header) → MayWrite i xs → IsLeastSegmentation i v r xs ys segs
     → (content_of h (items_in i segs) ys ≡ record { header = h; items = items_in i segs; ecis = ecis_in i; bytes = xs })
     × (fnc1_of (items_in i segs) ≡ fnc1_in i)
 unfolding meant_bytes eci_changes fnc1_of
-least-meant Default v r xs ys segs h w is = search (arith, covers-suits, meant-plain, ecis-plain, fnc1-plain)
-least-meant (Eci n) v r xs ys segs h w is = search (arith, covers-suits, meant-plain, ecis-plain, fnc1-plain)
-least-meant Gs1 v r xs ys segs h w is =
-    let bytes : meant_bytes true (plain segs) ys ≡ xs = rw (is.2, is.3) (gs1-meant xs is.0 (assignment-length Gs1 r xs is.0 is.1.assignment) w) in
-    (rw (bytes, ecis-fnc1 segs 0 ys) refl, refl)
+least-meant i v r xs ys segs h w is = search (arith, covers-suits, meant-plain, ecis-plain, fnc1-plain, assignment-length, ecis-fnc1, runs-written, segments-meant, sum_by-runs_of)

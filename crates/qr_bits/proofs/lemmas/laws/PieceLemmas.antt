@@ -1,17 +1,12 @@
 -- Without kanji mode, a piece of an input needs no more bits than the input.
 use Rattle.std.proofs.Common.{◌≡◌, ℕ, ◌+◌, ◌<◌, ◌≤◌, true, false, List, [], ◌∷◌, ◌++◌, refl, ◌∙◌, arith}
 use Rattle.std.{proofs.lemmas.Bool.{and_parts, and_from, cond_both, false≢true}, specs.List.list_all}
-use Rattle.qr_bits.specs.{declared.modes.Mode.Mode, Modes.may_use, Modes.is_kanji_pair}
-use Rattle.qr_bits.specs.declared.{modes.Mode.TheVariants.Kanji, modes.Rule.Rule, run_state.RunState.RunState}
-use Rattle.qr_bits.specs.declared.run_state.RunState.TheVariants.{Start, Digit1, Digit2, Digit3, Character1, Character2}
-use Rattle.qr_bits.specs.declared.interpretation.Interpretation.{Interpretation}
-use Rattle.qr_bits.specs.Interpretation.{characters_in, doubled}
-use Rattle.qr_bits.specs.Segmentation.{rank, HasFit}
+use Rattle.qr_bits.specs.{declared.{modes.{Mode.{Mode, TheVariants.Kanji}, Rule.Rule}, run_state.RunState.RunState}, Modes.{may_use, is_kanji_pair}}
+use Rattle.qr_bits.specs.{declared.run_state.RunState.TheVariants.{Start, Digit1, Digit2, Digit3, Character1, Character2}, Segmentation.{rank, HasFit}}
+use Rattle.qr_bits.specs.{declared.interpretation.Interpretation.Interpretation, Interpretation.{characters_in, doubled}}
 use Rattle.qr_bits.specs.Steps.RunState.{state_after, state_in, byte_cost, begins_with_pair, may_take_in, may_end, allowed_in, cost_of, cost_of_all}
-use Rattle.qr_bits.proofs.lemmas.interpretation.WrittenLemmas.{doubled-step}
-use Rattle.qr_bits.proofs.lemmas.run_state.DoubledLemmas.{allowed-written, cost-written, take-other}
-use Rattle.qr_bits.proofs.lemmas.best_modes.TableLemmas.{in-end}
-use Rattle.qr_bits.proofs.lemmas.segmentation.AssignedLemmas.{allowed-assigned, assigned-allowed, bits-assigned}
+use Rattle.qr_bits.proofs.lemmas.{interpretation.WrittenLemmas.doubled-step, run_state.DoubledLemmas.{allowed-written, cost-written, take-other}}
+use Rattle.qr_bits.proofs.lemmas.{best_modes.TableLemmas.in-end, segmentation.AssignedLemmas.{allowed-assigned, assigned-allowed, bits-assigned}}
 use Rattle.qr_bits.proofs.lemmas.run_state.AssignmentLemmas.{can-take, is-assignment}
 
 -- the state of a run after one more byte
@@ -84,9 +79,8 @@ back i v r [] ys ms n u h = (ms, u, h, omega arith)
 back i v r (x ∷ xs) ys [] n u h = absurd (false≢true h)
 back i v r (x ∷ xs) ys (m ∷ ms) n u h =
     let use_ = and_parts (may_use r m) (list_all (may_use r) ms) u in
-    let low = plain r m n use_.0 in
     let parts = and_parts (may_take_in i r Start x (begins_with_pair r is_kanji_pair (x ∷ (xs ++ ys))) m) _ h in
-    let rest = back i v r xs ys ms n use_.1 (from-start i r (state_in i Start x m) (xs ++ ys) ms (in-end i Start x m low) parts.1) in
+    let rest = back i v r xs ys ms n use_.1 (from-start i r (state_in i Start x m) (xs ++ ys) ms (in-end i Start x m (plain r m n use_.0)) parts.1) in
     search (arith, without-byte)
 
 -- If an input fits, each piece of it fits.
@@ -94,5 +88,4 @@ pub piece-fits : (i : Interpretation) (v : ℕ) (r : Rule) (xs ys zs : List ℕ)
 unfolding may_end
 piece-fits i v r xs ys zs n none fit =
     let b = back i v r xs (ys ++ zs) fit.0 none fit.1.0 (assigned-allowed i r (xs ++ (ys ++ zs)) fit.0 fit.1) in
-    let f = piece-first i v r Start ys zs b.0 none b.1 refl b.2 in
-    search (arith, allowed-assigned, bits-assigned)
+    search (arith, allowed-assigned, bits-assigned, piece-first i v r Start ys zs b.0 none b.1 refl b.2)

@@ -1,26 +1,18 @@
 -- Bytes in reverse order: their valid assignments are those of the bytes, reversed, with equally many bits. The two bytes of
 -- each kanji pair are exchanged.
 use Rattle.std.proofs.Common.{◌≡◌, ℕ, ◌+◌, ◌-◌, ◌≤◌, ◌<◌, Bool, true, false, ◌&&◌, List, [], ◌∷◌, ◌++◌, reverse, length, take, drop, get_or, refl, ◌∙◌, ap, arith, subst}
-use Rattle.std.proofs.{Math.Nat.le_refl, lemmas.Bool.false≢true, lemmas.List.take-take}
-use Rattle.std.{proofs.lemmas.Bool.Decides.nat_tests, specs.List.list_all, proofs.lemmas.List.Folds.list_all-append}
+use Rattle.std.{proofs.{Math.Nat.le_refl, lemmas.{Bool.{false≢true, Decides.nat_tests}, List.{take-take, Folds.list_all-append}}}, specs.List.list_all}
 use Rattle.std.proofs.lemmas.Bool.{and_parts, and_from}
 use Rattle.std.proofs.lemmas.List.{reverse-append, reverse-reverse, take_more, take_all, drop_all, take-append-le, drop-append-le, take-append-drop, length-append, length-take-le, length-reverse, get_or-reverse}
-use Rattle.qr_bits.specs.declared.modes.{Mode.Mode, Mode.TheVariants.Kanji, Rule.Rule}
-use Rattle.qr_bits.specs.declared.interpretation.Interpretation.{Interpretation, TheVariants.{Default, Gs1, Eci}}
-use Rattle.qr_bits.specs.declared.{segmentation.Segment.Segment, run_state.PerState.PerState}
-use Rattle.qr_bits.specs.declared.run_state.RunState.{RunState, TheVariants.Start}
-use Rattle.qr_bits.specs.Interpretation.{characters_gs1, doubled_gs1, characters_in, doubled}
-use Rattle.qr_bits.proofs.lemmas.interpretation.WrittenLemmas.{characters-reverse, doubled-reverse}
-use Rattle.qr_bits.proofs.lemmas.run_state.DoubledLemmas.{allowed-length, allowed-written}
-use Rattle.qr_bits.proofs.lemmas.segmentation.AssignedLemmas.{allowed-assigned, assigned-allowed, bits-assigned}
+use Rattle.qr_bits.specs.declared.{modes.{Mode.{Mode, TheVariants.Kanji}, Rule.Rule}, interpretation.Interpretation.Interpretation}
+use Rattle.qr_bits.specs.declared.{segmentation.Segment.Segment, run_state.{PerState.PerState, RunState.{RunState, TheVariants.Start}}}
+use Rattle.qr_bits.specs.{Interpretation.{characters_gs1, doubled_gs1, characters_in, doubled}, Steps.Segmentation.append_mode}
+use Rattle.qr_bits.proofs.lemmas.{interpretation.WrittenLemmas.written-reverse, run_state.DoubledLemmas.{allowed-length, allowed-written}}
+use Rattle.qr_bits.proofs.lemmas.segmentation.{AssignedLemmas.{allowed-assigned, assigned-allowed, bits-assigned}, CoverLemmas.{by-covers, suits_by, CoversBy}}
 use Rattle.qr_bits.specs.{Segmentation.{bits, prepend_mode, runs_of, HasFit}, Modes.{in_twos, is_kanji_pair, may_use}}
-use Rattle.qr_bits.{specs.Steps.Segmentation.append_mode}
 use Rattle.qr_bits.specs.Steps.{RunState.{swapped, begins_with_pair, may_end, may_take_in, allowed_in, cost_of_all, state_in}, BestModes.{bits_at, follow_in, IsRow}}
-use Rattle.qr_bits.proofs.lemmas.segmentation.CoverLemmas.{by-covers, suits_by, CoversBy}
-use Rattle.qr_bits.proofs.lemmas.run_state.BestLemmas.{BestBelow, same-rank}
-use Rattle.qr_bits.proofs.lemmas.segmentation.BackLemmas.{runs_of-push, append_mode-last}
-use Rattle.qr_bits.proofs.lemmas.run_state.AssignmentLemmas.{IsAssignmentBy, can-take, is-assignment}
-use Rattle.qr_bits.proofs.lemmas.best_modes.TableLemmas.{bytes-rest, best-more}
+use Rattle.qr_bits.proofs.lemmas.{run_state.BestLemmas.{BestBelow, same-rank}, segmentation.BackLemmas.{runs_of-push, append_mode-last}}
+use Rattle.qr_bits.proofs.lemmas.{run_state.AssignmentLemmas.{IsAssignmentBy, can-take, is-assignment}, best_modes.TableLemmas.{bytes-rest, best-more}}
 
 list_all-reverse : {X : Type 0} (p : X → Bool) (xs : List X) → list_all p xs ≡ true → list_all p (reverse xs) ≡ true
 list_all-reverse p [] h = refl
@@ -84,12 +76,12 @@ mirror-in : (i : Interpretation) (v : ℕ) (t : ℕ → ℕ → Bool) (r : Rule)
     → (allowed_in i r (swapped t) Start (reverse xs) (reverse ms) ≡ true) × (cost_of_all i v Start (reverse xs) (reverse ms) ≡ cost_of_all i v Start xs ms)
 unfolding may_end
 mirror-in i v t r xs ms h =
-    let len = allowed-length i r t Start xs ms h in
     let by = is-assignment t r (characters_in i xs ms) (doubled i xs ms) Start refl (allowed-written i r t Start xs ms ∙ h) in
     let m = mirror v t r (characters_in i xs ms) (doubled i xs ms) by in
-    let back = rw (← characters-reverse i xs ms len, ← doubled-reverse i xs ms len) at m.0 in (
+    let written = written-reverse i xs ms (allowed-length i r t Start xs ms h) in
+    let back = rw (← written.1, ← written.0) at m.0 in (
       cc (allowed-written i r (swapped t) Start (reverse xs) (reverse ms), can-take (swapped t) r _ _ back Start refl),
-      cc (doubled-reverse i xs ms len, bits-assigned i v (reverse xs) (reverse ms), bits-assigned i v xs ms),
+      cc (written.0, bits-assigned i v (reverse xs) (reverse ms), bits-assigned i v xs ms),
     )
 
 -- if the best rest of a reversed prefix has at most n bits, the prefix fits n bits
@@ -103,9 +95,7 @@ prefix-fits i v r xs f cost n below small =
 
 -- if a prefix fits n bits, the best rest of the reversed prefix has at most n bits
 pub prefix-least : (i : Interpretation) (v : ℕ) (r : Rule) (xs : List ℕ) (f : RunState → List Mode) (cost : RunState → ℕ) (n : ℕ) → BestBelow i v r (swapped is_kanji_pair) (reverse xs) f cost → HasFit i v r xs n → cost Start ≤ n
-prefix-least i v r xs f cost n below fit =
-    let back = mirror-in i v is_kanji_pair r xs fit.0 (assigned-allowed i r xs fit.0 fit.1) in
-    search (arith, bits-assigned)
+prefix-least i v r xs f cost n below fit = search (arith, bits-assigned, mirror-in i v is_kanji_pair r xs fit.0 (assigned-allowed i r xs fit.0 fit.1))
 
 -- what is allowed for the bytes `ys` and then `xs` contains what is allowed for `xs`, which takes no more bits
 later-part : (i : Interpretation) (v : ℕ) (r : Rule) (test : ℕ → ℕ → Bool) (ys xs : List ℕ) (p : RunState) (ks : List Mode) → allowed_in i r test p (ys ++ xs) ks ≡ true
@@ -124,15 +114,12 @@ none-longer i v r xs j k f cost n below more l fit =
     let ys = drop j (take k xs) in
     let cut : reverse (take k xs) ≡ reverse ys ++ reverse (take j xs) = cc (take-take j k xs l, take-append-drop j (take k xs), reverse-append (take j (take k xs)) ys) in
     let back = mirror-in i v is_kanji_pair r (take k xs) fit.0 (assigned-allowed i r (take k xs) fit.0 fit.1) in
-    let part = later-part i v r (swapped is_kanji_pair) (reverse ys) (reverse (take j xs)) Start (reverse fit.0) (rw cut at back.0) in
-    search (arith, bits-assigned)
+    search (arith, bits-assigned, later-part i v r (swapped is_kanji_pair) (reverse ys) (reverse (take j xs)) Start (reverse fit.0) (rw cut at back.0))
 
 -- an empty input fits any number of bits
 pub empty-fits : (i : Interpretation) (v : ℕ) (r : Rule) (n : ℕ) → HasFit i v r [] n
 unfolding CoversBy runs_of characters_gs1 doubled_gs1
-empty-fits Default v r n = ([], (refl, by-covers [] [] refl), omega arith)
-empty-fits (Eci k) v r n = ([], (refl, by-covers [] [] refl), omega arith)
-empty-fits Gs1 v r n = ([], (refl, by-covers [] [] refl), omega arith)
+empty-fits i v r n = grind (arith, by-covers)
 
 begins-at : (r : Rule) (test : ℕ → ℕ → Bool) (xs : List ℕ) → 2 ≤ length xs → begins_with_pair r test xs ≡ (may_use r Kanji && test (get_or xs 0 0) (get_or xs 1 0))
 unfolding begins_with_pair

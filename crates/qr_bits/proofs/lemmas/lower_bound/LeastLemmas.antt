@@ -1,15 +1,10 @@
 -- `least_bits` is a lower bound on the number of bits of any segments.
 use Rattle.std.proofs.Common.{◌≡◌, ℕ, ◌*◌, ◌≤◌, Bool, true, cond, nat_le, List, [], ◌∷◌, length, take, drop, sum_by, ap, arith, IsTrue}
-use Rattle.std.{proofs.lemmas.Bool.{and_parts, false≢true, le-leb}, specs.List.list_all}
-use Rattle.std.proofs.lemmas.List.{length-take-le, Sums.sum_by-cons, Sums.sum_by-take-drop}
-use Rattle.qr_bits.specs.declared.{modes.Mode.Mode, modes.Rule.Rule, segmentation.Segment.Segment}
-use Rattle.qr_bits.specs.declared.interpretation.Interpretation.{Interpretation}
-use Rattle.qr_bits.specs.Interpretation.{characters_in}
-use Rattle.qr_bits.proofs.lemmas.interpretation.WrittenLemmas.{characters-sixths}
-use Rattle.qr_bits.specs.Modes.{is_kanji_pair, is_digit, is_alphanumeric, suits, payload_bits}
+use Rattle.std.{proofs.lemmas.{Bool.{and_parts, false≢true, le-leb}, List.{length-take-le, Sums.{sum_by-cons, sum_by-take-drop}}}, specs.List.list_all}
+use Rattle.qr_bits.specs.declared.{modes.{Mode.Mode, Rule.Rule}, segmentation.Segment.Segment, interpretation.Interpretation.Interpretation}
+use Rattle.qr_bits.specs.{Interpretation.characters_in, Modes.{is_kanji_pair, is_digit, is_alphanumeric, suits, payload_bits}}
+use Rattle.qr_bits.proofs.lemmas.{interpretation.WrittenLemmas.characters-sixths, segmentation.CoverLemmas.{CoversBy, covers-by}, modes.CharacterLemmas.past_z}
 use Rattle.qr_bits.specs.Segmentation.{bits, HasFit, least_sixths, least_bits}
-use Rattle.qr_bits.proofs.lemmas.segmentation.CoverLemmas.{CoversBy, covers-by}
-use Rattle.qr_bits.proofs.lemmas.{modes.CharacterLemmas.past_z, segmentation.SegmentLemmas.payload-least}
 
 most : (digit low : Bool) → cond digit 20 (cond low 33 39) ≤ 39
 most digit low = grind arith
@@ -37,7 +32,7 @@ digits-held (x ∷ xs) h =
     omega (arith, sum_by-cons, digit-is, digits-held xs both.1)
 
 payload-held : (m : Mode) (xs : List ℕ) → IsTrue (suits m xs) → sum_by least_sixths xs ≤ 6 * payload_bits m (length xs)
-payload-held m xs h = grind (arith, digits-held, payload-least, characters-held, bytes-held)
+payload-held m xs h = search (arith, digits-held, characters-held, bytes-held)
 
 -- segments that cover bytes take at least the bits that `least_sixths` counts for the bytes
 segments-held : (v : ℕ) (xs : List ℕ) (segs : List Segment) → CoversBy is_kanji_pair xs segs → sum_by least_sixths xs ≤ 6 * bits v segs
@@ -50,7 +45,4 @@ segments-held v xs (s ∷ ss) c =
 -- If an input fits `room` bits, its lower bound is at most `room`.
 pub least-held : (i : Interpretation) (v : ℕ) (r : Rule) (xs : List ℕ) (room : ℕ) → HasFit i v r xs room → least_bits xs ≤ room
 unfolding least_bits
-least-held i v r xs room fit =
-    let held = segments-held v (characters_in i xs fit.0) _ (covers-by _ _ fit.1.1) in
-    let most = characters-sixths i xs fit.0 in
-    omega (arith, most)
+least-held i v r xs room fit = omega (arith, characters-sixths i xs fit.0, segments-held v (characters_in i xs fit.0) _ (covers-by _ _ fit.1.1))

@@ -1,13 +1,11 @@
 -- The 45 characters of alphanumeric mode: each has a value, which is its index.
 use Rattle.std.proofs.Common.{◌≡◌, ℕ, ◌+◌, ◌-◌, ◌<◌, ◌≤◌, ◌==◌, Bool, true, false, not, nat_le, List, length, get_or, Some, refl, sym, ◌∙◌, ⊎_elim, arith}
 use Rattle.std.proofs.lemmas.Bool.{and_parts, and_from, cases_lt, false≢true, lt-ltb, eqb-true, eq-eqb, ne_eqb}
-use Rattle.std.proofs.lemmas.List.{Folds.list_any_none, Folds.list_any_at, Elements.All-from_get_or}
-use Rattle.std.proofs.lemmas.List.Sums.{fails_before_first, passes_at_first, position_or_len_is}
+use Rattle.std.proofs.lemmas.List.{Folds.{list_any_none, list_any_at}, Elements.All-from_get_or, Sums.{fails_before_first, passes_at_first, position_or_len_is}}
 use borrow.Author.Tests.{leb-true}
 use Rattle.{std.specs.List.{list_any, position, position_or_len}, qr_layout.proofs.Facts.{below, below-at}}
-use Rattle.qr_bits.specs.declared.modes.{Mode.TheVariants.Numeric, Mode.TheVariants.Alphanumeric, Rule.Rule}
+use Rattle.qr_bits.specs.{declared.modes.{Mode.TheVariants.{Numeric, Alphanumeric}, Rule.Rule}, Steps.RunState.may_begin, Parsing.character}
 use Rattle.qr_bits.specs.Modes.{characters, is_alphanumeric, is_digit, character_value, may_use}
-use Rattle.qr_bits.specs.{Steps.RunState.may_begin, Parsing.character}
 
 found : (p : ℕ → Bool) (xs : List ℕ) → list_any p xs ≡ true → position_or_len p xs < length xs
 found p xs h = ⊎_elim (λ (l : position_or_len p xs < length xs). l) (λ (l : length xs ≤ position_or_len p xs).
@@ -79,8 +77,6 @@ all-digits = refl
 pub digit-character : (r : Rule) (b : ℕ) (pair : Bool) → may_begin r b pair Numeric ≡ true → may_begin r b pair Alphanumeric ≡ true
 unfolding may_begin
 digit-character r b pair h =
-    let parts = and_parts (may_use r Numeric) (is_digit b) h in
-    let bounds = and_parts (nat_le 48 b) (nat_le b 57) parts.1 in
-    let high : b ≤ 57 = leb-true _ _ bounds.1 in
+    let high : b ≤ 57 = leb-true _ _ (and_parts (nat_le 48 b) (nat_le b 57) (and_parts (may_use r Numeric) (is_digit b) h).1).1 in
     let one = below-at 10 (λ i. is_alphanumeric (48 + i)) all-digits (b - 48) (omega arith) in
     grind (arith, and_from)

@@ -1,12 +1,9 @@
 -- Kanji pairs: a pair that is written as a value is read back, and the other way round.
-use Rattle.std.proofs.lemmas.Bool.{Decides.nat_tests, le-leb, lt-leb, and_parts, false≢true}
+use Rattle.std.proofs.lemmas.{Bool.{Decides.nat_tests, le-leb, lt-leb, and_parts, false≢true}, List.{length-drop, Elements.All-nil}}
 use Rattle.std.proofs.Common.{◌≡◌, ℕ, zero, suc, ◌+◌, ◌*◌, ◌/◌, ◌%◌, ◌<◌, ◌≤◌, Bool, true, List, [], ◌∷◌, ◌++◌, length, take, drop, Ok, Err, refl, arith, append_assoc}
-use Rattle.std.proofs.lemmas.List.{length-drop, Elements.All-nil}
 use borrow.Author.Tests.{leb-true}
-use Rattle.qr_bits.specs.{declared.fault.ParseFault.TheVariants.BadValue, Bits.value}
-use Rattle.qr_bits.specs.{declared.modes.Mode.TheVariants.Kanji, Stream.kanji_bits, Stream.payload}
-use Rattle.qr_bits.specs.Modes.{in_twos, is_kanji_pair, kanji_value, payload_bits}
-use Rattle.qr_bits.specs.Parsing.{◌>>=◌, kanji_pair, pairs_of}
+use Rattle.qr_bits.specs.{declared.{fault.ParseFault.TheVariants.BadValue, modes.Mode.TheVariants.Kanji}, Bits.value, Stream.{kanji_bits, payload}}
+use Rattle.qr_bits.specs.{Modes.{in_twos, is_kanji_pair, kanji_value, payload_bits}, Parsing.{◌>>=◌, kanji_pair, pairs_of}}
 use Rattle.qr_bits.proofs.lemmas.parsing.{ParsingLemmas.bind-ok, ParsingLemmas.same-ok, PayloadLemmas.value-take-below}
 use Rattle.qr_bits.proofs.lemmas.stream.StreamLemmas.{IsWritten, more-written, drop-field, read-field, chosen-ok}
 
@@ -33,19 +30,16 @@ pairs-again (a ∷ b ∷ xs) rest h =
     let v = value-again a b p.0 in
     let n = kanji_value a b in
     let more : suc (suc (length xs)) / 2 ≡ suc (length xs / 2) = omega arith in
-    let r = read-field 13 n (kanji_bits xs ++ rest) v.0 in
-    let d = drop-field 13 n (kanji_bits xs ++ rest) in
-    search (arith, append_assoc, le-leb, pairs-again xs rest p.1)
+    search (arith, append_assoc, le-leb, pairs-again xs rest p.1, read-field 13 n (kanji_bits xs ++ rest) v.0, drop-field 13 n (kanji_bits xs ++ rest))
 
 -- Pairs that are read are written as the same bits.
 pub pairs-takes : (n : ℕ) (xs : List ℕ) (bits : List Bool) → 13 * n ≤ length bits → pairs_of n bits ≡ Ok xs → IsWritten Kanji n bits xs
 unfolding pairs_of kanji_bits payload
 pairs-takes zero xs bits h e = search (arith, same-ok, All-nil)
 pairs-takes (suc n) xs bits h e =
-    let g = value (take 13 bits) in
     let c = chosen-ok _ _ _ xs e in
     let b = bind-ok (pairs_of n (drop 13 bits)) _ xs c.1 in
-    let is = pair-again g (value-take-below 13 bits) (leb-true _ 0xBC c.0) in
+    let is = pair-again (value (take 13 bits)) (value-take-below 13 bits) (leb-true _ 0xBC c.0) in
     let w = pairs-takes n b.0 (drop 13 bits) (omega (arith, length-drop 13 bits)) b.1 in
     let one : payload_bits Kanji (2 * n) ≡ 13 * n = omega arith in
     let whole = more-written 13 (13 * n) bits (kanji_bits b.0) (omega arith) (rw one at w.whole) in

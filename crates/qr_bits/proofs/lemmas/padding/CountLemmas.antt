@@ -4,13 +4,10 @@ use Rattle.std.proofs.lemmas.{Bool.le-leb, Bool.lt-leb, Bool.and_parts, List.len
 use borrow.Author.Tests.{leb-true}
 use Rattle.qr_layout.{specs.{declared.level.Level.Level, Version.total_codewords_of}, proofs.Facts.{below, below-at}}
 use Rattle.qr_layout.specs.Blocks.{correction_len_of, block_count_of, data_codewords_of}
-use Rattle.qr_bits.specs.declared.{modes.Mode.Mode, modes.Rule.Rule, segmentation.Segment.Segment}
-use Rattle.qr_bits.specs.Modes.{is_kanji_pair, character_count, count_width}
-use Rattle.qr_bits.specs.declared.interpretation.Interpretation.{Interpretation}
-use Rattle.qr_bits.specs.Interpretation.{characters_in}
-use Rattle.qr_bits.proofs.lemmas.interpretation.WrittenLemmas.{characters-longer}
+use Rattle.qr_bits.specs.{declared.{modes.{Mode.Mode, Rule.Rule}, segmentation.Segment.Segment}, Modes.{is_kanji_pair, character_count, count_width}}
+use Rattle.qr_bits.specs.{declared.interpretation.Interpretation.Interpretation, Interpretation.characters_in}
+use Rattle.qr_bits.proofs.lemmas.{interpretation.WrittenLemmas.characters-length, segmentation.SegmentLemmas.{segment-least, bits-least}}
 use Rattle.qr_bits.specs.{Segmentation.{segment_bits, bits, Covers, HasFit}, Stream.CountsFit, Padding.capacity_of}
-use Rattle.qr_bits.proofs.lemmas.segmentation.SegmentLemmas.{segment-least, bits-least}
 use Rattle.qr_bits.proofs.lemmas.segmentation.CoverLemmas.{CoversBy, covers-suits, covers-by, by-covers}
 
 -- the most data codewords of the versions to 9, to 26 and to 40
@@ -69,14 +66,14 @@ covered-short v l ys segs a b c few =
 -- An input that fits a symbol has at most 7,089 bytes.
 pub fitting-short : (i : Interpretation) (v : ℕ) (l : Level) (r : Rule) (xs : List ℕ) → 1 ≤ v → v ≤ 40 → HasFit i v r xs (capacity_of v l) → length xs ≤ 7089
 fitting-short i v l r xs a b fit =
-    omega (arith, characters-longer i xs fit.0, covered-short v l (characters_in i xs fit.0) _ a b fit.1.1 fit.2)
+    omega (arith, (characters-length i xs fit.0).0, covered-short v l (characters_in i xs fit.0) _ a b fit.1.1 fit.2)
 
 covered-few : (v : ℕ) (l : Level) (ys : List ℕ) (segs : List Segment) → 1 ≤ v → v ≤ 40 → Covers ys segs → bits v segs ≤ capacity_of v l → 10 * length ys ≤ 24 * most_data v
 covered-few v l ys segs a b c few = search (arith, data-range, bits-least, covers-suits)
 
 fitting-few : (i : Interpretation) (v : ℕ) (l : Level) (r : Rule) (xs : List ℕ) → 1 ≤ v → v ≤ 40 → HasFit i v r xs (capacity_of v l) → 10 * length xs ≤ 24 * most_data v
 fitting-few i v l r xs a b fit =
-    omega (arith, characters-longer i xs fit.0, covered-few v l (characters_in i xs fit.0) _ a b fit.1.1 fit.2)
+    omega (arith, (characters-length i xs fit.0).0, covered-few v l (characters_in i xs fit.0) _ a b fit.1.1 fit.2)
 
 no-more : ℕ → Level → ℕ → Bool
 no-more m l i = leb (data_codewords_of (i + 1) l) (data_codewords_of m l)
@@ -84,10 +81,6 @@ no-more m l i = leb (data_codewords_of (i + 1) l) (data_codewords_of m l)
 all-nine : (l : Level) → below 9 (no-more 9 l) ≡ true
 unfolding no-more data_codewords_of total_codewords_of block_count_of correction_len_of
 all-nine l = grind arith
-
-all-26 : (l : Level) → below 26 (no-more 26 l) ≡ true
-unfolding no-more data_codewords_of total_codewords_of block_count_of correction_len_of
-all-26 l = grind arith
 
 -- no version up to `m` has a greater capacity than `m`, if this was computed for all of them
 last-most : (m v : ℕ) (l : Level) → below m (no-more m l) ≡ true → 1 ≤ v → v ≤ m → capacity_of v l ≤ capacity_of m l
@@ -103,7 +96,8 @@ capacity-nine v l a b = search (arith, last-most, all-nine)
 
 -- no version up to 26 has more room than version 26
 pub capacity-26 : (v : ℕ) (l : Level) → 1 ≤ v → v ≤ 26 → capacity_of v l ≤ capacity_of 26 l
-capacity-26 v l a b = last-most 26 v l (all-26 l) a b
+unfolding no-more data_codewords_of total_codewords_of block_count_of correction_len_of
+capacity-26 v l a b = search (arith, last-most)
 
 -- An input that fits a version up to 26 has at most 3,288 bytes.
 pub fitting-medium : (i : Interpretation) (v : ℕ) (l : Level) (r : Rule) (xs : List ℕ) → 1 ≤ v → v ≤ 26 → HasFit i v r xs (capacity_of v l) → length xs ≤ 3288

@@ -1,11 +1,9 @@
 -- The terminator and the pad codewords.
-use Rattle.std.proofs.Common.{◌≡◌, ℕ, zero, suc, ◌+◌, ◌-◌, ◌*◌, ◌%◌, ◌<◌, ◌≤◌, min, ◌==◌, Bool, cond, List, [], ◌∷◌, ◌++◌, length, length-append, refl, arith, All}
+use Rattle.std.proofs.Common.{◌≡◌, ℕ, zero, suc, ◌+◌, ◌-◌, ◌%◌, ◌<◌, ◌≤◌, min, ◌==◌, Bool, cond, List, [], ◌∷◌, ◌++◌, length, length-append, refl, arith, All}
 use Rattle.{std.specs.Prelude.Option, qr_bits.specs.Padding.{capacity_of, filled, pads, padded, IsData}}
 use Rattle.qr_layout.specs.{declared.level.Level.Level, Blocks.data_codewords_of}
-use Rattle.qr_bits.specs.{declared.segmentation.Segment.Segment, declared.stream.Header.Header, Bits.field, Bits.bits_of}
-use Rattle.qr_bits.specs.{Header.header_stream, Header.header_bits, Stream.IsStream}
-use Rattle.qr_bits.specs.declared.interpretation.Interpretation.{Interpretation}
-use Rattle.qr_bits.specs.Interpretation.{interpretation_stream, interpretation_bits, designator, designator_codewords}
+use Rattle.qr_bits.specs.{declared.{segmentation.Segment.Segment, stream.Header.Header, interpretation.Interpretation.Interpretation}, Bits.{field, bits_of}}
+use Rattle.qr_bits.specs.{Header.{header_stream, header_bits}, Stream.IsStream, Interpretation.{interpretation_stream, interpretation_bits, designator}}
 use Rattle.qr_bits.proofs.lemmas.bits.BitLemmas.{length-field, length-bits_of, bits_of-append, field-zero}
 
 -- one more pad codeword at the end is EC after an even number of them, and 11 after an odd one
@@ -44,11 +42,7 @@ pub length-header_stream : (h : Option Header) → length (header_stream h) ≡ 
 unfolding header_stream
 length-header_stream h = grind (arith, length-append, length-field)
 
-length-designator : (n : ℕ) → length (designator n) ≡ 8 * designator_codewords n
-unfolding designator
-length-designator n = grind (arith, length-append, length-field)
-
 -- the length of an ECI header or FNC1
 pub length-interpretation_stream : (i : Interpretation) → length (interpretation_stream i) ≡ interpretation_bits i
-unfolding interpretation_stream
-length-interpretation_stream i = grind (arith, length-append, length-field, length-designator)
+unfolding interpretation_stream designator
+length-interpretation_stream i = search (arith, length-append, length-field)

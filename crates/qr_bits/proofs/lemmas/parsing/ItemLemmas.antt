@@ -1,16 +1,18 @@
--- A parse reads back every stream of items.
+-- A parse reads back every stream of items and every stream of segments, and what it reads is such a stream.
 use Rattle.std.proofs.Common.{◌≡◌, ℕ, ◌<◌, ◌≤◌, Bool, true, false, ◌==◌, nat_le, nat_lt, All, List, [], ◌∷◌, ◌++◌, length, take, drop, Ok, refl, ⊎_elim, arith, lit<, append_assoc, subst, inl, zero, suc, length-append}
-use Rattle.std.proofs.lemmas.Bool.{le-ltb, lt-ltb, ltb-true, cases_Bool, eqb-true, and_parts}
-use Rattle.std.proofs.lemmas.List.{length-take-le, take-append-drop}
-use Rattle.std.proofs.lemmas.List.Elements.{All-nil, All-append, All-take, All-drop}
-use Rattle.std.proofs.Math.Seq.{take-append_seam, drop-append_seam}
+use Rattle.std.proofs.{lemmas.{Bool.{le-ltb, lt-ltb, ltb-true, cases_Bool, eqb-true, and_parts}, List.{length-take-le, take-append-drop}}, Common.Option}
+use Rattle.std.proofs.{lemmas.List.Elements.{All-nil, All-append, All-take, All-drop}, Math.Seq.{take-append_seam, drop-append_seam}}
 use Rattle.qr_bits.specs.declared.interpretation.{Designator.Designator, Item.Item, Item.TheVariants.{Data, Eci, Fnc1First, Fnc1Second}}
-use Rattle.qr_bits.specs.declared.fault.ParseFault.TheVariants.{BadValue}
-use Rattle.qr_bits.specs.{Bits.{field, value}, Interpretation.{is_application_indicator, may_follow}}
-use Rattle.qr_bits.specs.Stream.{AreItems, DesignatorFits, designator_of, items_stream}
+use Rattle.qr_bits.specs.{declared.fault.ParseFault.TheVariants.BadValue, Bits.{field, value}, Interpretation.{is_application_indicator, may_follow}}
+use Rattle.qr_bits.specs.{Stream.{AreItems, DesignatorFits, designator_of, items_stream}, declared.{segmentation.Segment.Segment, stream.Header.Header}}
 use Rattle.qr_bits.specs.Parsing.{leading_number, application_at, designator_at, ends, item_at, items_at, items_of}
-use Rattle.qr_bits.proofs.lemmas.stream.StreamLemmas.{drop-field, field-read, read-field}
+use Rattle.qr_bits.proofs.lemmas.{stream.StreamLemmas.{drop-field, field-read, read-field}, interpretation.MeaningLemmas.{meant-plain, plain-meant}}
 use Rattle.qr_bits.proofs.lemmas.parsing.{ParsingLemmas.{bind-ok, guard-ok, same-ok, ended-empty, not_ended, item-shorter, items-end, items-step}, StreamReadingLemmas.{IsSegment, segment-takes, item-again, number-again, number-takes, opens, other-opens}}
+use Rattle.qr_bits.specs.{declared.interpretation.Interpretation.Interpretation, Stream.{segments_stream, Suits, CountsFit, IsStream}}
+use Rattle.qr_bits.specs.declared.interpretation.Interpretation.TheVariants as written
+use Rattle.qr_bits.specs.Interpretation.{plain, designator, interpretation_stream, InterpretationFits, items_in}
+use Rattle.qr_bits.specs.Parsing.{first_header, content_of, plain_content, parse}
+use Rattle.qr_bits.proofs.lemmas.parsing.StreamReadingLemmas.{first-again, first-takes, marked-begins}
 
 -- a designator is read back in as many codewords
 pub number-back : (d : Designator) (rest : List Bool) → DesignatorFits d → designator_at (designator_of d.codewords d.number ++ rest) ≡ Ok (d, rest)
@@ -65,8 +67,7 @@ designator-takes bits r h =
     let l = number-takes 8 a.0.1 b.0 b.1 in
     search (arith, same-ok, append_assoc))
     (λ (g : nat_lt a.0.0 192 ≡ false). let m = rw g at k in
-    let q = guard-ok (nat_le 224 a.0.0) BadValue _ r m in
-    let b = bind-ok (leading_number 16 a.0.1) _ r q.1 in
+    let b = bind-ok (leading_number 16 a.0.1) _ r (guard-ok (nat_le 224 a.0.0) BadValue _ r m).1 in
     let l = number-takes 16 a.0.1 b.0 b.1 in
     search (arith, same-ok, ltb-true, append_assoc))
     (cases_Bool (nat_lt a.0.0 192)))
@@ -87,8 +88,7 @@ application-takes : (bits : List Bool) (a : ℕ × List Bool) → application_at
 unfolding application_at
 application-takes bits a h =
     let n = bind-ok (leading_number 8 bits) _ a h in
-    let f = number-takes 8 bits n.0 n.1 in
-    search (arith, same-ok)
+    search (arith, same-ok, number-takes 8 bits n.0 n.1)
 
 -- if an item is read, its stream comes first in the bits that were read
 item-takes : (v : ℕ) (may : Bool) (bits : List Bool) (i : Item × List ℕ × List Bool) → 4 ≤ length bits → item_at v may bits ≡ Ok i → IsItem v may bits i.0 i.1 i.2
@@ -121,9 +121,7 @@ items-more v may bits rest (Data s) is ys zs one others =
       whole = rw (front, back) (search (arith, append_assoc));
       end = others.end;
     }
-items-more v may bits rest (Eci d) is ys zs one others = search (arith, append_assoc)
-items-more v may bits rest Fnc1First is ys zs one others = search (arith, append_assoc)
-items-more v may bits rest (Fnc1Second a) is ys zs one others = search (arith, append_assoc)
+items-more v may bits rest _ is ys zs one others = search (arith, append_assoc)
 
 -- if items are read from at most `n` bits, these bits are the stream of the items and then an end
 pub items-takes : (n v : ℕ) (may : Bool) (bits : List Bool) (r : List Item × List ℕ) → length bits ≤ n → items_at n v may bits ≡ Ok r → IsItems v may bits r.0 r.1
@@ -148,5 +146,52 @@ items-said v bits items xs h =
     let is = items-takes (length bits) v true bits (items, xs) (omega arith) h in
     (is.tail, is.bytes, is.are, is.whole, is.end)
 
-pub items-read : (v : ℕ) (bits : List Bool) (items : List Item) (xs : List ℕ) → ItemsSay v bits items xs → items_of v true bits ≡ Ok (items, xs)
-items-read v bits items xs h = rw h.3 (items-again v true xs items h.0 h.1 h.2 h.4)
+-- segments alone are items that have the same bits
+plain-stream : (v : ℕ) (xs : List ℕ) (segs : List Segment) → items_stream v xs (plain segs) ≡ segments_stream v xs segs
+unfolding items_stream segments_stream
+plain-stream v xs [] = refl
+plain-stream v xs (s ∷ ss) = cc (plain-stream v (drop s.len xs) ss)
+
+plain-fits : (v : ℕ) (may : Bool) (xs : List ℕ) (segs : List Segment) → Suits xs segs → CountsFit v segs → AreItems v may xs (plain segs)
+unfolding AreItems Suits CountsFit
+plain-fits v may xs [] suit fits = suit
+plain-fits v may xs (s ∷ ss) suit fits = (suit.0, suit.1, fits.0, plain-fits v false (drop s.len xs) ss suit.2 fits.1)
+
+plain-suits : (v : ℕ) (may : Bool) (xs : List ℕ) (segs : List Segment) → AreItems v may xs (plain segs) → Suits xs segs × CountsFit v segs
+unfolding AreItems Suits CountsFit
+plain-suits v may xs [] are = (are, tt)
+plain-suits v may xs (s ∷ ss) are =
+    let rest = plain-suits v false (drop s.len xs) ss are.3 in ((are.0, are.1, rest.0), (are.2, rest.1))
+
+-- the items of an interpretation and segments are written as the interpretation and the segments
+items-marked : (v : ℕ) (i : Interpretation) (xs : List ℕ) (segs : List Segment) → InterpretationFits i → Suits xs segs → CountsFit v segs
+    → AreItems v true xs (items_in i segs) × (items_stream v xs (items_in i segs) ≡ interpretation_stream i ++ segments_stream v xs segs)
+unfolding items_stream AreItems interpretation_stream designator designator_of
+items-marked v written.Default xs segs h suit fits = search (arith, plain-stream, plain-fits)
+items-marked v (written.Eci n) xs segs h suit fits = search (arith, plain-stream, plain-fits, append_assoc)
+items-marked v written.Gs1 xs segs h suit fits = search (arith, plain-stream, plain-fits)
+
+-- A stream followed by an end is parsed into its header, items and bytes.
+pub parse-again : (v : ℕ) (xs : List ℕ) (segs : List Segment) (h : Option Header) (i : Interpretation) (front tail : List Bool) → IsStream v xs segs h i front → ends tail ≡ true
+    → parse v (front ++ tail) ≡ Ok (content_of h (items_in i segs) xs)
+unfolding parse
+parse-again v xs segs h i front tail is e = search (arith, append_assoc, first-again, marked-begins, items-marked, items-again)
+
+-- As `parse-again`, without an ECI header and FNC1.
+pub parse_plain : (v : ℕ) (xs : List ℕ) (segs : List Segment) (h : Option Header) (front tail : List Bool) → IsStream v xs segs h written.Default front → ends tail ≡ true
+    → parse v (front ++ tail) ≡ Ok (plain_content h segs xs)
+parse_plain v xs segs h front tail is e = cc (parse-again v xs segs h written.Default front tail is e, plain-meant h segs xs is.suit)
+
+-- the bits are the stream of these segments, and then an end
+abbrev Says : ℕ → List Bool → List ℕ → List Segment → Option Header → Type 0
+Says v bits xs segs h = (front : List Bool) × (tail : List Bool) × IsStream v xs segs h written.Default front × (bits ≡ front ++ tail) × (ends tail ≡ true)
+
+-- Bits that are parsed as segments alone are a stream followed by an end.
+pub parse_takes : (v : ℕ) (bits : List Bool) (h : Option Header) (segs : List Segment) (xs : List ℕ) → parse v bits ≡ Ok (plain_content h segs xs) → Says v bits xs segs h
+unfolding parse items_of interpretation_stream
+parse_takes v bits h segs xs e =
+    let a = bind-ok (first_header bits) _ _ e in
+    let r = bind-ok (items_at (length a.0.1) v true a.0.1) _ _ a.2 in
+    let first = first-takes bits a.0 a.1 in
+    let others = items-takes (length a.0.1) v true a.0.1 r.0 (omega arith) r.1 in
+    search (arith, meant-plain, same-ok, append_assoc, plain-suits, plain-stream)

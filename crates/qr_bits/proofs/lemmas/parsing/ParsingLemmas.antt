@@ -1,11 +1,9 @@
 -- A parse, segment by segment.
-use Rattle.std.proofs.Common.{◌≡◌, ℕ, zero, suc, ◌+◌, ◌≤◌, Bool, true, false, cond, List, [], ◌∷◌, ◌++◌, length, take, drop, Result, Ok, Err, refl, ap, ⊎_elim, arith}
-use Rattle.std.proofs.lemmas.Bool.{lt-ltb, le-ltb, ltb-false, or_parts, or_left, and_parts, cases_Bool}
-use Rattle.{std.proofs.lemmas.List.{append-nil, append_assoc, length-drop}, qr_bits.specs.Steps.Parsing.IsFaultOf}
-use Rattle.qr_bits.specs.declared.{modes.Mode.Mode, segmentation.Segment.Segment, interpretation.Designator.Designator, interpretation.Item.Item, fault.ParseFault.ParseFault}
-use Rattle.qr_bits.specs.Interpretation.{may_follow}
-use Rattle.qr_bits.specs.{declared.fault.ParseFault.TheVariants.{Memory}, Bits.value, Modes.count_width}
-use Rattle.qr_bits.specs.Parsing.{◌>>=◌, IsResultOf, mode_of, ends, leading_number, payload_at, segment_at, designator_at, application_at, item_at, items_at, items_of, begins_header, header_at}
+use Rattle.std.proofs.lemmas.{List.{append-nil, append_assoc, length-drop}, Bool.{lt-ltb, le-ltb, ltb-false, or_parts, or_left, and_parts, cases_Bool}}
+use Rattle.qr_bits.specs.{Steps.Parsing.IsFaultOf, Interpretation.may_follow, declared.fault.ParseFault.TheVariants.Memory, Bits.value}
+use Rattle.std.proofs.Common.{◌≡◌, ℕ, zero, suc, ◌+◌, ◌≤◌, Bool, true, false, cond, List, [], ◌∷◌, ◌++◌, length, take, drop, Result, Ok, Err, refl, ⊎_elim, arith}
+use Rattle.qr_bits.specs.declared.{segmentation.Segment.Segment, interpretation.{Designator.Designator, Item.Item}, fault.ParseFault.ParseFault}
+use Rattle.qr_bits.specs.Parsing.{◌>>=◌, IsResultOf, ends, leading_number, payload_at, segment_at, designator_at, application_at, item_at, items_at, items_of, begins_header, header_at}
 use borrow.Author.Tests.{leb-true}
 
 -- if two parsers in turn succeed, the first one succeeds, and the second one succeeds on its result
@@ -20,10 +18,6 @@ number-shorter : (w : ℕ) (bits : List Bool) (n : ℕ × List Bool) → leading
 unfolding leading_number
 number-shorter w bits n h = search (arith, guard-ok, length-drop)
 
-payload-shorter : (m : Mode) (n : ℕ) (bits : List Bool) (p : List ℕ × List Bool) → payload_at m n bits ≡ Ok p → length p.1 ≤ length bits
-unfolding payload_at
-payload-shorter m n bits p h = search (arith, guard-ok, bind-ok, length-drop)
-
 -- a result that is no fault
 abbrev pub ok : {A : Type 0} → A → Result A ParseFault
 ok a = Ok a
@@ -34,13 +28,8 @@ same-ok a b h = cc
 
 -- a segment has at least the four bits of its indicator
 pub segment-shorter : (v : ℕ) (bits : List Bool) (s : Segment × List ℕ × List Bool) → 4 ≤ length bits → segment_at v bits ≡ Ok s → length s.2 + 4 ≤ length bits
-unfolding segment_at
-segment-shorter v bits s four h =
-    let m = bind-ok (mode_of (value (take 4 bits))) _ s h in
-    let n = bind-ok (leading_number (count_width v m.0) (drop 4 bits)) _ s m.2 in
-    let p = bind-ok (payload_at m.0 n.0.0 n.0.1) _ s n.2 in
-    let e : p.0.1 ≡ s.2 = search (arith, same-ok) in
-    omega (arith, number-shorter _ _ _ n.1, payload-shorter _ _ _ _ p.1, length-drop 4 bits, ap length e)
+unfolding segment_at payload_at
+segment-shorter v bits s four h = search (arith, bind-ok, same-ok, number-shorter, length-drop, guard-ok)
 
 -- if the data does not end here, there are four bits
 pub not_ended : (bits : List Bool) → ends bits ≡ false → 4 ≤ length bits
@@ -57,8 +46,7 @@ designator-shorter : (bits : List Bool) (d : Designator × List Bool) → design
 unfolding designator_at
 designator-shorter bits d h =
     let a = bind-ok (leading_number 8 bits) _ d h in
-    let less = number-shorter 8 bits a.0 a.1 in
-    grind (arith, same-ok, bind-ok, number-shorter, guard-ok)
+    grind (arith, same-ok, bind-ok, number-shorter, guard-ok, number-shorter 8 bits a.0 a.1)
 
 -- reading an application indicator leaves no more bits than there were
 application-shorter : (bits : List Bool) (a : ℕ × List Bool) → application_at bits ≡ Ok a → length a.1 ≤ length bits
@@ -107,8 +95,7 @@ abbrev pub behind : List Item → List ℕ → Result (List Item × List ℕ) Pa
 behind items xs read = read >>= λ r. Ok (items ++ r.0, xs ++ r.1)
 
 pub behind-none : (read : Result (List Item × List ℕ) ParseFault) → behind [] [] read ≡ read
-behind-none (Ok r) = refl
-behind-none (Err e) = refl
+behind-none read = grind arith
 
 -- one more item is read
 pub behind-more : (v : ℕ) (may : Bool) (bits rest : List Bool) (items : List Item) (xs ys : List ℕ) (i : Item) → ends bits ≡ false → item_at v may bits ≡ Ok (i, ys, rest)

@@ -1,9 +1,8 @@
 -- The data of a segment is read group by group.
-use Rattle.std.proofs.Common.{◌≡◌, ℕ, suc, ◌+◌, ◌/◌, ◌%◌, ◌^◌, ◌<◌, ◌≤◌, Bool, List, ◌∷◌, ◌++◌, length, take, drop, Result, Ok, Err, inr, refl, sym, ap, ◌∙◌, append_assoc, arith}
+use Rattle.std.proofs.Common.{◌≡◌, ℕ, suc, ◌+◌, ◌/◌, ◌%◌, ◌^◌, ◌<◌, ◌≤◌, Bool, List, ◌∷◌, ◌++◌, length, take, drop, Result, Ok, Err, inr, sym, ap, ◌∙◌, append_assoc, arith}
 use Rattle.std.proofs.lemmas.{Bool.lt-ltb, Bool.le-ltb, List.length-take, List.length-drop, List.drop-drop}
 use Rattle.{std.proofs.Math.Nat.pow-le-pow_right, qr_bits.specs.declared.modes.Mode.TheVariants.{Numeric, Alphanumeric}}
-use Rattle.qr_bits.specs.declared.fault.ParseFault.{ParseFault, TheVariants.BadValue}
-use Rattle.qr_bits.specs.{Bits.value, Modes.payload_bits, Steps.Parsing.IsFaultOf, Steps.Parsing.prepend_read}
+use Rattle.qr_bits.specs.{declared.fault.ParseFault.{ParseFault, TheVariants.BadValue}, Bits.value, Modes.payload_bits, Steps.Parsing.{IsFaultOf, prepend_read}}
 use Rattle.qr_bits.specs.Parsing.{◌>>=◌, digit, digits_of, character, characters_of}
 use Rattle.qr_bits.proofs.lemmas.{bits.BitLemmas.value-below, stream.WritingLemmas.three-more}
 
@@ -29,14 +28,10 @@ pub record IsReading (read : Result (List ℕ) ParseFault) (w : ℕ) (out : List
   pub there : w ≤ length bits
   pub rest : drop w bits ≡ end
 
-after-group : (out new group : List ℕ) (later read : Result (List ℕ) ParseFault) → new ≡ out ++ group → read ≡ (later >>= λ xs. Ok (group ++ xs)) → prepend_read new later ≡ prepend_read out read
-after-group out new group (Ok xs) read o e = cc (append_assoc out group xs)
-after-group out new group (Err f) read o e = rw e refl
-
 -- a group of k bits is read
 pub group-read : {w m : ℕ} {out new : List ℕ} {bits rest end : List Bool} {read later whole : Result (List ℕ) ParseFault} (k : ℕ) (group : List ℕ) → IsReading read m out bits whole end
     → k + w ≡ m → rest ≡ drop k bits → new ≡ out ++ group → read ≡ (later >>= λ xs. Ok (group ++ xs)) → IsReading later w new rest whole end
-group-read {w = w} {bits = bits} k group h e r o f = search (arith, after-group, length-drop, drop-drop)
+group-read {w = w} {bits = bits} k group h e r o f = search (arith, length-drop, drop-drop, append_assoc)
 
 -- if the rest fails, the whole fails
 pub fails : {w : ℕ} {out : List ℕ} {bits end : List Bool} {read whole : Result (List ℕ) ParseFault} {f : ParseFault} → IsReading read w out bits whole end → read ≡ Err f → IsFaultOf f whole

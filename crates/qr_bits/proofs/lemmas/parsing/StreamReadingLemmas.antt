@@ -1,24 +1,17 @@
--- A parse reads back every stream that is written, and what it reads is a stream.
-use Rattle.std.proofs.Common.{◌≡◌, ℕ, zero, suc, ◌^◌, ◌<◌, ◌≤◌, Bool, true, false, ◌==◌, nat_le, All, List, [], ◌∷◌, ◌++◌, length, take, drop, Ok, Option, Some, refl, subst, ⊎_elim, arith, lit<, append_assoc, length-append}
-use Rattle.std.proofs.lemmas.Bool.{le-ltb, lt-ltb, le-leb, ltb-false, cases_Bool, eqb-true, and_parts}
-use Rattle.std.proofs.lemmas.List.{length-take-le, length-drop, drop-drop, take-append-drop}
-use Rattle.std.proofs.lemmas.List.Elements.{All-nil, All-append, All-take, All-drop}
-use Rattle.std.proofs.Math.Seq.{take-append_seam, drop-append_seam}
+-- Numbers, segments and headers that are written are read back, and what is read is written as the same bits.
+use Rattle.std.proofs.Common.{◌≡◌, ℕ, ◌^◌, ◌<◌, ◌≤◌, Bool, true, false, ◌==◌, nat_le, All, List, [], ◌∷◌, ◌++◌, length, take, drop, Ok, Option, Some, refl, subst, ⊎_elim, arith, lit<, append_assoc, length-append}
+use Rattle.std.proofs.lemmas.{Bool.{le-ltb, le-leb, ltb-false, cases_Bool, eqb-true, and_parts}, List.{length-drop, drop-drop, take-append-drop}}
+use Rattle.std.proofs.Math.Seq.{drop-append_seam}
 use borrow.Author.Tests.{leb-true}
 use Rattle.qr_bits.specs.declared.{modes.Mode.Mode, segmentation.Segment.Segment, stream.Header.Header}
-use Rattle.qr_bits.specs.{Bits.{field, value}, Header.{header_indicator, header_stream, HeaderFits}}
-use Rattle.qr_bits.specs.declared.interpretation.{Interpretation.Interpretation, Item.TheVariants.{Data, Eci, Fnc1First}}
 use Rattle.qr_bits.specs.declared.interpretation.Interpretation.TheVariants as written
-use Rattle.qr_bits.specs.Interpretation.{plain, may_follow, designator, designator_codewords, interpretation_stream, InterpretationFits, items_in}
-use Rattle.qr_bits.specs.Modes.{character_count, count_width, byte_count, payload_bits, suits, indicator}
-use Rattle.qr_bits.specs.Stream.{payload, segment_stream, segments_stream, Suits, CountsFit, IsStream}
-use Rattle.qr_bits.specs.Parsing.{values_of, mode_of, ends, leading_number, payload_at, segment_at, designator_at, item_at, items_at, items_of, begins_header, header_at, first_header, content_of, plain_content, parse}
-use Rattle.qr_bits.proofs.lemmas.{bits.BitLemmas.length-field, parsing.PayloadLemmas.value-take-below}
-use Rattle.qr_bits.proofs.lemmas.interpretation.MeaningLemmas.{meant-plain, plain-meant}
-use Rattle.qr_bits.proofs.lemmas.parsing.ParsingLemmas.{bind-ok, guard-ok, same-ok, not_ended, ended-empty, item-shorter, items-end, items-step, header-whole}
+use Rattle.qr_bits.specs.{Bits.{field, value}, Header.{header_indicator, header_stream, HeaderFits}, Interpretation.interpretation_stream}
+use Rattle.qr_bits.specs.declared.interpretation.{Interpretation.Interpretation, Item.TheVariants.{Data, Eci}}
+use Rattle.qr_bits.specs.{Modes.{character_count, count_width, byte_count, payload_bits, suits, indicator}, Stream.{payload, segment_stream, segments_stream}}
+use Rattle.qr_bits.specs.Parsing.{values_of, mode_of, ends, leading_number, payload_at, segment_at, item_at, begins_header, header_at, first_header}
+use Rattle.qr_bits.proofs.lemmas.{bits.BitLemmas.length-field, parsing.{PayloadLemmas.value-take-below, ValueLemmas.{values-again, values-takes}}}
+use Rattle.qr_bits.proofs.lemmas.{parsing.ParsingLemmas.{bind-ok, guard-ok, same-ok, header-whole}, stream.WritingLemmas.{in_twos-even, length-payload}}
 use Rattle.qr_bits.proofs.lemmas.stream.StreamLemmas.{IsWritten, drop-field, read-field, field-read}
-use Rattle.qr_bits.proofs.lemmas.parsing.ValueLemmas.{values-again, values-takes}
-use Rattle.qr_bits.proofs.lemmas.stream.WritingLemmas.{in_twos-even, length-payload}
 
 pub number-again : (w n : ℕ) (rest : List Bool) → n < 2 ^ w → leading_number w (field w n ++ rest) ≡ Ok (n, rest)
 unfolding leading_number
@@ -42,8 +35,7 @@ unfolding payload_at
 payload-takes m n bits p h =
     let g = guard-ok _ _ _ p h in
     let b = bind-ok (values_of m n bits) _ p g.1 in
-    let w = values-takes m n b.0 bits (ltb-false _ _ g.0) b.1 in
-    search (arith, same-ok)
+    search (arith, same-ok, values-takes m n b.0 bits (ltb-false _ _ g.0) b.1)
 
 mode-again : (m : Mode) → mode_of (indicator m) ≡ Ok m
 unfolding mode_of
@@ -63,12 +55,6 @@ first-four v m xs rest =
     let behind = field (count_width v m) (character_count m (length xs)) ++ payload m xs in
     rw (append_assoc (field 4 (indicator m)) behind rest)
     (read-field 4 (indicator m) (behind ++ rest) (indicator-most m), omega (arith, length-append (field 4 (indicator m)) (behind ++ rest), length-field 4 (indicator m)))
-
-segment-again : (v : ℕ) (m : Mode) (xs : List ℕ) (rest : List Bool) → All (λ b. b < 256) xs → suits m xs ≡ true → character_count m (length xs) < 2 ^ count_width v m
-    → segment_at v (segment_stream v m xs ++ rest) ≡ Ok (record { mode = m; len = length xs }, xs, rest)
-unfolding segment_at segment_stream
-segment-again v m xs rest bytes suited fits =
-    search (arith, append_assoc, read-field, indicator-most, mode-again, drop-field, number-again, payload-again, len-again)
 
 -- a segment that was read is the stream of these bytes, with the rest after it
 pub record IsSegment (v : ℕ) (bits : List Bool) (s : Segment) (xs : List ℕ) (rest : List Bool) : Type 0 where
@@ -93,8 +79,7 @@ segment-takes v bits s four h =
     let m = bind-ok (mode_of (value (take 4 bits))) _ s h in
     let n = bind-ok (leading_number (count_width v m.0) (drop 4 bits)) _ s m.2 in
     let p = bind-ok (payload_at m.0 n.0.0 n.0.1) _ s n.2 in
-    let is = segment-from v m.0 bits n.0 p.0 four (mode-takes _ _ m.1) (number-takes _ _ _ n.1) (payload-takes _ _ _ _ p.1) in
-    search (arith, same-ok)
+    search (arith, same-ok, segment-from v m.0 bits n.0 p.0 four (mode-takes _ _ m.1) (number-takes _ _ _ n.1) (payload-takes _ _ _ _ p.1))
 
 pub opens : (v : ℕ) (m : Mode) (xs : List ℕ) (rest : List Bool) → ends (segment_stream v m xs ++ rest) ≡ false
 unfolding ends
@@ -105,69 +90,10 @@ item-segment : (v : ℕ) (may : Bool) (bits : List Bool) (s : Segment × List �
 unfolding item_at segment_at mode_of
 item-segment v may bits s h = grind (arith, eqb-true)
 
-item-is-segment : (v : ℕ) (may : Bool) (bits rest : List Bool) (s : Segment) (xs : List ℕ) → item_at v may bits ≡ Ok (Data s, xs, rest) → segment_at v bits ≡ Ok (s, xs, rest)
-unfolding item_at
-item-is-segment v may bits rest s xs h = grind arith
-
 pub item-again : (v : ℕ) (may : Bool) (m : Mode) (xs : List ℕ) (rest : List Bool) → All (λ b. b < 256) xs → suits m xs ≡ true → character_count m (length xs) < 2 ^ count_width v m
     → item_at v may (segment_stream v m xs ++ rest) ≡ Ok (Data (record { mode = m; len = length xs }), xs, rest)
-item-again v may m xs rest bytes suited fits = item-segment v may _ _ (segment-again v m xs rest bytes suited fits)
-
--- the stream of segments and an end after it are read as these segments
-segments-again : (v : ℕ) (may : Bool) (xs : List ℕ) (segs : List Segment) (tail : List Bool) → All (λ b. b < 256) xs → Suits xs segs → CountsFit v segs → ends tail ≡ true
-    → items_of v may (segments_stream v xs segs ++ tail) ≡ Ok (plain segs, xs)
-unfolding segments_stream Suits CountsFit
-segments-again v may xs [] tail bytes suit fits end = cc (items-end v may tail end)
-segments-again v may xs (s ∷ ss) tail bytes suit fits end =
-    let part = take s.len xs in
-    let len : length part ≡ s.len = length-take-le s.len xs suit.0 in
-    let halves : All (λ b. b < 256) part × All (λ b. b < 256) (drop s.len xs) = search (arith, All-take, All-drop) in
-    search (arith, append_assoc, item-again, items-step, opens, take-append-drop, segments-again v false (drop s.len xs) ss tail halves.1 suit.2 fits.1 end)
-
--- segments that were read are their stream, and then an end
-pub record IsSegments (v : ℕ) (bits : List Bool) (segs : List Segment) (xs : List ℕ) : Type 0 where
-  pub tail : List Bool
-  pub bytes : All (λ b. b < 256) xs
-  pub suit : Suits xs segs
-  pub fits : CountsFit v segs
-  pub whole : bits ≡ segments_stream v xs segs ++ tail
-  pub end : ends tail ≡ true
-
-segments-none : (v : ℕ) (bits : List Bool) → ends bits ≡ true → IsSegments v bits [] []
-unfolding segments_stream Suits CountsFit
-segments-none v bits e = search (arith, All-nil)
-
--- a segment and the segments that are read after it are segments together
-segments-more : (v : ℕ) (bits rest : List Bool) (s : Segment) (ss : List Segment) (ys zs : List ℕ) → IsSegment v bits s ys rest → IsSegments v rest ss zs → IsSegments v bits (s ∷ ss) (ys ++ zs)
-unfolding segments_stream Suits CountsFit
-segments-more v bits rest s ss ys zs one others =
-    let front : take s.len (ys ++ zs) ≡ ys = rw one.long at (take-append_seam ys zs) in
-    let back : drop s.len (ys ++ zs) ≡ zs = rw one.long at (drop-append_seam ys zs) in
-    record {
-      tail = others.tail;
-      bytes = All-append (λ b. b < 256) ys zs one.bytes others.bytes;
-      suit = search (arith, length-append);
-      fits = (one.fits, others.fits);
-      whole = search (arith, append_assoc);
-      end = others.end;
-    }
-
--- if segments alone are read from at most `n` bits, these bits are their stream and then an end
-segments-takes : (n v : ℕ) (may : Bool) (bits : List Bool) (segs : List Segment) (xs : List ℕ) → length bits ≤ n → items_at n v may bits ≡ Ok (plain segs, xs) → IsSegments v bits segs xs
-unfolding items_at
-segments-takes zero v may bits [] xs few h = search (arith, same-ok, segments-none, ended-empty)
-segments-takes zero v may bits (s ∷ ss) xs few h = grind arith
-segments-takes (suc n) v may bits [] xs few h = search (arith, same-ok, segments-none, bind-ok)
-segments-takes (suc n) v may bits (s ∷ ss) xs few h = ⊎_elim (λ (e : ends bits ≡ true). grind arith) (λ (e : ends bits ≡ false).
-    let four = not_ended bits e in
-    let i = bind-ok (item_at v may bits) _ (plain (s ∷ ss), xs) (rw e at h) in
-    let q = bind-ok (items_at n v (may_follow may i.0.0) i.0.2) _ (plain (s ∷ ss), xs) i.2 in
-    let less = item-shorter v may bits i.0 four i.1 in
-    let all : i.0.1 ++ q.0.1 ≡ xs = grind arith in
-    let segment : segment_at v bits ≡ Ok (s, i.0.1, i.0.2) = search (arith, item-is-segment) in
-    subst (λ (t : List ℕ). IsSegments v bits (s ∷ ss) t) all
-    (segments-more v bits i.0.2 s ss i.0.1 q.0.1 (segment-takes v bits (s, i.0.1, i.0.2) four segment) (segments-takes n v (may_follow may i.0.0) i.0.2 ss q.0.1 (omega arith) (search arith))))
-    (cases_Bool (ends bits))
+unfolding segment_at segment_stream
+item-again v may m xs rest bytes suited fits = item-segment v may _ _ (search (arith, append_assoc, read-field, indicator-most, mode-again, drop-field, number-again, payload-again, len-again))
 
 starts : (rest : List Bool) → begins_header (field 4 header_indicator ++ rest) ≡ true
 unfolding begins_header
@@ -190,8 +116,7 @@ header-parts bits long =
     let a = field-read 4 bits (omega arith) in
     let b = field-read 4 (drop 4 bits) (omega (arith, length-drop 4 bits)) in
     let c = field-read 8 (drop 8 bits) (omega (arith, length-drop 8 bits)) in
-    let last = take-append-drop 8 (drop 8 bits) in
-    search arith
+    search (arith, take-append-drop 8 (drop 8 bits))
 
 -- the stream of a header, with any bits after it, is read as this header
 header-again : (h : Header) (rest : List Bool) → HeaderFits (Some h) → first_header (header_stream (Some h) ++ rest) ≡ Ok (Some h, rest)
@@ -208,18 +133,16 @@ header-again h rest all_fit =
     let after_p : drop 4 behind ≡ l ++ (q ++ rest) = drop-field 4 h.position (l ++ (q ++ rest)) in
     let after_l : drop 8 behind ≡ q ++ rest = cc (drop-drop 4 4 behind, drop-field 4 h.last (q ++ rest)) in
     let after_q : drop 16 behind ≡ rest = cc (drop-drop 8 8 behind, drop-field 8 h.parity rest) in
-    let a = read-field 4 h.position (l ++ (q ++ rest)) fits.0 in
-    let b = read-field 4 h.last (q ++ rest) fits.1 in
     let c = read-field 8 h.parity rest fits.2 in
     let d = drop-field 4 header_indicator behind in
-    search (arith, starts, header-whole)
+    search (arith, starts, header-whole, read-field 4 h.position (l ++ (q ++ rest)) fits.0, read-field 4 h.last (q ++ rest) fits.1)
 
 none-begins : (v : ℕ) (xs : List ℕ) (segs : List Segment) (tail : List Bool) → ends tail ≡ true → begins_header (segments_stream v xs segs ++ tail) ≡ false
 unfolding begins_header segments_stream ends
 none-begins v xs [] tail e = search arith
 none-begins v xs (s ∷ ss) tail e = grind (arith, first-four, append_assoc, le-leb)
 
-first-again : (h : Option Header) (rest : List Bool) → HeaderFits h → begins_header rest ≡ false → first_header (header_stream h ++ rest) ≡ Ok (h, rest)
+pub first-again : (h : Option Header) (rest : List Bool) → HeaderFits h → begins_header rest ≡ false → first_header (header_stream h ++ rest) ≡ Ok (h, rest)
 unfolding first_header header_stream
 first-again h rest fits e = grind (arith, append_assoc, header-again)
 
@@ -233,36 +156,12 @@ unfolding ends
 other-opens n rest few other = grind (arith, read-field 4 n rest few, length-append (field 4 n) rest, length-field 4 n, le-ltb)
 
 -- the stream of an interpretation, segments and an end is not taken for a header
-marked-begins : (v : ℕ) (i : Interpretation) (xs : List ℕ) (segs : List Segment) (tail : List Bool) → ends tail ≡ true
+pub marked-begins : (v : ℕ) (i : Interpretation) (xs : List ℕ) (segs : List Segment) (tail : List Bool) → ends tail ≡ true
     → begins_header (interpretation_stream i ++ (segments_stream v xs segs ++ tail)) ≡ false
 unfolding interpretation_stream
 marked-begins v written.Default xs segs tail e = none-begins v xs segs tail e
 marked-begins v (written.Eci n) xs segs tail e = search (arith, append_assoc, other-begins)
 marked-begins v written.Gs1 xs segs tail e = other-begins 5 _ (lit< tt) refl
-
--- the shortest designator of a number is read as this number
-designator-again : (n : ℕ) (rest : List Bool) → n < 1000000 → designator_at (designator n ++ rest) ≡ Ok (record { number = n; codewords = designator_codewords n }, rest)
-unfolding designator_at designator
-designator-again n rest h = search (arith, number-again, lt-ltb, le-ltb, append_assoc)
-
-eci-again : (v : ℕ) (may : Bool) (n : ℕ) (rest : List Bool) → n < 1000000
-    → item_at v may (field 4 7 ++ (designator n ++ rest)) ≡ Ok (Eci (record { number = n; codewords = designator_codewords n }), [], rest)
-unfolding item_at
-eci-again v may n rest h = rw (read-field 4 7 (designator n ++ rest) (lit< tt), drop-field 4 7 (designator n ++ rest), designator-again n rest h) refl
-
-gs1-again : (v : ℕ) (rest : List Bool) → item_at v true (field 4 5 ++ rest) ≡ Ok (Fnc1First, [], rest)
-unfolding item_at
-gs1-again v rest = rw (read-field 4 5 rest (lit< tt), drop-field 4 5 rest) refl
-
--- the stream of an interpretation, segments and an end is read as the items of these
-marked-again : (v : ℕ) (i : Interpretation) (xs : List ℕ) (segs : List Segment) (tail : List Bool) → InterpretationFits i → All (λ b. b < 256) xs → Suits xs segs → CountsFit v segs → ends tail ≡ true
-    → items_of v true (interpretation_stream i ++ (segments_stream v xs segs ++ tail)) ≡ Ok (items_in i segs, xs)
-unfolding interpretation_stream
-marked-again v written.Default xs segs tail six bytes suit fits e = segments-again v true xs segs tail bytes suit fits e
-marked-again v (written.Eci n) xs segs tail six bytes suit fits e =
-    search (arith, append_assoc, items-step, other-opens, eci-again, segments-again)
-marked-again v written.Gs1 xs segs tail six bytes suit fits e =
-    search (arith, items-step, other-opens, gs1-again, segments-again)
 
 fits-of : (h : Header) → h.position < 16 → h.last < 16 → h.parity < 256 → HeaderFits (Some h)
 fits-of h a b d = search arith
@@ -271,41 +170,15 @@ fits-of h a b d = search arith
 header-takes : (bits : List Bool) (r : Header × List Bool) → header_at bits ≡ Ok r → HeaderFits (Some r.0) × (bits ≡ (field 4 r.0.position ++ (field 4 r.0.last ++ field 8 r.0.parity)) ++ r.1)
 unfolding header_at
 header-takes bits r h =
-    let g = guard-ok _ _ _ r h in
-    let long : 16 ≤ length bits = ltb-false _ _ g.0 in
+    let long : 16 ≤ length bits = ltb-false _ _ (guard-ok _ _ _ r h).0 in
     let P : Header × List Bool → Type 0 = λ t. HeaderFits (Some t.0) × (bits ≡ (field 4 t.0.position ++ (field 4 t.0.last ++ field 8 t.0.parity)) ++ t.1) in
     subst P (search (arith, same-ok))
     (fits-of _ (value-take-below 4 bits) (value-take-below 4 (drop 4 bits)) (value-take-below 8 (drop 8 bits)), header-parts bits long)
 
 -- if a header is read, or none, its stream comes first in the bits that were read
-first-takes : (bits : List Bool) (r : Option Header × List Bool) → first_header bits ≡ Ok r → HeaderFits r.0 × (bits ≡ header_stream r.0 ++ r.1)
+pub first-takes : (bits : List Bool) (r : Option Header × List Bool) → first_header bits ≡ Ok r → HeaderFits r.0 × (bits ≡ header_stream r.0 ++ r.1)
 unfolding first_header header_stream
 first-takes bits r h = ⊎_elim (λ (e : begins_header bits ≡ true).
     let q = bind-ok (header_at (drop 4 bits)) _ r (rw e at h) in
     let w = header-takes (drop 4 bits) q.0 q.1 in
     search (arith, same-ok, append_assoc, started)) (search (arith, same-ok)) (cases_Bool (begins_header bits))
-
--- A stream followed by an end is parsed into its header, items and bytes.
-pub parse-again : (v : ℕ) (xs : List ℕ) (segs : List Segment) (h : Option Header) (i : Interpretation) (front tail : List Bool) → IsStream v xs segs h i front → ends tail ≡ true
-    → parse v (front ++ tail) ≡ Ok (content_of h (items_in i segs) xs)
-unfolding parse
-parse-again v xs segs h i front tail is e = search (arith, append_assoc, first-again, marked-begins, marked-again)
-
--- As `parse-again`, without an ECI header and FNC1.
-pub parse_plain : (v : ℕ) (xs : List ℕ) (segs : List Segment) (h : Option Header) (front tail : List Bool) → IsStream v xs segs h written.Default front → ends tail ≡ true
-    → parse v (front ++ tail) ≡ Ok (plain_content h segs xs)
-parse_plain v xs segs h front tail is e = cc (parse-again v xs segs h written.Default front tail is e, plain-meant h segs xs is.suit)
-
--- the bits are the stream of these segments, and then an end
-abbrev Says : ℕ → List Bool → List ℕ → List Segment → Option Header → Type 0
-Says v bits xs segs h = (front : List Bool) × (tail : List Bool) × IsStream v xs segs h written.Default front × (bits ≡ front ++ tail) × (ends tail ≡ true)
-
--- Bits that are parsed as segments alone are a stream followed by an end.
-pub parse_takes : (v : ℕ) (bits : List Bool) (h : Option Header) (segs : List Segment) (xs : List ℕ) → parse v bits ≡ Ok (plain_content h segs xs) → Says v bits xs segs h
-unfolding parse items_of interpretation_stream
-parse_takes v bits h segs xs e =
-    let a = bind-ok (first_header bits) _ _ e in
-    let r = bind-ok (items_at (length a.0.1) v true a.0.1) _ _ a.2 in
-    let first = first-takes bits a.0 a.1 in
-    let others = segments-takes (length a.0.1) v true a.0.1 segs r.0.1 (omega arith) (search arith) in
-    search (arith, meant-plain, same-ok, append_assoc)

@@ -1,14 +1,10 @@
 -- The data of a segment: what is written is read back, and what is read is written as the same bits.
 use Rattle.std.proofs.Common.{◌≡◌, ℕ, zero, suc, ◌+◌, ◌*◌, ◌/◌, ◌%◌, ◌<◌, ◌≤◌, Bool, true, All, List, [], ◌∷◌, ◌++◌, length, take, drop, Ok, refl, ap, arith, append_assoc}
-use Rattle.std.proofs.lemmas.Bool.{lt-ltb, ltb-true, and_parts}
-use Rattle.std.{proofs.lemmas.List.length-drop, specs.List.list_all}
-use Rattle.std.proofs.lemmas.List.Elements.{All-nil, All-cons, All-head, All-tail}
-use Rattle.qr_bits.specs.{declared.modes.Mode.Mode, Stream.character_bits, Stream.payload}
-use Rattle.qr_bits.specs.declared.modes.Mode.TheVariants.{Numeric, Alphanumeric, Byte, Kanji}
+use Rattle.std.{proofs.lemmas.{Bool.{lt-ltb, ltb-true, and_parts}, List.{length-drop, Elements.{All-nil, All-cons, All-head, All-tail}}}, specs.List.list_all}
+use Rattle.qr_bits.specs.{declared.modes.Mode.{Mode, TheVariants.{Numeric, Alphanumeric, Byte, Kanji}}, Stream.{character_bits, payload}}
 use Rattle.qr_bits.specs.{Bits.value, Bits.bits_of, Parsing.characters_of, Parsing.bytes_of, Parsing.values_of}
 use Rattle.qr_bits.specs.Modes.{character_count, is_alphanumeric, byte_count, payload_bits, suits, character_value}
-use Rattle.qr_bits.proofs.lemmas.{modes.KanjiLemmas.{pairs-again, pairs-takes}}
-use Rattle.qr_bits.proofs.lemmas.modes.CharacterLemmas.{character-found, character-again, character-taken}
+use Rattle.qr_bits.proofs.lemmas.modes.{KanjiLemmas.{pairs-again, pairs-takes}, CharacterLemmas.{character-found, character-again, character-taken}}
 use Rattle.qr_bits.proofs.lemmas.parsing.{PayloadLemmas.value-take-below, ParsingLemmas.bind-ok, ParsingLemmas.same-ok}
 use Rattle.qr_bits.proofs.lemmas.stream.StreamLemmas.{more-written, drop-field, read-field, field-read, digits-again, digits-takes, are-digits, chosen-ok, IsWritten}
 
@@ -17,8 +13,7 @@ characters-again : (xs : List ℕ) (rest : List Bool) → list_all is_alphanumer
 unfolding characters_of character_bits
 characters-again [] rest h = refl
 characters-again (a ∷ []) rest h =
-    let p = (and_parts (is_alphanumeric a) true h).0 in
-    let small = character-found a p in
+    let small = character-found a ((and_parts (is_alphanumeric a) true h).0) in
     let r = read-field 6 (character_value a) rest (omega arith) in
     search (arith, lt-ltb, character-again)
 characters-again (a ∷ b ∷ xs) rest h =
@@ -30,18 +25,13 @@ characters-again (a ∷ b ∷ xs) rest h =
     let first : g / 45 ≡ character_value a = omega arith in
     let second : g % 45 ≡ character_value b = omega arith in
     let r = read-field 11 g (character_bits xs ++ rest) (omega arith) in
-    let d = drop-field 11 g (character_bits xs ++ rest) in
-    search (arith, append_assoc, lt-ltb, character-again, characters-again xs rest q.1)
+    search (arith, append_assoc, lt-ltb, character-again, characters-again xs rest q.1, drop-field 11 g (character_bits xs ++ rest))
 
 -- if characters of alphanumeric mode are read, they are written as the same bits
 characters-takes : (n : ℕ) (xs : List ℕ) (bs : List Bool) → payload_bits Alphanumeric n ≤ length bs → characters_of n bs ≡ Ok xs → IsWritten Alphanumeric n bs xs
 unfolding characters_of character_bits payload
 characters-takes zero xs bs h e = search (arith, same-ok, All-nil)
-characters-takes (suc zero) xs bs h e =
-    let c = chosen-ok _ _ _ xs e in
-    let t = character-taken (value (take 6 bs)) (ltb-true _ _ c.0) in
-    let whole = field-read 6 bs h in
-    search arith
+characters-takes (suc zero) xs bs h e = search (arith, character-taken (value (take 6 bs)) (ltb-true _ _ (chosen-ok _ _ _ xs e).0), field-read 6 bs h)
 characters-takes (suc (suc n)) xs bs h e =
     let g = value (take 11 bs) in
     let c = chosen-ok _ _ _ xs e in
@@ -79,7 +69,5 @@ pub values-takes : (m : Mode) (n : ℕ) (xs : List ℕ) (bits : List Bool) → p
 unfolding values_of payload
 values-takes Numeric n xs bits h e = digits-takes n xs bits h e
 values-takes Alphanumeric n xs bits h e = characters-takes n xs bits h e
-values-takes Byte n xs bits h e =
-    let w = bytes-takes n bits h in
-    search (arith, same-ok)
+values-takes Byte n xs bits h e = search (arith, same-ok, bytes-takes n bits h)
 values-takes Kanji n xs bits h e = pairs-takes n xs bits (omega arith) e

@@ -1,10 +1,8 @@
 -- An assignment is valid (`IsAssignment`) exactly if each of its modes is allowed after those before it (`allowed`).
 use Rattle.std.proofs.Common.{◌≡◌, ℕ, suc, ◌+◌, ◌<◌, Bool, true, ◌==◌, ◌&&◌, List, [], ◌∷◌, IsTrue, refl, arith, lit<}
-use Rattle.std.{proofs.lemmas.Bool.Decides.nat_tests, specs.List.list_all}
-use Rattle.std.proofs.lemmas.Bool.{cond_both, and_parts, and_from, false≢true, eqb-true}
-use Rattle.qr_bits.specs.declared.modes.{Mode.Mode, Mode.TheVariants.Kanji, Rule.Rule}
+use Rattle.std.{proofs.lemmas.Bool.{Decides.nat_tests, cond_both, and_parts, and_from, false≢true, eqb-true}, specs.List.list_all}
+use Rattle.qr_bits.specs.declared.{modes.{Mode.{Mode, TheVariants.Kanji}, Rule.Rule}, run_state.RunState.{RunState, TheVariants.{HalfPair, WholePair}}}
 use Rattle.qr_bits.specs.{declared.segmentation.Segment.Segment, Modes.may_use, Segmentation.{rank, prepend_mode, runs_of}}
-use Rattle.qr_bits.specs.declared.run_state.RunState.{RunState, TheVariants.HalfPair, TheVariants.WholePair}
 use Rattle.qr_bits.specs.Steps.RunState.{state_after, begins_with_pair, may_begin, may_take, may_end, allowed}
 use Rattle.qr_bits.proofs.lemmas.{segmentation.CoverLemmas.{suits_by, CoversBy}, run_state.BestLemmas.same-rank}
 use Rattle.qr_bits.proofs.lemmas.best_modes.ChoiceLemmas.{take-begin, state_after-whole}
@@ -84,11 +82,6 @@ can-take test r (x ∷ y ∷ xs) (Kanji ∷ Kanji ∷ ms) h p e =
 can-take test r (x ∷ y ∷ xs) (Kanji ∷ m ∷ ms) h p e = search (arith, half)
 can-take test r (x ∷ xs) (m ∷ ms) h p e = one-can test r m x xs ms (lit< tt) (can-take test r xs ms) h p e
 
-one-is : (test : ℕ → ℕ → Bool) (r : Rule) (m : Mode) (x : ℕ) (xs : List ℕ) (ms : List Mode) (p : RunState) → rank m < 3 → may_end p ≡ true
-    → (allowed r test (state_after p m) xs ms ≡ true → IsAssignmentBy test r xs ms) → allowed r test p (x ∷ xs) (m ∷ ms) ≡ true → IsAssignmentBy test r (x ∷ xs) (m ∷ ms)
-unfolding allowed runs_of
-one-is test r m x xs ms p k e rest h = search (arith, and_parts, take-begin, begin-is test, and_from, add-one)
-
 -- What is allowed is a valid assignment.
 pub is-assignment : (test : ℕ → ℕ → Bool) (r : Rule) (xs : List ℕ) (ms : List Mode) (p : RunState) → may_end p ≡ true → allowed r test p xs ms ≡ true → IsAssignmentBy test r xs ms
 unfolding CoversBy runs_of allowed may_take may_begin begins_with_pair state_after may_end
@@ -102,4 +95,4 @@ is-assignment test r (x ∷ y ∷ xs) (Kanji ∷ Kanji ∷ ms) p e h =
     search (arith, take-begin, and_parts, and_from, nat_tests, cond_both, same-rank, eqb-true, is-assignment test r xs ms WholePair refl second)
 is-assignment test r (x ∷ y ∷ xs) (Kanji ∷ m ∷ ms) p e h = search arith
 is-assignment test r (x ∷ xs) (m ∷ ms) p e h =
-    one-is test r m x xs ms p (lit< tt) e (is-assignment test r xs ms (state_after p m) (may_end-after p m (lit< tt))) h
+    search (arith, may_end-after, and_parts, take-begin, begin-is, and_from, is-assignment test r xs ms (state_after p m) (may_end-after p m (lit< tt)))

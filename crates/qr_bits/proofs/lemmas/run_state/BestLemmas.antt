@@ -1,7 +1,6 @@
 -- The best rest of an assignment is the best mode for the next byte and the best rest after it.
 use Rattle.std.proofs.Common.{◌≡◌, ℕ, Bool, List, ◌∷◌, IsTrue, arith}
-use Rattle.qr_bits.specs.{declared.{modes.{Mode.Mode, Rule.Rule}, run_state.RunState.RunState}, Segmentation.rank}
-use Rattle.qr_bits.specs.declared.interpretation.Interpretation.{Interpretation}
+use Rattle.qr_bits.specs.{declared.{modes.{Mode.Mode, Rule.Rule}, run_state.RunState.RunState, interpretation.Interpretation.Interpretation}, Segmentation.rank}
 use Rattle.qr_bits.specs.Steps.RunState.{state_in, begins_with_pair, allowed_in, cost_of_all, IsBestRest, IsChoice}
 
 -- two modes of one rank are equal

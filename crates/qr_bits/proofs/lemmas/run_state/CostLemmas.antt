@@ -1,11 +1,9 @@
 -- The number of bits of an assignment is a sum over its modes.
 use Rattle.std.proofs.lemmas.Bool.{cond_both, cond-true, cond-false, eqb-true, eq-eqb}
 use Rattle.std.proofs.Common.{◌≡◌, ℕ, ◌+◌, Bool, true, false, cond, ◌==◌, List, [], ◌∷◌, replicate, refl, arith, suc, zero}
-use Rattle.qr_bits.specs.{declared.modes.Mode.Mode, Modes.count_width, Modes.payload_bits}
-use Rattle.qr_bits.specs.declared.{segmentation.Segment.Segment, run_state.RunState.RunState}
+use Rattle.qr_bits.specs.{declared.{modes.Mode.Mode, segmentation.Segment.Segment, run_state.RunState.RunState}, Modes.{count_width, payload_bits}}
 use Rattle.qr_bits.specs.declared.run_state.RunState.TheVariants.{Start, Digit1, Digit2, Digit3, Character1, Character2, InBytes, HalfPair, WholePair}
-use Rattle.qr_bits.specs.Segmentation.{segment_bits, bits, rank, prepend_mode, runs_of}
-use Rattle.qr_bits.specs.Steps.RunState.{state_after, byte_cost, cost_of}
+use Rattle.qr_bits.specs.{Segmentation.{segment_bits, bits, rank, prepend_mode, runs_of}, Steps.RunState.{state_after, byte_cost, cost_of}}
 use Rattle.qr_bits.proofs.lemmas.run_state.BestLemmas.{same-rank}
 
 -- how far the last group is filled in a state

@@ -1,15 +1,9 @@
 -- A `%` that alphanumeric mode doubles takes two steps, so that what is known of modes of characters holds for modes of
 -- bytes.
-use Rattle.std.proofs.Common.{◌≡◌, ℕ, ◌<◌, Bool, true, false, ◌&&◌, List, [], ◌∷◌, length, refl, arith, lit<}
-use Rattle.std.proofs.lemmas.Bool.{and_parts, false≢true}
-use Rattle.std.specs.List.{list_all}
-use Rattle.qr_bits.specs.declared.{modes.Mode.Mode, modes.Rule.Rule, run_state.RunState.RunState}
-use Rattle.qr_bits.specs.declared.modes.Mode.TheVariants.{Numeric, Alphanumeric, Byte, Kanji}
-use Rattle.qr_bits.specs.declared.run_state.RunState.TheVariants.{HalfPair}
-use Rattle.qr_bits.specs.declared.interpretation.Interpretation.{Interpretation}
-use Rattle.qr_bits.specs.Interpretation.{is_doubled, character_for, doubled, characters_in}
-use Rattle.qr_bits.proofs.lemmas.interpretation.WrittenLemmas.{characters_in-step, doubled-rank, doubled-step, same-character, single-byte, unwritten, written-none}
-use Rattle.qr_bits.specs.Segmentation.{rank}
+use Rattle.std.{proofs.{Common.{◌≡◌, ℕ, ◌<◌, Bool, true, ◌&&◌, List, [], ◌∷◌, length, refl, arith}, lemmas.Bool.{and_parts, false≢true}}, specs.List.list_all}
+use Rattle.qr_bits.specs.declared.{modes.{Mode.{Mode, TheVariants.Kanji}, Rule.Rule}, run_state.RunState.RunState, interpretation.Interpretation.Interpretation}
+use Rattle.qr_bits.specs.{Interpretation.{doubled, characters_in}, Segmentation.rank}
+use Rattle.qr_bits.proofs.lemmas.interpretation.WrittenLemmas.{characters_in-step, doubled-rank, doubled-step, single-byte, unwritten, written-none}
 use Rattle.qr_bits.specs.Steps.RunState.{cost_of, state_after, state_in, may_take_in, allowed, allowed_in, cost_of_all, begins_with_pair, may_begin, may_take}
 
 -- the bits that bytes add are those that their characters add
@@ -24,67 +18,26 @@ pub take-other : (r : Rule) (p : RunState) (x : ℕ) (q t : Bool) (m : Mode) →
 unfolding may_take may_begin
 take-other r p x q t m h = grind arith
 
--- a character may be written twice
-take-again : (r : Rule) (p : RunState) (x : ℕ) (q t : Bool) (m : Mode) → rank m < 3 → may_take r p x q m ≡ true → may_take r (state_after p m) x t m ≡ true
-unfolding may_take may_begin state_after
-take-again r p x q t m h e = grind arith
-
-none-both : (a b c d : Bool) → c ≡ d → d ≡ false → (a && c) ≡ (b && d)
-none-both a b c d e f = grind arith
-
--- after half a pair no other mode is possible
-only-kanji : (i : Interpretation) (r : Rule) (test : ℕ → ℕ → Bool) (x : ℕ) (xs : List ℕ) (m : Mode) (ms : List Mode) → rank m < 3 → allowed_in i r test HalfPair (x ∷ xs) (m ∷ ms) ≡ false
-unfolding allowed_in may_take
-only-kanji i r test x xs Numeric ms h = refl
-only-kanji i r test x xs Alphanumeric ms h = refl
-only-kanji i r test x xs Byte ms h = refl
-only-kanji i r test x xs Kanji ms h = absurd (omega arith)
-
--- a byte in kanji mode, whether it is seen to begin a pair or not, if what follows it is the same
-kanji-before : (i : Interpretation) (r : Rule) (test : ℕ → ℕ → Bool) (p : RunState) (x y : ℕ) (ys : List ℕ) (m : Mode) (ms : List Mode) (q t a : Bool) → rank m < 3
-    → a ≡ allowed_in i r test (state_after p Kanji) (y ∷ ys) (m ∷ ms)
-    → (may_take r p x q Kanji && a) ≡ (may_take r p x t Kanji && allowed_in i r test (state_after p Kanji) (y ∷ ys) (m ∷ ms))
-unfolding may_take state_after
-kanji-before i r test HalfPair x y ys m ms q t a k h = h
-kanji-before i r test p x y ys m ms q t a k h = none-both _ _ _ _ h (only-kanji i r test y ys m ms k)
-
 -- a byte in kanji mode is allowed before the characters of bytes as it is before the bytes
 kanji-same : (i : Interpretation) (r : Rule) (test : ℕ → ℕ → Bool) (p : RunState) (x : ℕ) (xs : List ℕ) (ms : List Mode)
     → allowed r test (state_after p Kanji) (characters_in i xs ms) (doubled i xs ms) ≡ allowed_in i r test (state_after p Kanji) xs ms
     → (may_take r p x (begins_with_pair r test (x ∷ characters_in i xs ms)) Kanji && allowed r test (state_after p Kanji) (characters_in i xs ms) (doubled i xs ms))
     ≡ (may_take r p x (begins_with_pair r test (x ∷ xs)) Kanji && allowed_in i r test (state_after p Kanji) xs ms)
-unfolding begins_with_pair
+unfolding begins_with_pair may_take state_after allowed_in
 kanji-same i r test p x [] ms h = search (arith, written-none)
 kanji-same i r test p x (y ∷ ys) [] h = rw (h, (unwritten i y ys).1) refl
-kanji-same i r test p x (y ∷ ys) (Kanji ∷ ms) h = search (arith, characters_in-step, single-byte, same-character)
-kanji-same i r test p x (y ∷ ys) (m ∷ ms) h = kanji-before i r test p x y ys m ms _ _ _ (lit< tt) h
-
--- a byte that is written once may have a mode exactly if its character may
-step-one : (i : Interpretation) (r : Rule) (test : ℕ → ℕ → Bool) (p : RunState) (x : ℕ) (xs : List ℕ) (m : Mode) (ms : List Mode) → is_doubled i x m ≡ false
-    → allowed r test (state_after p m) (characters_in i xs ms) (doubled i xs ms) ≡ allowed_in i r test (state_after p m) xs ms
-    → allowed r test p (character_for i x m ∷ characters_in i xs ms) (m ∷ doubled i xs ms)
-    ≡ (may_take_in i r p x (begins_with_pair r test (x ∷ xs)) m && allowed_in i r test (state_after p m) xs ms)
-unfolding allowed
-step-one i r test p x xs Kanji ms e h = search (arith, same-character, kanji-same)
-step-one i r test p x xs m ms e h = search (arith, take-other)
-
--- a byte that is written twice may have a mode exactly if its two characters may
-step-two : (i : Interpretation) (r : Rule) (test : ℕ → ℕ → Bool) (p : RunState) (x : ℕ) (xs : List ℕ) (m : Mode) (ms : List Mode) → rank m < 3
-    → allowed r test (state_after (state_after p m) m) (characters_in i xs ms) (doubled i xs ms) ≡ allowed_in i r test (state_after (state_after p m) m) xs ms
-    → allowed r test p (character_for i x m ∷ character_for i x m ∷ characters_in i xs ms) (m ∷ m ∷ doubled i xs ms)
-    ≡ (may_take_in i r p x (begins_with_pair r test (x ∷ xs)) m && allowed_in i r test (state_after (state_after p m) m) xs ms)
-unfolding allowed
-step-two i r test p x xs m ms k h = grind (arith, take-other, take-again)
+kanji-same i r test p x (y ∷ ys) (Kanji ∷ ms) h = search (arith, characters_in-step, single-byte)
+kanji-same i r test p x (y ∷ ys) (m ∷ ms) h = search arith
 
 -- the characters of bytes are allowed exactly if the bytes are
 pub allowed-written : (i : Interpretation) (r : Rule) (test : ℕ → ℕ → Bool) (p : RunState) (xs : List ℕ) (ms : List Mode)
     → allowed r test p (characters_in i xs ms) (doubled i xs ms) ≡ allowed_in i r test p xs ms
-unfolding allowed_in allowed
+unfolding allowed_in allowed may_take may_begin state_after
 allowed-written i r test p [] [] = search (arith, written-none)
 allowed-written i r test p [] (m ∷ ms) = search (arith, written-none)
 allowed-written i r test p (x ∷ xs) [] = search (arith, unwritten)
 allowed-written i r test p (x ∷ xs) (m ∷ ms) =
-    search (arith, doubled-rank, doubled-step, characters_in-step, step-two, step-one, allowed-written i r test (state_after (state_after p m) m) xs ms, allowed-written i r test (state_after p m) xs ms)
+    search (arith, doubled-rank, doubled-step, characters_in-step, take-other, kanji-same, allowed-written i r test (state_after (state_after p m) m) xs ms, allowed-written i r test (state_after p m) xs ms)
 
 -- the rule allows the modes of the characters exactly if it allows those of the bytes
 pub list_all-doubled : (i : Interpretation) (f : Mode → Bool) (xs : List ℕ) (ms : List Mode) → list_all f (doubled i xs ms) ≡ list_all f ms

@@ -1,15 +1,11 @@
 -- An assignment to bytes is valid exactly if its modes are allowed, one after the other.
 use Rattle.std.proofs.Common.{◌≡◌, ℕ, true, List, length, replicate, refl, sym, ◌∙◌, arith}
 use Rattle.qr_bits.specs.declared.{modes.Mode.{Mode, TheVariants.Byte}, modes.Rule.Rule, interpretation.Interpretation.Interpretation}
-use Rattle.qr_bits.specs.declared.run_state.RunState.{TheVariants.Start}
-use Rattle.qr_bits.specs.Interpretation.{characters_in, doubled}
-use Rattle.qr_bits.specs.Modes.{is_kanji_pair, may_use}
-use Rattle.qr_bits.specs.Segmentation.{bits, runs_of, IsAssignment, IsBestAssignment}
+use Rattle.qr_bits.specs.{declared.run_state.RunState.TheVariants.Start, Interpretation.{characters_in, doubled}, Modes.{is_kanji_pair, may_use}}
+use Rattle.qr_bits.{specs.Segmentation.{bits, runs_of, IsAssignment, IsBestAssignment}, proofs.lemmas.best_modes.TableLemmas.bytes-rest}
 use Rattle.qr_bits.specs.Steps.{RunState.{allowed_in, cost_of_all, may_end}, BestModes.{follow_in, IsBestTable}}
-use Rattle.qr_bits.proofs.lemmas.segmentation.CoverLemmas.{covers-by, by-covers}
+use Rattle.qr_bits.proofs.lemmas.{segmentation.CoverLemmas.{covers-by, by-covers}, run_state.AssignmentLemmas.{can-take, is-assignment}}
 use Rattle.qr_bits.proofs.lemmas.run_state.{CostLemmas.bits-runs_of, DoubledLemmas.{allowed-written, cost-written, list_all-doubled}}
-use Rattle.qr_bits.proofs.lemmas.run_state.AssignmentLemmas.{can-take, is-assignment}
-use Rattle.qr_bits.proofs.lemmas.best_modes.TableLemmas.{bytes-rest}
 
 -- the bits of an assignment are those that its bytes add
 pub bits-assigned : (i : Interpretation) (v : ℕ) (xs : List ℕ) (ms : List Mode) → bits v (runs_of (doubled i xs ms)) ≡ cost_of_all i v Start xs ms
@@ -33,5 +29,4 @@ allowed-assigned i r xs ms h =
 pub assignment-from-table : (i : Interpretation) (v : ℕ) (r : Rule) (xs : List ℕ) (rows : List ℕ) → IsBestTable i v r is_kanji_pair xs rows → IsBestAssignment i v r xs (follow_in i Start xs rows)
 unfolding may_end
 assignment-from-table i v r xs rows table =
-    let some = table Start (replicate (length xs) Byte) (bytes-rest i r is_kanji_pair Start xs refl) in
-    search (arith, allowed-assigned, bits-assigned, assigned-allowed)
+    search (arith, allowed-assigned, bits-assigned, assigned-allowed, table Start (replicate (length xs) Byte) (bytes-rest i r is_kanji_pair Start xs refl))

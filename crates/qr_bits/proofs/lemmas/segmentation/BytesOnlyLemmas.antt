@@ -1,12 +1,9 @@
 -- If only byte mode may be used, there is one valid assignment: byte mode for each byte.
-use Rattle.std.proofs.Common.{◌≡◌, ℕ, ◌+◌, ◌*◌, ◌<◌, ◌≤◌, min, take, ⊎_elim, true, List, [], ◌∷◌, length, replicate, refl, sym, arith, inr}
-use Rattle.std.proofs.Math.Nat.{le_refl}
-use Rattle.qr_bits.proofs.lemmas.best_modes.ChoiceLemmas.{byte-used}
-use Rattle.std.{proofs.lemmas.List.take_all, proofs.lemmas.List.length-take-le, proofs.lemmas.Bool.cases_lt, specs.List.list_all}
-use Rattle.qr_bits.specs.declared.modes.{Mode.Mode, Mode.TheVariants.Byte, Rule.Rule, Rule.TheVariants.BytesOnly}
-use Rattle.qr_bits.specs.declared.interpretation.Interpretation.{Interpretation}
-use Rattle.qr_bits.proofs.lemmas.interpretation.WrittenLemmas.{characters-bytes, doubled-bytes, length-written}
-use Rattle.qr_bits.specs.Segmentation.{bits, HasFit, IsAssignment, IsNotAfter, IsLeastSegmentation, IsLongestFit}
+use Rattle.std.proofs.{Common.{◌≡◌, ℕ, ◌+◌, ◌*◌, ◌<◌, ◌≤◌, min, take, ⊎_elim, true, List, [], ◌∷◌, length, replicate, refl, sym, arith, inr}, Math.Nat.le_refl}
+use Rattle.qr_bits.proofs.lemmas.{best_modes.ChoiceLemmas.byte-used, interpretation.WrittenLemmas.{length-written, written-bytes}}
+use Rattle.std.{proofs.lemmas.{List.length-take-le, Bool.cases_lt}, specs.List.list_all}
+use Rattle.qr_bits.specs.declared.{modes.{Mode.{Mode, TheVariants.Byte}, Rule.{Rule, TheVariants.BytesOnly}}, interpretation.Interpretation.Interpretation}
+use Rattle.qr_bits.specs.Segmentation.{HasFit, IsAssignment, IsNotAfter, IsLeastSegmentation, IsLongestFit}
 use Rattle.qr_bits.specs.{Modes.may_use, Modes.count_width, Steps.Segmentation.one_segment}
 use Rattle.qr_bits.proofs.lemmas.segmentation.{CoverLemmas.one-covers, SegmentLemmas.covers-all, SegmentLemmas.least_fits}
 use Rattle.qr_bits.proofs.lemmas.segmentation.BackLemmas.{sum_by-runs_of, runs_of-replicate, all-used}
@@ -30,7 +27,7 @@ one-assignment i xs ks h = rw (← assignment-length i BytesOnly xs ks h) (only-
 -- byte mode for each byte is an assignment
 bytes-assigned : (i : Interpretation) (r : Rule) (xs : List ℕ) → IsAssignment i r xs (replicate (length xs) Byte)
 bytes-assigned i r xs =
-    search (arith, characters-bytes, doubled-bytes, all-used, byte-used, runs_of-replicate, one-covers)
+    search (arith, written-bytes, all-used, byte-used, runs_of-replicate, one-covers)
 
 -- If only byte mode may be used, the one segment of all bytes is the least segmentation.
 pub bytes-least : (i : Interpretation) (v : ℕ) (xs : List ℕ) → IsLeastSegmentation i v BytesOnly xs xs (one_segment Byte (length xs))
@@ -41,12 +38,9 @@ bytes-least i v xs = (
     least = λ ks h. rw (one-assignment i xs ks h) (le_refl _);
     first = λ ks h _. rw (one-assignment i xs ks h) (not-after-self _);
   },
-  rw (doubled-bytes i xs (length xs)) (sym (runs_of-replicate Byte (length xs))),
-  sym (characters-bytes i xs (length xs)),
+  rw (written-bytes i xs (length xs)).1 (sym (runs_of-replicate Byte (length xs))),
+  sym (written-bytes i xs (length xs)).0,
 )
-
-byte-bits-most : (v n : ℕ) → bits v (one_segment Byte n) ≤ 4 + count_width v Byte + 8 * n
-byte-bits-most v n = grind arith
 
 -- The longest prefix that fits as one byte segment is the longest prefix that fits.
 pub bytes-longest : (i : Interpretation) (v : ℕ) (xs : List ℕ) (room n k : ℕ) → n ≡ min (length xs) k → 4 + count_width v Byte + 8 * k ≤ room → room < 4 + count_width v Byte + 8 * (k + 1)
@@ -56,7 +50,7 @@ bytes-longest i v xs room n k e fits most =
     let len = length-take-le n xs inside in
     record {
       inside = inside;
-      fits = ((least_fits i v BytesOnly (take n xs) _ _ (bytes-least i v (take n xs))).1 room).1 (rw len (omega (arith, byte-bits-most v n)));
+      fits = ((least_fits i v BytesOnly (take n xs) _ _ (bytes-least i v (take n xs))).1 room).1 (search arith);
       longest = λ j h fit.
           ⊎_elim (λ (none : j < 1). omega arith) (λ (some : 1 ≤ j).
           let few = ((least_fits i v BytesOnly (take j xs) _ _ (bytes-least i v (take j xs))).1 room).0 fit in
@@ -66,8 +60,4 @@ bytes-longest i v xs room n k e fits most =
 -- An input fits where it fits in byte mode alone.
 pub bytes-fit : (i : Interpretation) (v : ℕ) (r : Rule) (xs : List ℕ) (room : ℕ) → 4 + count_width v Byte + 8 * length xs ≤ room → HasFit i v r xs room
 bytes-fit i v r xs room few =
-    (replicate (length xs) Byte, bytes-assigned i r xs, rw (doubled-bytes i xs (length xs), runs_of-replicate Byte (length xs)) (omega (arith, byte-bits-most v (length xs))))
-
--- An input that fits in byte mode alone is its own longest prefix that fits.
-pub whole-longest : (i : Interpretation) (v : ℕ) (r : Rule) (xs : List ℕ) (room : ℕ) → 4 + count_width v Byte + 8 * length xs ≤ room → IsLongestFit i v r xs room (length xs)
-whole-longest i v r xs room few = search (arith, le_refl, take_all, bytes-fit)
+    (replicate (length xs) Byte, bytes-assigned i r xs, rw ((written-bytes i xs (length xs)).1, runs_of-replicate Byte (length xs)) (search arith))

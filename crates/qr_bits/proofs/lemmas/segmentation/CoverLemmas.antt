@@ -1,11 +1,8 @@
 -- Segments that cover bytes, one after the other.
 use Rattle.std.proofs.Common.{Bool, true, ◌≡◌, ℕ, ◌<◌, ◌≤◌, List, [], ◌∷◌, length, take, drop, IsTrue, arith}
-use Rattle.std.{proofs.lemmas.List.take_all, proofs.lemmas.List.drop_all, specs.List.list_all}
-use Rattle.std.proofs.lemmas.List.Elements.{All-cons, All-nil, All-head, All-tail}
-use Rattle.qr_bits.specs.declared.{modes.Mode.Mode, segmentation.Segment.Segment}
-use Rattle.qr_bits.specs.declared.modes.Mode.TheVariants.{Numeric, Alphanumeric, Byte, Kanji}
-use Rattle.qr_bits.specs.Modes.{suits, is_digit, is_alphanumeric, in_twos, is_kanji_pair}
-use Rattle.qr_bits.specs.{Stream.Suits, Segmentation.Covers, Steps.Segmentation.one_segment}
+use Rattle.std.{proofs.lemmas.List.{take_all, drop_all, Elements.{All-cons, All-nil, All-head, All-tail}}, specs.List.list_all}
+use Rattle.qr_bits.specs.declared.{modes.Mode.{Mode, TheVariants.{Numeric, Alphanumeric, Byte, Kanji}}, segmentation.Segment.Segment}
+use Rattle.qr_bits.specs.{Modes.{suits, is_digit, is_alphanumeric, in_twos, is_kanji_pair}, Stream.Suits, Segmentation.Covers, Steps.Segmentation.one_segment}
 
 -- the bytes can be written in the mode, where two bytes are a pair if they pass the test
 abbrev pub suits_by : (ℕ → ℕ → Bool) → Mode → List ℕ → Bool

@@ -1,16 +1,11 @@
 -- If all bytes are digits, one segment of all digits takes the fewest bits.
 use Rattle.std.proofs.Common.{◌≡◌, ℕ, zero, suc, ◌+◌, ◌*◌, ◌/◌, ◌<◌, ◌≤◌, true, List, [], ◌∷◌, length, drop, replicate, length-drop, sym, ap, arith, inl, lit<, IsTrue}
 use Rattle.std.proofs.lemmas.Bool.Decides.{nat_tests}
-use Rattle.qr_bits.specs.declared.modes.{Mode.Mode, Mode.TheVariants.Numeric, Rule.Rule}
-use Rattle.qr_bits.specs.{declared.segmentation.Segment.Segment, Steps.Segmentation.one_segment}
-use Rattle.qr_bits.specs.Modes.{is_kanji_pair, suits, may_use, count_width, payload_bits}
-use Rattle.qr_bits.specs.declared.interpretation.Interpretation.{Interpretation}
-use Rattle.qr_bits.specs.Interpretation.{characters_in}
-use Rattle.qr_bits.proofs.lemmas.interpretation.WrittenLemmas.{characters-digits, characters-longer, doubled-digits}
-use Rattle.qr_bits.proofs.lemmas.segmentation.BytesOnlyLemmas.{assignment-length}
-use Rattle.qr_bits.specs.Segmentation.{bits, IsNotAfter, IsLeastSegmentation}
-use Rattle.qr_bits.proofs.lemmas.segmentation.{CoverLemmas.{CoversBy, covers-by, one-covers}}
-use Rattle.qr_bits.proofs.lemmas.segmentation.BackLemmas.{runs_of-replicate, all-used}
+use Rattle.qr_bits.specs.{declared.{modes.{Mode.{Mode, TheVariants.Numeric}, Rule.Rule}, segmentation.Segment.Segment}, Steps.Segmentation.one_segment}
+use Rattle.qr_bits.specs.{Modes.{is_kanji_pair, suits, may_use, count_width, payload_bits}, declared.interpretation.Interpretation.Interpretation}
+use Rattle.qr_bits.specs.{Interpretation.characters_in, Segmentation.{bits, IsNotAfter, IsLeastSegmentation}}
+use Rattle.qr_bits.proofs.lemmas.{interpretation.WrittenLemmas.{characters-length, written-digits}, segmentation.BytesOnlyLemmas.assignment-length}
+use Rattle.qr_bits.proofs.lemmas.segmentation.{CoverLemmas.{CoversBy, covers-by, one-covers}, BackLemmas.{runs_of-replicate, all-used}}
 
 digits-bits : (n : ℕ) → payload_bits Numeric n ≡ (10 * n + 2) / 3
 digits-bits n = grind (arith, nat_tests)
@@ -21,9 +16,7 @@ segment-more v m n h = grind (arith, nat_tests)
 -- any segments take at least as many bits as one segment in numeric mode that has a byte for each of theirs
 segments-more-bits : (v : ℕ) (s : Segment) (ss : List Segment) (xs : List ℕ) → CoversBy is_kanji_pair xs (s ∷ ss) → 4 + count_width v Numeric + (10 * length xs + 2) / 3 ≤ bits v (s ∷ ss)
 unfolding CoversBy
-segments-more-bits v s [] xs c =
-    let none = ap length c.3 in
-    search (arith, segment-more, length-drop)
+segments-more-bits v s [] xs c = search (arith, segment-more, length-drop, ap length c.3)
 segments-more-bits v s (t ∷ ts) xs c = search (arith, segment-more, length-drop, segments-more-bits v t ts (drop s.len xs) c.3)
 
 digits-fewest : (v : ℕ) (xs : List ℕ) (segs : List Segment) → CoversBy is_kanji_pair xs segs → bits v (one_segment Numeric (length xs)) ≤ bits v segs
@@ -39,22 +32,19 @@ digits-first (suc n) (Numeric ∷ ks) h = search (arith, digits-first n ks)
 digits-first (suc n) (_ ∷ ks) h = inl (lit< tt)
 
 one_segment-more : (v k n : ℕ) → k ≤ n → bits v (one_segment Numeric k) ≤ bits v (one_segment Numeric n)
-one_segment-more v zero n h = omega arith
-one_segment-more v (suc k) zero h = search arith
-one_segment-more v (suc k) (suc n) h = search (arith, digits-bits)
+one_segment-more v k n h = grind (arith, digits-bits)
 
 -- If all bytes are digits, the one segment of all digits is the least segmentation.
 pub digits-least : (i : Interpretation) (v : ℕ) (r : Rule) (xs : List ℕ) → may_use r Numeric ≡ true → IsTrue (suits Numeric xs) → IsLeastSegmentation i v r xs xs (one_segment Numeric (length xs))
 digits-least i v r xs u h =
-    let written = characters-digits i xs (length xs) in
-    let modes = doubled-digits i xs (length xs) in (
+    let written = written-digits i xs (length xs) in (
       replicate (length xs) Numeric,
       record {
         assignment = search (arith, all-used, runs_of-replicate, one-covers);
-        least = λ ks k. let longer = one_segment-more v (length xs) (length (characters_in i xs ks)) (characters-longer i xs ks) in
+        least = λ ks k. let longer = one_segment-more v (length xs) (length (characters_in i xs ks)) (characters-length i xs ks).0 in
             search (arith, runs_of-replicate, digits-fewest, covers-by);
         first = search (arith, digits-first, assignment-length);
       },
-      rw modes (sym (runs_of-replicate Numeric (length xs))),
-      sym written,
+      rw written.1 (sym (runs_of-replicate Numeric (length xs))),
+      sym written.0,
     )

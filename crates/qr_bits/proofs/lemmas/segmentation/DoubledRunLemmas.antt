@@ -1,12 +1,13 @@
 -- The segments and characters of GS1 data, byte by byte.
-use Rattle.std.proofs.Common.{◌≡◌, ℕ, ◌+◌, ◌*◌, ◌-◌, ◌<◌, ◌≤◌, Bool, true, false, cond, List, [], ◌∷◌, ◌++◌, length, get_or, map, take, drop, reverse, append_assoc, refl, sym, ap, ◌∙◌, arith}
+use Rattle.std.proofs.lemmas.Bool.Decides.{nat_tests}
+use Rattle.qr_bits.proofs.lemmas.{segmentation.BackLemmas.append_mode-last, best_modes.ChoiceLemmas.on-after}
+use Rattle.std.proofs.Common.{◌≡◌, ℕ, ◌+◌, ◌*◌, ◌-◌, ◌<◌, ◌≤◌, Bool, true, false, cond, List, [], ◌∷◌, ◌++◌, length, get_or, take, drop, reverse, append_assoc, sym, ap, ◌∙◌, arith}
 use Rattle.std.proofs.lemmas.{Bool.{cond_both, eqb-true}, List.{append-nil, drop_more, get_or-drop, length-append, length-drop, length-take-le, reverse-append, take_more}}
 use Rattle.qr_bits.specs.declared.{modes.Mode.{Mode, TheVariants.Alphanumeric}, segmentation.Segment.Segment, run_state.RunState.{RunState}}
-use Rattle.qr_bits.specs.declared.interpretation.Interpretation.{TheVariants.{Gs1}}
+use Rattle.qr_bits.specs.{declared.interpretation.Interpretation.TheVariants.Gs1, Segmentation.runs_of}
 use Rattle.qr_bits.specs.Interpretation.{character_for, characters_gs1, doubled_gs1, is_doubled, percent}
-use Rattle.qr_bits.specs.Segmentation.{runs_of}
-use Rattle.qr_bits.specs.Steps.{BestModes.{AreFlagged, follow_in, is_flagged, mode_at}, RunState.{state_after, state_in, state_on}, Segmentation.{append_mode, is_escaped, one_segment}}
-use Rattle.qr_bits.proofs.lemmas.{best_modes.{ChoiceLemmas.{on-in}, TableLemmas.led-on-in}, interpretation.WrittenLemmas.{characters-append, characters-one, doubled-append, doubled-one}, segmentation.BackLemmas.{run-same, runs_of-push}}
+use Rattle.qr_bits.specs.Steps.{BestModes.{AreFlagged, follow_in, mode_at}, RunState.{state_after, state_in, state_on}, Segmentation.{append_mode, is_escaped, one_segment}}
+use Rattle.qr_bits.proofs.lemmas.{interpretation.WrittenLemmas.{written-append, written-one}, segmentation.BackLemmas.runs_of-push}
 
 -- of the bytes `xs` the first `i`, whose modes were read, have the segments `found` and one of `n` characters, and their
 -- characters are `chars` and the bytes from `copied` on; `rows` are left of the table
@@ -51,42 +52,29 @@ escaped-more xs chars i = search (arith, append-nil)
 -- the modes of one more byte, and so its segment, which has one or two characters more
 runs-more : (ds : List Mode) (found : List Segment) (m : Mode) (n : ℕ) (d : Bool) → 0 < n → found ++ one_segment m n ≡ append_mode (runs_of ds) m
     → found ++ one_segment m (cond d (n + 1) n) ≡ runs_of (ds ++ cond d (m ∷ m ∷ []) (m ∷ []))
+unfolding append_mode
 runs-more ds found m n true h e =
-    rw (← append_assoc ds (m ∷ []) (m ∷ []), runs_of-push (ds ++ m ∷ []) m, runs_of-push ds m, ← e) (sym (run-same found m n (λ z. absurd (omega arith))))
+    rw (← append_assoc ds (m ∷ []) (m ∷ []), runs_of-push (ds ++ m ∷ []) m, runs_of-push ds m, ← e) (search (arith, append_mode-last, nat_tests))
 runs-more ds found m n false h e = e ∙ sym (runs_of-push ds m)
-
--- the flag of the next row, and those of the others
-pub flags-next : (xs : List ℕ) (i : ℕ) {rows : List ℕ} (later : List ℕ) (row : ℕ) → AreFlagged (drop i xs) (reverse rows) → i < length xs → rows ≡ later ++ row ∷ []
-    → (is_flagged row ≡ is_escaped Alphanumeric (get_or xs i 0)) × AreFlagged (drop (i + 1) xs) (reverse later)
-flags-next xs i {rows} later row h inside last =
-    let both : is_flagged row ∷ map is_flagged (reverse later) ≡ is_escaped Alphanumeric (get_or xs i 0) ∷ map (is_escaped Alphanumeric) (drop (i + 1) xs) =
-    rw (last, reverse-append later (row ∷ []), drop_more xs i 0 inside) at h in search arith
 
 -- one more byte, of the mode `w`
 pub written_more : {xs : List ℕ} {all : List Mode} {i : ℕ} {found : List Segment} {m : Mode} {n : ℕ} {p : RunState} {rows chars : List ℕ} {copied : ℕ}
     (later : List ℕ) (row : ℕ) (w : Mode) (new : List Segment) (k j : ℕ) (q : RunState) (cs : List ℕ) (b : ℕ)
     → IsWritten xs all i found m n p rows chars copied → i < length xs → rows ≡ later ++ row ∷ [] → w ≡ mode_at row p
-    → new ++ one_segment w k ≡ append_mode (found ++ one_segment m n) w → 0 < k → k ≤ n + 1
+    → new ++ one_segment w k ≡ append_mode (found ++ one_segment m n) w → (0 < k) × (k ≤ n + 1)
     → j ≡ cond (is_doubled Gs1 (get_or xs i 0) w) (k + 1) k → q ≡ state_in Gs1 p (get_or xs i 0) w
     → cs ++ take ((i + 1) - b) (drop b xs) ≡ (chars ++ take (i - copied) (drop copied xs)) ++ cond (is_doubled Gs1 (get_or xs i 0) w) (character_for Gs1 (get_or xs i 0) w ∷ character_for Gs1 (get_or xs i 0) w ∷ []) (character_for Gs1 (get_or xs i 0) w ∷ [])
     → b ≤ i + 1 → IsWritten xs all (i + 1) new w j q later cs b
-written_more {xs} {all} {i} {found} {m} {n} {p} {rows} {chars} {copied} later row w new k j q cs b h inside last is run some few count state characters low =
+unfolding follow_in
+written_more {xs} {all} {i} {found} {m} {n} {p} {rows} {chars} {copied} later row w new k j q cs b h inside last is run bounds count state characters low =
+    let some = bounds.0 in
+    let few = bounds.1 in
     let x = get_or xs i 0 in
     let next : drop i xs ≡ x ∷ drop (i + 1) xs = drop_more xs i 0 inside in
     let more : take (i + 1) xs ≡ take i xs ++ x ∷ [] = take_more xs i 0 inside in
     let len : length (take i xs) ≡ length h.modes = length-take-le i xs (omega arith) ∙ sym h.many in
     let ds = doubled_gs1 (take i xs) h.modes in
-    let modes = doubled-append Gs1 (take i xs) (x ∷ []) h.modes (w ∷ []) len ∙ ap (λ (r : List Mode). ds ++ r) (doubled-one Gs1 x w) in
-    let own = characters-append Gs1 (take i xs) (x ∷ []) h.modes (w ∷ []) len ∙ ap (λ (r : List ℕ). characters_gs1 (take i xs) h.modes ++ r) (characters-one Gs1 x w) in
-    record {
-      modes = h.modes ++ w ∷ [];
-      many = cc (length-append h.modes (w ∷ []));
-      runs = search (arith, runs-more);
-      characters = characters ∙ rw (more, own, h.characters) refl;
-      led = rw state (led-on-in Gs1 p x (drop (i + 1) xs) rows later row h.modes all w last is (rw next at h.led));
-      flags = (flags-next xs i later row h.flags inside last).1;
-      inside = low;
-      short = search (arith, cond_both);
-      first = search (arith, cond_both);
-      next = rw state (on-in Gs1 p x w);
-    }
+    let both = written-append Gs1 (take i xs) (x ∷ []) h.modes (w ∷ []) len in
+    let modes = both.0 ∙ ap (λ (r : List Mode). ds ++ r) (written-one Gs1 x w).0 in
+    let own = both.1 ∙ ap (λ (r : List ℕ). characters_gs1 (take i xs) h.modes ++ r) (written-one Gs1 x w).1 in
+    search (arith, length-append, runs-more, cond_both, reverse-append, append_assoc, on-after, drop_more)

@@ -1,12 +1,8 @@
 -- With an ECI the choice of segments is that without, and for GS1 data too if each byte is written as itself.
-use Rattle.std.proofs.Common.{◌≡◌, ℕ, true, false, not, ◌&&◌, List, [], ◌∷◌, refl, arith}
-use Rattle.std.proofs.lemmas.Bool.{and_parts}
-use Rattle.std.specs.List.{list_all}
-use Rattle.qr_bits.specs.declared.{modes.Mode.Mode, modes.Rule.Rule, segmentation.Segment.Segment}
+use Rattle.std.{proofs.{Common.{◌≡◌, ℕ, true, false, not, ◌&&◌, List, [], ◌∷◌, refl, arith}, lemmas.Bool.and_parts}, specs.List.list_all}
+use Rattle.qr_bits.specs.{declared.{modes.{Mode.Mode, Rule.Rule}, segmentation.Segment.Segment}, Segmentation.IsLeastSegmentation}
 use Rattle.qr_bits.specs.declared.interpretation.Interpretation.{Interpretation, TheVariants.{Default, Gs1, Eci}}
-use Rattle.qr_bits.specs.Interpretation.{character_for, characters_gs1, doubled_gs1, is_doubled}
-use Rattle.qr_bits.specs.Segmentation.{IsLeastSegmentation}
-use Rattle.qr_bits.specs.Steps.{RunState.is_gs1, Segmentation.is_itself}
+use Rattle.qr_bits.specs.{Interpretation.{character_for, characters_gs1, doubled_gs1, is_doubled}, Steps.{RunState.is_gs1, Segmentation.is_itself}}
 
 -- a byte that is written as itself
 itself : (x : ℕ) (m : Mode) → is_itself x ≡ true → (is_doubled Gs1 x m ≡ false) × (character_for Gs1 x m ≡ x)
@@ -17,9 +13,7 @@ pub themselves : (xs : List ℕ) (ms : List Mode) → list_all is_itself xs ≡ 
 unfolding doubled_gs1 characters_gs1
 themselves [] ms h = (refl, refl)
 themselves (x ∷ xs) [] h = (refl, refl)
-themselves (x ∷ xs) (m ∷ ms) h =
-    let parts = and_parts (is_itself x) (list_all is_itself xs) h in
-    search (arith, itself, themselves xs ms parts.1)
+themselves (x ∷ xs) (m ∷ ms) h = search (arith, itself, themselves xs ms (and_parts (is_itself x) (list_all is_itself xs) h).1)
 
 all-themselves : (xs : List ℕ) → not (list_all is_itself xs) ≡ false → list_all is_itself xs ≡ true
 all-themselves xs h = grind arith
@@ -28,6 +22,4 @@ all-themselves xs h = grind arith
 pub least-interpreted : (i : Interpretation) (v : ℕ) (r : Rule) (xs : List ℕ) (segs : List Segment) → (is_gs1 i && not (list_all is_itself xs)) ≡ false → IsLeastSegmentation Default v r xs xs segs → IsLeastSegmentation i v r xs xs segs
 least-interpreted Default v r xs segs w h = h
 least-interpreted (Eci n) v r xs segs w h = search arith
-least-interpreted Gs1 v r xs segs w h =
-    let all = all-themselves xs w in
-    let own = themselves xs h.0 all in search (arith, themselves)
+least-interpreted Gs1 v r xs segs w h = let own = themselves xs h.0 (all-themselves xs w) in search (arith, themselves)

@@ -1,17 +1,13 @@
 -- GS1 data without `%` has the least segmentation of its marked copy, in which `%` stands for each separator. The
 -- characters of the copy are those of the data in alphanumeric mode, and in the other modes they are the bytes.
 use Rattle.std.proofs.Common.{◌≡◌, ℕ, ◌+◌, ◌-◌, ◌≤◌, Bool, true, false, List, [], ◌∷◌, ◌++◌, length, map, take, drop, sum_by, append_assoc, length-drop, refl, sym, ap, ◌∙◌, arith}
-use Rattle.std.proofs.lemmas.{Bool.and_parts, List.{append-nil, drop-drop, drop-map, drop_all, length-map, length-take-le, take-map, take-append-drop, take_all}, Slice.{drop-put_mid, take-put_mid}, List.Folds.list_all-append, List.Sums.sum_by-cons}
-use Rattle.std.proofs.Math.Seq.{take-add}
+use Rattle.std.proofs.lemmas.{Bool.and_parts, List.{drop-drop, drop-map, length-map, length-take-le, take-map, take-append-drop, Folds.list_all-append, Sums.sum_by-cons}, Slice.{drop-put_mid, take-put_mid}}
+use Rattle.std.{proofs.Math.Seq.take-add, specs.List.list_all}
 use borrow.Rule.Slice.PartMut.{put_mid, same_len_mid}
-use Rattle.std.specs.List.{list_all}
 use Rattle.qr_bits.specs.declared.{modes.Mode.Mode, modes.Mode.TheVariants.{Alphanumeric}, modes.Rule.Rule, segmentation.Segment.Segment, run_state.RunState.{RunState, TheVariants.Start}}
-use Rattle.qr_bits.specs.declared.interpretation.Interpretation.{TheVariants.{Default, Gs1}}
-use Rattle.qr_bits.specs.Interpretation.{character_for, doubled_gs1, is_doubled}
-use Rattle.qr_bits.specs.Modes.{is_kanji_pair}
-use Rattle.qr_bits.specs.Segmentation.{IsAssignment, IsLeastSegmentation}
+use Rattle.qr_bits.specs.{declared.interpretation.Interpretation.TheVariants.{Default, Gs1}, Interpretation.{character_for, doubled_gs1, is_doubled}}
+use Rattle.qr_bits.specs.{Modes.is_kanji_pair, Segmentation.{IsAssignment, IsLeastSegmentation}, Steps.Segmentation.{written_in, is_single, marked, written}}
 use Rattle.qr_bits.specs.Steps.RunState.{allowed_in, begins_with_pair, may_begin, may_take, state_after}
-use Rattle.qr_bits.specs.Steps.Segmentation.{written_in, is_single, marked, written}
 use Rattle.qr_bits.proofs.lemmas.segmentation.{AssignedLemmas.{allowed-assigned, assigned-allowed}, BackLemmas.sum_by-runs_of, BytesOnlyLemmas.assignment-length, RunLemmas.{escaped-marked, runs-written}}
 
 -- a byte other than `%` is one character
@@ -27,16 +23,9 @@ single-modes (x ∷ xs) (m ∷ ms) h =
     let parts = and_parts (is_single x) (list_all is_single xs) h in
     rw (single-one x m parts.0, single-modes xs ms parts.1) refl
 
--- neither `%` nor the separator is part of a kanji pair
-pair-marked : (x y : ℕ) → is_kanji_pair (marked x) (marked y) ≡ is_kanji_pair x y
-unfolding is_kanji_pair
-pair-marked x y = grind arith
-
 pairs-marked : (r : Rule) (xs : List ℕ) → begins_with_pair r is_kanji_pair (map marked xs) ≡ begins_with_pair r is_kanji_pair xs
-unfolding begins_with_pair
-pairs-marked r [] = refl
-pairs-marked r (x ∷ []) = refl
-pairs-marked r (x ∷ y ∷ xs) = rw (pair-marked x y) refl
+unfolding begins_with_pair is_kanji_pair
+pairs-marked r xs = search arith
 
 -- a marked byte may have the modes that the character of the byte may have
 take-marked : (r : Rule) (p : RunState) (x : ℕ) (pair : Bool) (m : Mode) → may_take r p (marked x) pair m ≡ may_take r p (character_for Gs1 x m) pair m
@@ -117,8 +106,3 @@ restored-copied xs segs cs ys b e s ss h is new mode =
     (take-put_mid b (e - b) cs ys e (omega arith) first ∙ rw (new, n, mode) refl)
     (drop-put_mid b (e - b) cs ys e (omega arith) first long)
     (same_len_mid b (e - b) cs ys (long ∙ sym (length-take-le (e - b) (drop b cs) (omega (arith, length-drop b cs)))))
-
--- after the last segment all characters are those that are written
-pub restored-all : (xs : List ℕ) (segs : List Segment) (cs : List ℕ) (b : ℕ) → IsRestored xs segs cs b [] → cs ≡ written_in xs segs
-unfolding written_in
-restored-all xs segs cs b h = search (arith, drop_all, take_all, append-nil)

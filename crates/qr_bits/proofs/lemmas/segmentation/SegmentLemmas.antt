@@ -1,11 +1,9 @@
 -- Lists of segments: their bits, their lengths, and what they cover.
 use Rattle.std.proofs.Common.{◌≡◌, ℕ, ◌+◌, ◌*◌, ◌<◌, ◌≤◌, ◌↔◌, List, [], ◌∷◌, length, get_or, take, drop, refl, ap, arith, IsTrue, All}
-use Rattle.std.proofs.lemmas.{List.length-drop, List.drop_all, List.Sums.sum_by-cons}
-use Rattle.std.{proofs.{lemmas.List.Elements.{All-head, All-tail}, Math.Seq.drop-cons}, specs.List.sum_by}
+use Rattle.std.{proofs.{lemmas.List.{length-drop, Sums.sum_by-cons, Elements.{All-head, All-tail}}, Math.Seq.drop-cons}, specs.List.sum_by}
 use Rattle.qr_bits.proofs.lemmas.segmentation.CoverLemmas.{CoversBy, suits-by, covers-by, by-covers}
-use Rattle.qr_bits.specs.declared.modes.{Mode.Mode, Mode.TheVariants.Numeric, Rule.Rule}
-use Rattle.qr_bits.specs.{declared.segmentation.Segment.Segment, Stream.Suits, Modes.{count_width, payload_bits, suits}}
-use Rattle.qr_bits.specs.declared.interpretation.Interpretation.{Interpretation}
+use Rattle.qr_bits.specs.declared.{modes.{Mode.{Mode, TheVariants.Numeric}, Rule.Rule}, interpretation.Interpretation.Interpretation}
+use Rattle.qr_bits.specs.{declared.segmentation.Segment.Segment, Stream.Suits, Modes.{count_width, suits}}
 use Rattle.qr_bits.specs.Segmentation.{segment_bits, bits, Covers, IsNotAfter, IsLeastSegmentation, HasFit}
 
 segment-most : (v : ℕ) (s : Segment) → 0 < s.len → segment_bits v s ≤ 35 * s.len
@@ -48,18 +46,9 @@ pub next-covers : (xs : List ℕ) (segs : List Segment) (i : ℕ) (d : Segment) 
 unfolding CoversBy
 next-covers xs segs i d h a b c e = search (arith, by-covers, drop-cons, covers-by, suits-by)
 
--- if no segment is left, exactly the empty list of bytes is covered
-pub covers-end : (xs : List ℕ) (segs : List Segment) (i : ℕ) → length segs ≤ i → (Covers xs (drop i segs) → xs ≡ []) × (xs ≡ [] → Covers xs (drop i segs))
-unfolding CoversBy
-covers-end xs segs i h = search (arith, drop_all, covers-by, by-covers)
-
--- three bytes have at least ten bits as data
-pub payload-least : (m : Mode) (n : ℕ) → 10 * n ≤ 3 * payload_bits m n
-payload-least m n = grind arith
-
 -- a segment has at least its indicator, its count, and ten bits for three bytes
 pub segment-least : (v : ℕ) (s : Segment) → 10 * s.len + 3 * (4 + count_width v s.mode) ≤ 3 * segment_bits v s
-segment-least v s = omega (arith, payload-least s.mode s.len)
+segment-least v s = search arith
 
 -- segments have at least ten bits for three bytes
 pub bits-least : (v : ℕ) (xs : List ℕ) (ts : List Segment) → Suits xs ts → 10 * length xs ≤ 3 * bits v ts

@@ -1,16 +1,13 @@
 -- Fields and digits: what is written is read back, and what is read is written as the same bits.
-use Rattle.std.{proofs.lemmas.Bool.Decides.nat_tests, specs.List.list_all}
+use Rattle.std.{proofs.lemmas.{Bool.{Decides.nat_tests, lt-ltb, ltb-true, and_parts}, List.Elements.{All-nil, All-cons}}, specs.List.list_all}
 use Rattle.std.proofs.Common.{◌≡◌, ℕ, zero, suc, ◌+◌, ◌-◌, ◌*◌, ◌/◌, ◌%◌, ◌^◌, ◌<◌, ◌≤◌, Bool, true, false, cond, ◌==◌, All, List, [], ◌∷◌, ◌++◌, length, take, drop, Result, Ok, Err, refl, sym, ◌∙◌, ap, arith, append_assoc}
-use Rattle.std.proofs.lemmas.{Bool.lt-ltb, Bool.ltb-true, Bool.and_parts, List.Elements.All-nil, List.Elements.All-cons}
-use Rattle.std.proofs.lemmas.List.{length-take-le, length-drop, drop-drop, take-append-drop}
-use Rattle.std.proofs.Math.Seq.{take-append_seam, drop-append_seam}
+use Rattle.std.proofs.{lemmas.List.{length-take-le, length-drop, drop-drop, take-append-drop}, Math.Seq.{take-append_seam, drop-append_seam}}
 use Rattle.std.proofs.{lemmas.Nat.mod-pow-add, Math.Nat.pow-suc, Math.Nat.mod-eq_of_lt}
 use borrow.Author.Tests.{leb-true}
 use Rattle.qr_bits.specs.declared.{modes.Mode.Mode, modes.Mode.TheVariants.Numeric, fault.ParseFault.ParseFault}
 use Rattle.qr_bits.specs.{Bits.field, Bits.value_from, Bits.value, Stream.digit_bits, Stream.payload}
 use Rattle.qr_bits.specs.{Modes.{byte_count, payload_bits, suits, is_digit}, Parsing.{digit, digits_of}}
-use Rattle.qr_bits.proofs.lemmas.bits.BitLemmas.{length-field, value-below}
-use Rattle.qr_bits.proofs.lemmas.{stream.WritingLemmas.three-more, parsing.ParsingLemmas.{bind-ok, same-ok}}
+use Rattle.qr_bits.proofs.lemmas.{bits.BitLemmas.{length-field, value-below}, stream.WritingLemmas.three-more, parsing.ParsingLemmas.{bind-ok, same-ok}}
 
 bit-step : (a d : ℕ) (bs : List Bool) → d < 2 → value_from a ((d == 1) ∷ bs) ≡ value_from (2 * a + d) bs
 bit-step a d bs h = grind arith
@@ -75,14 +72,12 @@ digits-again (a ∷ []) rest h =
     let r = read-field 4 (a - 48) rest (omega arith) in
     grind (arith, lt-ltb)
 digits-again (a ∷ b ∷ []) rest h =
-    let g = 10 * (a - 48) + (b - 48) in
-    let r = read-field 7 g rest (omega arith) in
+    let r = read-field 7 (10 * (a - 48) + (b - 48)) rest (omega arith) in
     grind (arith, lt-ltb)
 digits-again (a ∷ b ∷ c ∷ xs) rest h =
     let g = 100 * (a - 48) + 10 * (b - 48) + (c - 48) in
     let r = read-field 10 g (digit_bits xs ++ rest) (omega arith) in
-    let d = drop-field 10 g (digit_bits xs ++ rest) in
-    search (arith, append_assoc, lt-ltb, digits-again xs rest h.2.2.2)
+    search (arith, append_assoc, lt-ltb, digits-again xs rest h.2.2.2, drop-field 10 g (digit_bits xs ++ rest))
 
 -- a conditional between a result and a fault that succeeds is the result
 pub chosen-ok : {A : Type 0} (b : Bool) (r : Result A ParseFault) (f : ParseFault) (y : A) → cond b r (Err f) ≡ Ok y → (b ≡ true) × (r ≡ Ok y)
@@ -104,22 +99,19 @@ unfolding digits_of digit_bits payload
 digits-takes zero xs bs h e = search (arith, same-ok, All-nil)
 digits-takes (suc zero) xs bs h e =
     let g = value (take 4 bs) in
-    let c = chosen-ok _ _ _ xs e in
-    let low : g < 10 = ltb-true _ _ c.0 in
+    let low : g < 10 = ltb-true _ _ (chosen-ok _ _ _ xs e).0 in
     let back : digit g - 48 ≡ g = omega arith in
     let whole : bs ≡ field 4 (value (take 4 bs)) ++ drop 4 bs = cc (field-read 4 bs h, take-append-drop 4 bs) in
     search (arith, same-ok, All-cons, All-nil, is_digit-digit)
 digits-takes (suc (suc zero)) xs bs h e =
-    let g = value (take 7 bs) in
     let c = chosen-ok _ _ _ xs e in
-    let low : g < 100 = ltb-true _ _ c.0 in
+    let low : (value (take 7 bs)) < 100 = ltb-true _ _ c.0 in
     let whole : bs ≡ field 7 (value (take 7 bs)) ++ drop 7 bs = cc (field-read 7 bs h, take-append-drop 7 bs) in
     search (arith, same-ok, All-cons, All-nil, is_digit-digit)
 digits-takes (suc (suc (suc n))) xs bs h e =
-    let g = value (take 10 bs) in
     let c = chosen-ok _ _ _ xs e in
     let b = bind-ok (digits_of n (drop 10 bs)) _ xs c.1 in
-    let low : g < 1000 = ltb-true _ _ c.0 in
+    let low : (value (take 10 bs)) < 1000 = ltb-true _ _ c.0 in
     let three : suc (suc (suc n)) ≡ 3 + n = omega arith in
     let room : 10 + payload_bits Numeric n ≤ length bs = rw (← three-more n, ← three) h in
     let w = digits-takes n b.0 (drop 10 bs) (omega (arith, length-drop 10 bs)) b.1 in

@@ -1,12 +1,10 @@
 -- Writing the data of a segment, group by group, and the length of what is written.
-use Rattle.std.proofs.Common.{◌≡◌, ℕ, ◌+◌, ◌-◌, ◌*◌, ◌/◌, ◌<◌, ◌≤◌, Bool, true, ◌&&◌, List, [], ◌∷◌, ◌++◌, length, get_or, take, drop, refl, sym, ◌∙◌, arith, length-append, append_assoc}
+use Rattle.std.proofs.Common.{◌≡◌, ℕ, ◌+◌, ◌-◌, ◌*◌, ◌/◌, ◌<◌, ◌≤◌, Bool, true, ◌&&◌, List, [], ◌∷◌, ◌++◌, length, get_or, take, drop, refl, sym, ◌∙◌, arith, length-append}
 use Rattle.std.proofs.lemmas.{Bool.and_parts, Bool.false≢true, List.length-take-le, List.drop_all, List.take-append-drop, List.Folds.list_all-append}
-use Rattle.{std.{proofs.Math.Seq.drop-cons, specs.List.list_all}, qr_bits.specs.Segmentation.{segment_bits, bits}}
-use Rattle.qr_bits.specs.{declared.modes.Mode.Mode, declared.segmentation.Segment.Segment, Bits.field}
-use Rattle.qr_bits.specs.declared.modes.Mode.TheVariants.{Numeric, Alphanumeric, Kanji}
-use Rattle.qr_bits.specs.Modes.{payload_bits, in_twos, is_kanji_pair, suits, kanji_value, character_value}
+use Rattle.{std.{proofs.Math.Seq.drop-cons, specs.List.list_all}, qr_bits.specs.Segmentation.bits}
+use Rattle.qr_bits.specs.{declared.{modes.Mode.{Mode, TheVariants.{Numeric, Alphanumeric, Kanji}}, segmentation.Segment.Segment}, Bits.field}
+use Rattle.qr_bits.{specs.Modes.{payload_bits, in_twos, is_kanji_pair, suits, character_value}, proofs.lemmas.bits.BitLemmas.{length-field, length-bits_of}}
 use Rattle.qr_bits.specs.Stream.{kanji_bits, digit_bits, character_bits, payload, segment_stream, segments_stream, Suits}
-use Rattle.qr_bits.proofs.lemmas.bits.BitLemmas.{length-field, length-bits_of}
 
 -- if all bytes pass a test, the bytes after the first n pass it
 pub all-rest : (p : ℕ → Bool) (xs : List ℕ) (n : ℕ) → list_all p xs ≡ true → list_all p (drop n xs) ≡ true
@@ -18,17 +16,6 @@ pub digits-three : (xs : List ℕ) → 3 ≤ length xs
 unfolding digit_bits
 digits-three xs h = grind arith
 
--- a pair of characters, and the characters after it
-pub characters-two : (xs : List ℕ) → 2 ≤ length xs
-    → character_bits xs ≡ field 11 (45 * character_value (get_or xs 0 0) + character_value (get_or xs 1 0)) ++ character_bits (drop 2 xs)
-unfolding character_bits
-characters-two xs h = grind arith
-
--- a pair, and the pairs after it
-pub kanji-two : (xs : List ℕ) → 2 ≤ length xs → kanji_bits xs ≡ field 13 (kanji_value (get_or xs 0 0) (get_or xs 1 0)) ++ kanji_bits (drop 2 xs)
-unfolding kanji_bits
-kanji-two xs h = grind arith
-
 -- bytes pass a test two by two if the first two pass it, and the rest two by two
 pub in_twos-step : (test : ℕ → ℕ → Bool) (xs : List ℕ) → 2 ≤ length xs → in_twos test xs ≡ test (get_or xs 0 0) (get_or xs 1 0) && in_twos test (drop 2 xs)
 in_twos-step test xs n = grind arith
@@ -36,10 +23,6 @@ in_twos-step test xs n = grind arith
 -- three digits more have ten bits more
 pub three-more : (n : ℕ) → payload_bits Numeric (3 + n) ≡ 10 + payload_bits Numeric n
 three-more n = search arith
-
--- two characters more have eleven bits more
-pub two-more : (n : ℕ) → payload_bits Alphanumeric (2 + n) ≡ 11 + payload_bits Alphanumeric n
-two-more n = omega arith
 
 -- digits take as many bits as `payload_bits` says
 length-digit_bits : (xs : List ℕ) → length (digit_bits xs) ≡ payload_bits Numeric (length xs)
@@ -53,7 +36,7 @@ length-character_bits : (xs : List ℕ) → length (character_bits xs) ≡ paylo
 unfolding character_bits
 length-character_bits [] = refl
 length-character_bits (a ∷ []) = length-field 6 (character_value a)
-length-character_bits (a ∷ b ∷ xs) = search (arith, length-append, length-field, two-more, length-character_bits xs)
+length-character_bits (a ∷ b ∷ xs) = search (arith, length-append, length-field, length-character_bits xs)
 
 -- bytes that pass a test two by two are even in number
 pub in_twos-even : (test : ℕ → ℕ → Bool) (xs : List ℕ) → in_twos test xs ≡ true → 2 * (length xs / 2) ≡ length xs
@@ -74,16 +57,12 @@ pub length-payload : (m : Mode) (xs : List ℕ) → suits m xs ≡ true → leng
 unfolding payload
 length-payload m xs h = grind (arith, length-digit_bits, length-character_bits, length-bits_of, length-kanji_bits)
 
-length-segment_stream : (v n : ℕ) (m : Mode) (xs : List ℕ) → suits m xs ≡ true → length xs ≡ n → length (segment_stream v m xs) ≡ segment_bits v (record { mode = m; len = n })
-unfolding segment_stream
-length-segment_stream v n m xs h e = search (arith, length-append, length-field, length-payload)
-
 -- the length of the stream of segments
 pub length-segments_stream : (v : ℕ) (xs : List ℕ) (segs : List Segment) → Suits xs segs → length (segments_stream v xs segs) ≡ bits v segs
-unfolding segments_stream Suits
+unfolding segments_stream Suits segment_stream
 length-segments_stream v xs [] h = refl
 length-segments_stream v xs (s ∷ ss) h =
-    search (arith, length-segment_stream, length-take-le, length-append, length-segments_stream v (drop s.len xs) ss h.2)
+    search (arith, length-take-le, length-append, length-field, length-payload, length-segments_stream v (drop s.len xs) ss h.2)
 
 -- the stream of the segments from index i on
 pub stream-next : (v : ℕ) (xs : List ℕ) (segs : List Segment) (i : ℕ) (d : Segment) → i < length segs
@@ -95,7 +74,3 @@ stream-next v xs segs i d h = search (arith, drop-cons)
 pub stream-end : (v : ℕ) (xs : List ℕ) (segs : List Segment) (i : ℕ) → length segs ≤ i → segments_stream v xs (drop i segs) ≡ []
 unfolding segments_stream
 stream-end v xs segs i h = rw (drop_all i segs h) refl
-
--- one more part is written, and the rest is still to be written
-pub append-next : (p part t whole n : List Bool) → whole ≡ p ++ (part ++ t) → n ≡ p ++ part → n ++ t ≡ whole
-append-next p part t whole n e f = rw f (append_assoc p part t ∙ sym e)

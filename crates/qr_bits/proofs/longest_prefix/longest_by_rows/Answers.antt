@@ -1,8 +1,7 @@
-use Rattle.std.proofs.Common.{◌≡◌, ℕ, ◌+◌, ◌≤◌, ◌<◌, [], ◌∷◌, take, length, get_or, arith, ⊎_elim}
-use Rattle.std.proofs.{lemmas.Bool.cases_lt, Math.Nat.le_refl}
+use Rattle.std.proofs.{Common.{rules, ◌≡◌, ℕ, ◌+◌, ◌≤◌, ◌<◌, [], ◌∷◌, take, length, get_or, arith, ⊎_elim}, lemmas.Bool.cases_lt, Math.Nat.le_refl}
 use Rattle.qr_bits.specs.{declared.interpretation.Interpretation.Interpretation, Steps.RunState.is_gs1}
 use Rattle.qr_bits.specs.{Modes.is_kanji_pair, Steps.RunState.swapped, Steps.BestModes.in_state, Steps.BestModes.IsRow}
-use Rattle.qr_bits.proofs.lemmas.best_modes.TableLemmas.{some-interpretation, best-none, small-more, small-row, zeros, zeros-small}
+use Rattle.qr_bits.proofs.lemmas.best_modes.TableLemmas.{some-interpretation, best-none, small-more, small-row, zeros}
 use Rattle.qr_bits.proofs.lemmas.longest_prefix.MirrorLemmas.{empty-fits, none-longer, prefix-more, prefix-fits, prefix-least}
 use Rattle.qr_bits.proofs.longest_prefix.longest_by_rows.Goals as goal
 use Rattle.qr_bits.proofs.longest_prefix.longest_by_rows.Goals.{then-from-room, else-from-room+else-from-room-2}
@@ -21,7 +20,7 @@ loop-i-init c = record {
   inside = le_refl 0;
   fits = λ n g. empty-fits n c.args.version c.args.rule _;
   longest = λ n g k h fit. h;
-  small = zeros-small _;
+  small = search (rules, zeros);
   best = ([], λ n g. best-none n c.args.version c.args.rule (swapped is_kanji_pair) _ zeros);
 }
 
@@ -55,8 +54,7 @@ loop-i-preserved c =
             inside = more _ _ inv.inside;
             fits = inv.fits;
             longest = λ n g k h fit. ⊎_elim (λ (l : i < k).
-                let e = last i k l h in
-                absurd (omega (arith, prefix-least n v r (take (i + 1) xs) _ _ room (b n g) (rw e at fit), c.from.ensures)))
+                absurd (omega (arith, prefix-least n v r (take (i + 1) xs) _ _ room (b n g) (rw (last i k l h) at fit), c.from.ensures)))
                 (λ (l : k ≤ i). inv.longest n g k l fit) (cases_lt i k);
             small = small;
             best = (c.row_of.result.0 ∷ inv.best.0, b);

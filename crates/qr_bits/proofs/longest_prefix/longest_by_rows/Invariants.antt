@@ -1,8 +1,6 @@
 use Rattle.std.proofs.Common.{◌≡◌, ℕ, ◌*◌, ◌≤◌, List, reverse, take}
-use Rattle.qr_bits.specs.declared.interpretation.Interpretation.{Interpretation}
-use Rattle.qr_bits.specs.{declared.run_state.RunState.RunState, Segmentation.HasFit, Modes.is_kanji_pair}
-use Rattle.qr_bits.specs.Steps.{RunState.is_gs1, RunState.swapped, BestModes.bits_at, BestModes.follow_in}
-use Rattle.qr_bits.proofs.lemmas.run_state.BestLemmas.{BestBelow}
+use Rattle.qr_bits.specs.{declared.{interpretation.Interpretation.Interpretation, run_state.RunState.RunState}, Segmentation.HasFit, Modes.is_kanji_pair}
+use Rattle.qr_bits.{specs.Steps.{RunState.{is_gs1, swapped}, BestModes.{bits_at, follow_in}}, proofs.lemmas.run_state.BestLemmas.BestBelow}
 use Rattle.qr_bits.proofs.longest_prefix.longest_by_rows.Given as goal
 
 -- the longest so far, and the best rests of the prefix that was looked at, read backwards

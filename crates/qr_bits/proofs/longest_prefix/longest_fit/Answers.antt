@@ -1,9 +1,10 @@
-use Rattle.std.proofs.Common.{rules}
-use Rattle.{std.proofs.Common.{arith}, qr_bits.proofs.lemmas.segmentation.{BytesOnlyLemmas.{bytes-longest, whole-longest}}}
+use Rattle.qr_bits.proofs.lemmas.segmentation.BytesOnlyLemmas.{bytes-fit}
+use Rattle.std.proofs.{lemmas.List.take_all, Math.Nat.le_refl}
+use Rattle.{std.proofs.Common.arith, qr_bits.proofs.lemmas.segmentation.BytesOnlyLemmas.bytes-longest}
 use Rattle.qr_bits.proofs.longest_prefix.longest_fit.Goals as goal
 
 pub returns-then-input-most : goal.returns-then-input-most
-returns-then-input-most c = search (rules, whole-longest)
+returns-then-input-most c = search (arith, le_refl, take_all, bytes-fit)
 
 pub returns-in-BytesOnly : goal.returns-in-BytesOnly
 returns-in-BytesOnly c =

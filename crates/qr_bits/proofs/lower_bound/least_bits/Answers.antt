@@ -5,6 +5,5 @@ use Rattle.qr_bits.proofs.lower_bound.least_bits.Goals as goal
 pub returns-clause-least : goal.returns-clause-least
 unfolding least_bits
 returns-clause-least c i v room r fit =
-    let inv = c.loop-byte.invariant in
-    let all = inv.so_far ∙ ap (sum_by least_sixths) (take_all c.loop-byte.byte-index c.args.input.now (omega arith)) in
+    let all = c.loop-byte.invariant.so_far ∙ ap (sum_by least_sixths) (take_all c.loop-byte.byte-index c.args.input.now (omega arith)) in
     omega (arith, least-held i v r c.args.input.now room fit)

@@ -1,11 +1,8 @@
-use Rattle.std.proofs.Common.{◌≡◌, ℕ, ◌+◌, ◌*◌, ◌^◌, ◌<◌, ◌≤◌, ◌++◌, refl, arith, length-append, rules}
-use Rattle.std.specs.Cow.{cow_slice_items}
-use Rattle.qr_bits.specs.{Header.header_bits, Header.header_stream, Stream.segments_stream, Stream.IsStream}
-use Rattle.qr_bits.specs.Interpretation.{interpretation_stream}
-use Rattle.qr_bits.proofs.lemmas.segmentation.SegmentLemmas.{covers-all, bits-most, bits-least}
+use Rattle.std.{proofs.Common.{◌≡◌, ℕ, ◌+◌, ◌*◌, ◌^◌, ◌<◌, ◌≤◌, ◌++◌, refl, arith, length-append, rules}, specs.Cow.cow_slice_items}
+use Rattle.qr_bits.specs.{Header.{header_bits, header_stream}, Stream.{segments_stream, IsStream}, Interpretation.interpretation_stream}
+use Rattle.qr_bits.proofs.lemmas.{segmentation.SegmentLemmas.{covers-all, bits-most, bits-least}, padding.CountLemmas.{capacity-most, counts_fit}}
 use Rattle.qr_bits.proofs.lemmas.{stream.WritingLemmas.length-segments_stream, segmentation.CoverLemmas.covers-suits}
 use Rattle.qr_bits.proofs.lemmas.padding.PaddingLemmas.{is-data, length-header_stream, length-interpretation_stream}
-use Rattle.qr_bits.proofs.lemmas.padding.CountLemmas.{capacity-most, counts_fit}
 use Rattle.qr_bits.proofs.padding.codewords.Goals.{in-None, in-Some}
 use Rattle.qr_bits.proofs.padding.codewords.Goals as goal
 
@@ -40,21 +37,20 @@ returns-clause-ok c =
     let xs = cow_slice_items c.args.segmented.now.characters in
     let segs = c.args.segmented.now.segments.items in
     let suit = covers-suits xs segs c.requires.covered in
-    let k = c.capacity-capacity.ensures in
     let bits = rw c.deref.ensures.value at c.bit_len.ensures in
-    let left = room _ _ _ _ _ _ _ _ head c.interpretation_bits.ensures.value bits k.value c.if-used-capacity.false in
+    let left = room _ _ _ _ _ _ _ _ head c.interpretation_bits.ensures.value bits c.capacity-capacity.ensures.value c.if-used-capacity.false in
     let is : IsStream c.args.version xs segs c.args.header c.args.interpretation ((header_stream c.args.header ++ interpretation_stream c.args.interpretation) ++ segments_stream c.args.version xs segs) = record {
       bytes = rw c.deref-2.ensures.value at c.in_ok-put_segments.ensures.1;
       suit = suit;
       counts = counts_fit c.args.version c.args.level segs (omega arith) (omega arith) left.1;
-      header = λ h e. let r = c.requires.in_range h e in (r.0, r.1, c.in_ok-put_header.ensures.1 h e);
+      header = λ h e. let r = c.requires.in_range h e in (r.0, r.1, c.in_ok-put_start.ensures.1 h e);
       interpretation = c.requires.number;
       whole = refl;
     } in
-    is-data c.args.version c.args.level xs segs c.args.header c.args.interpretation _ (c.match-header.header_bits + c.interpretation_bits.result + c.bit_len.result) c.into_codewords-codewords.result.items _ is
+    is-data c.args.version c.args.level xs segs c.args.header c.args.interpretation _ (c.match-header.header_bits + c.interpretation_bits.result + c.bit_len.result) c.in_ok-codewords.codewords.items _ is
     (rw (length-append (header_stream c.args.header ++ interpretation_stream c.args.interpretation) (segments_stream c.args.version xs segs), length-append (header_stream c.args.header) (interpretation_stream c.args.interpretation), length-header_stream c.args.header, length-interpretation_stream c.args.interpretation, length-segments_stream c.args.version xs segs suit, head, c.interpretation_bits.ensures.value, bits) refl)
     left.0
-    (rw (c.into_codewords-codewords.ensures, c.in_ok-fill.ensures, c.in_ok-put.ensures, c.in_ok-put_segments.ensures.0, c.in_ok-put_interpretation.ensures, c.in_ok-put_header.ensures.0, c.in_ok-writer.ensures, c.deref-2.ensures.value, c.deref-3.ensures.value, c.min.ensures, ← c.capacity-capacity.ensures.value))
+    (rw (c.in_ok-codewords.ensures, c.in_ok-put.ensures, c.in_ok-put_segments.ensures.0, c.in_ok-put_start.ensures.0, c.in_ok-writer.ensures, c.deref-2.ensures.value, c.deref-3.ensures.value, c.min.ensures, ← c.capacity-capacity.ensures.value))
     (search arith) c.in_ok-pad.ensures.1
 
 pub returns-clause-too_long : goal.returns-clause-too_long

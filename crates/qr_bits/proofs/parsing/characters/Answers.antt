@@ -1,6 +1,5 @@
 use Rattle.std.proofs.{Common.{◌-◌, [], ◌∷◌, arith, rules}, lemmas.Bool.le-ltb}
-use Rattle.qr_bits.specs.{Parsing.characters_of}
-use Rattle.qr_bits.proofs.lemmas.parsing.PayloadLemmas.{characters-step, group-read, fails}
+use Rattle.qr_bits.{specs.Parsing.characters_of, proofs.lemmas.parsing.PayloadLemmas.{characters-step, group-read, fails}}
 use Rattle.qr_bits.proofs.parsing.characters.Goals as goal
 
 pub returns-then-pair-ge-PAIRS : goal.returns-then-pair-ge-PAIRS

@@ -1,6 +1,5 @@
 use Rattle.std.proofs.{Common.{arith, rules}, lemmas.List.Sums.sum_by-drop_more, lemmas.List.Sums.sum_by-take-drop}
-use Rattle.qr_bits.specs.declared.segmentation.Segment.{Segment}
-use Rattle.qr_bits.proofs.lemmas.segmentation.SegmentLemmas.{bits-drop, bits-most, past_end}
+use Rattle.qr_bits.{specs.declared.segmentation.Segment.Segment, proofs.lemmas.segmentation.SegmentLemmas.{bits-drop, bits-most, past_end}}
 use Rattle.qr_bits.proofs.segmentation.bit_len.Goals as goal
 
 pub overflow_add-bits-in-loop-segment : goal.overflow_add-bits-in-loop-segment

@@ -1,6 +1,5 @@
-use Rattle.std.proofs.Common.{arith, rules}
-use Rattle.std.proofs.lemmas.{Bool.false≢true, Bool.eqb-true, Bool.eq-eqb, List.nil_from_length}
-use Rattle.qr_bits.proofs.lemmas.segmentation.SegmentLemmas.{covers-next, next-covers, covers-end, past_end}
+use Rattle.qr_bits.proofs.lemmas.segmentation.{CoverLemmas.{CoversBy, by-covers, covers-by}, SegmentLemmas.{covers-next, next-covers, past_end}}
+use Rattle.std.proofs.{lemmas.{List.{drop_all, nil_from_length}, Bool.{false≢true, eqb-true, eq-eqb}}, Common.{arith, rules}}
 use Rattle.qr_bits.proofs.segmentation.covers.Goals as goal
 
 pub returns-then-len-eq0 : goal.returns-then-len-eq0
@@ -18,4 +17,5 @@ pub loop-segment-preserved : goal.loop-segment-preserved
 loop-segment-preserved c = search (arith, past_end, next-covers, covers-next)
 
 pub returns : goal.returns
-returns c = search (rules, covers-end, nil_from_length, eqb-true, eq-eqb)
+unfolding CoversBy
+returns c = search (rules, nil_from_length, eqb-true, eq-eqb, drop_all, covers-by, by-covers)

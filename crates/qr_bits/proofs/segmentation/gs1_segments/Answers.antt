@@ -1,5 +1,4 @@
-use Rattle.std.proofs.Common.{◌≡◌, false, true, not, ◌&&◌, sym, ◌∙◌, refl}
-use Rattle.std.specs.List.{list_all}
+use Rattle.std.{proofs.Common.{◌≡◌, false, true, not, ◌&&◌, sym, ◌∙◌, refl}, specs.List.list_all}
 use Rattle.qr_bits.specs.{declared.interpretation.Interpretation.TheVariants.Gs1, Steps.RunState.is_gs1, Steps.Segmentation.is_itself}
 use Rattle.qr_bits.proofs.lemmas.segmentation.InterpretedLemmas.{least-interpreted}
 use Rattle.qr_bits.proofs.segmentation.gs1_segments.Goals as goal

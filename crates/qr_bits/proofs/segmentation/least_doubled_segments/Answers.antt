@@ -1,8 +1,8 @@
+use Rattle.std.proofs.{lemmas.{List.{drop_more, reverse-append, append-nil, drop_all, take_all}, Bool.ne_eqb}, Math.Nat.le_refl}
 use Rattle.std.proofs.Common.{◌≡◌, ◌+◌, ◌-◌, ◌<◌, ◌≤◌, cond, vec_len, [], ◌∷◌, ◌++◌, length, get_or, take, drop, reverse, refl, sym, ◌∙◌, arith, rules}
-use Rattle.std.proofs.{Math.Nat.le_refl, lemmas.{Bool.ne_eqb, List.{append-nil, drop_all, take_all}}}
 use Rattle.qr_bits.specs.declared.{interpretation.Interpretation.TheVariants.Gs1, run_state.RunState.TheVariants.Start}
 use Rattle.qr_bits.specs.{Interpretation.{character_for, characters_gs1, doubled_gs1, is_doubled, percent}, Segmentation.runs_of, Steps.BestModes.follow_in, Steps.Segmentation.{is_escaped}, Steps.RunState.{state_after, state_in, state_on}}
-use Rattle.qr_bits.proofs.lemmas.segmentation.{AssignedLemmas.assignment-from-table, DoubledRunLemmas.{IsWritten, escaped-more, flags-next, percent-character, plain-character, plain-more, separator-character, unescaped, written_more}}
+use Rattle.qr_bits.proofs.lemmas.segmentation.{AssignedLemmas.assignment-from-table, DoubledRunLemmas.{IsWritten, escaped-more, percent-character, plain-character, plain-more, separator-character, unescaped, written_more}}
 use Rattle.qr_bits.proofs.lemmas.best_modes.{ChoiceLemmas.on-after}
 use Rattle.qr_bits.proofs.segmentation.least_doubled_segments.Goals as goal
 use Rattle.qr_bits.proofs.segmentation.least_doubled_segments.Goals.{then-is_escaped+in_ok-put_escape+then-input-i-eq37, then-is_escaped+in_ok-put_escape+else-input-i-eq37, else-is_escaped}
@@ -71,7 +71,7 @@ loop-row-init c =
       fewer = le_refl (vec_len c.pop.new.self);
       written = rw (at.2, put.0)
           (written_more c.pop.new.self.items c.in-Some.modes m c.next_run.new.found.items f.len e.run.len e.run.state e.characters.items e.copied inv at.1
-          c.in-Some.ensures.items c.mode_at.ensures run.0 run.3 run.4 put.1 put.2 put.4 put.3);
+          c.in-Some.ensures.items c.mode_at.ensures run.0 (run.3, run.4) put.1 put.2 put.4 put.3);
     }
 
 pub next_run-requires-in-Some-pop_unflagged-clause-short : goal.next_run-requires-in-Some-pop_unflagged-clause-short
@@ -100,7 +100,7 @@ loop-row-preserved c =
     let x = get_or input i 0 in
     let m = c.mode_at-in-Some-pop_unflagged.result in
     let run = c.in_ok-run-2.ensures in
-    let own = plain-character m x (unescaped m x (sym (flags-next input i new.items c.in-Some-pop_unflagged.row inv.flags at.0 row.0).0 ∙ row.2)) in
+    let own = plain-character m x (search (arith, unescaped, reverse-append, drop_more)) in
     record {
       all = l.invariant.all;
       best = l.invariant.best;
@@ -108,7 +108,7 @@ loop-row-preserved c =
       fewer = at.3;
       written = rw (at.1, run.1)
           (written_more new.items c.in-Some-pop_unflagged.row m c.next_run-in-Some-pop_unflagged.new.found.items c.in_ok-run-2.run'.len c.in_ok-run-2.run'.len c.in_ok-run-2.run'.state chars copied inv at.0
-          row.0 c.mode_at-in-Some-pop_unflagged.ensures run.0 run.3 run.4 (rw own.0 refl) (rw own.0 run.2) (rw (own.0, own.1) (plain-more input chars copied i inv.inside at.0)) (omega arith));
+          row.0 c.mode_at-in-Some-pop_unflagged.ensures run.0 (run.3, run.4) (rw own.0 refl) (rw own.0 run.2) (rw (own.0, own.1) (plain-more input chars copied i inv.inside at.0)) (omega arith));
     }
 
 pub loop-modes-preserved : goal.loop-modes-preserved

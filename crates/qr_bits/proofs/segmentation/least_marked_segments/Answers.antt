@@ -1,8 +1,5 @@
-use Rattle.std.proofs.Common.{◌≡◌, map, length, take, drop, ◌++◌, rules, arith}
-use Rattle.std.proofs.lemmas.List.{take_at}
-use Rattle.qr_bits.specs.declared.{interpretation.Interpretation.TheVariants.Default}
-use Rattle.qr_bits.specs.Segmentation.{IsLeastSegmentation}
-use Rattle.qr_bits.specs.Steps.Segmentation.{marked, written_in}
+use Rattle.std.proofs.{Common.{◌≡◌, map, length, take, drop, ◌++◌, rules, arith}, lemmas.List.take_at}
+use Rattle.qr_bits.specs.{declared.interpretation.Interpretation.TheVariants.Default, Segmentation.IsLeastSegmentation, Steps.Segmentation.{marked, written_in}}
 use Rattle.qr_bits.proofs.lemmas.segmentation.MarkedLemmas.{least-marked, marked-length}
 use Rattle.qr_bits.proofs.segmentation.least_marked_segments.Goals as goal
 

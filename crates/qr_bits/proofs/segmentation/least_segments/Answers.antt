@@ -1,7 +1,5 @@
-use Rattle.std.proofs.Common.{◌≡◌, [], length, reverse, refl, sym, ◌∙◌, arith}
-use Rattle.std.proofs.lemmas.List.{append-nil, length-reverse, nil_from_length}
-use Rattle.qr_bits.specs.{declared.run_state.RunState.TheVariants.Start, Segmentation.runs_of}
-use Rattle.qr_bits.specs.Steps.{RunState.state_after, RunState.state_on, BestModes.follow}
+use Rattle.std.proofs.{Common.{◌≡◌, [], length, reverse, refl, sym, ◌∙◌, arith}, lemmas.List.{append-nil, length-reverse, nil_from_length}}
+use Rattle.qr_bits.specs.{declared.run_state.RunState.TheVariants.Start, Segmentation.runs_of, Steps.{RunState.{state_after, state_on}, BestModes.follow}}
 use Rattle.qr_bits.proofs.lemmas.{segmentation.BackLemmas.{found-more}, best_modes.TableLemmas.follow-default, segmentation.AssignedLemmas.assignment-from-table}
 use Rattle.qr_bits.specs.declared.interpretation.Interpretation.TheVariants.{Default}
 use Rattle.qr_bits.proofs.segmentation.least_segments.Goals as goal

@@ -1,9 +1,11 @@
-use Rattle.std.proofs.Common.{rules}
-use Rattle.qr_bits.proofs.lemmas.segmentation.BackLemmas.{other-mode, run-other, run-same, same-mode}
+use Rattle.std.proofs.{lemmas.Bool.{false≢true, ne_eqb, Decides.nat_tests}, Common.{append_assoc, rules}}
+use Rattle.qr_bits.{proofs.lemmas.{run_state.BestLemmas.same-rank, segmentation.BackLemmas.append_mode-last}, specs.Steps.Segmentation.append_mode}
 use Rattle.qr_bits.proofs.segmentation.next_run.Goals as goal
 
 pub returns-then-eq : goal.returns-then-eq
-returns-then-eq c = search (rules, same-mode, run-same)
+unfolding append_mode
+returns-then-eq c = search (rules, append_mode-last, nat_tests)
 
 pub returns : goal.returns
-returns c = search (rules, run-other, other-mode)
+unfolding append_mode
+returns c = search (rules, append_mode-last, ne_eqb, same-rank, append_assoc, false≢true)

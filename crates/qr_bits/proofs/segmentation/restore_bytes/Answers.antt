@@ -1,10 +1,7 @@
-use Rattle.std.proofs.Common.{◌≡◌, ◌+◌, ◌∷◌, take, drop, get_or, arith, refl, rules}
-use Rattle.std.proofs.lemmas.List.{drop_all, drop_more}
-use Rattle.qr_bits.specs.Steps.Segmentation.{written}
-use Rattle.qr_bits.proofs.lemmas.segmentation.SegmentLemmas.{past_end}
-use Rattle.qr_bits.proofs.lemmas.segmentation.MarkedLemmas.{IsRestored, restored-marked, restored-copied, restored-all}
+use Rattle.qr_bits.{specs.Steps.Segmentation.{written_in, written}, proofs.segmentation.restore_bytes.Goals.{in-Alphanumeric, in-Numeric}}
+use Rattle.std.proofs.{lemmas.List.{append-nil, take_all, drop_all, drop_more}, Common.{◌≡◌, ◌+◌, ◌∷◌, take, drop, get_or, arith, refl, rules}}
+use Rattle.qr_bits.proofs.lemmas.segmentation.{SegmentLemmas.past_end, MarkedLemmas.{IsRestored, restored-marked, restored-copied}}
 use Rattle.qr_bits.proofs.segmentation.restore_bytes.Goals as goal
-use Rattle.qr_bits.proofs.segmentation.restore_bytes.Goals.{in-Alphanumeric, in-Numeric}
 
 pub loop-segment-preserved : goal.loop-segment-preserved
 loop-segment-preserved c =
@@ -24,4 +21,5 @@ loop-segment-preserved c =
     ]
 
 pub returns : goal.returns
-returns c = search (rules, drop_all, restored-all)
+unfolding written_in
+returns c = search (rules, drop_all, take_all, append-nil)

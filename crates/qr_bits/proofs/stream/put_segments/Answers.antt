@@ -1,7 +1,5 @@
-use Rattle.std.proofs.Common.{◌<◌, ℕ, append_assoc, arith, append-nil, rules}
-use Rattle.std.proofs.lemmas.List.Elements.{All-from_get_or}
-use Rattle.qr_bits.proofs.lemmas.segmentation.SegmentLemmas.{covers-next, past_end}
-use Rattle.qr_bits.proofs.lemmas.stream.WritingLemmas.{stream-next, stream-end, append-next}
+use Rattle.std.proofs.{Common.{◌<◌, ℕ, append_assoc, arith, append-nil, rules}, lemmas.List.Elements.All-from_get_or}
+use Rattle.qr_bits.proofs.lemmas.{segmentation.SegmentLemmas.{covers-next, past_end}, stream.WritingLemmas.{stream-next, stream-end}}
 use Rattle.qr_bits.proofs.stream.put_segments.Goals as goal
 
 pub split_at-requires : goal.split_at-requires
@@ -17,7 +15,7 @@ loop-segment-preserved c =
     let i = c.loop-segment.segment-index in
     let next = stream-next c.args.version rest segs i past_end c.loop-segment-test.true in
     record {
-      whole = search (arith, append-next, append_assoc);
+      whole = search (rules, append_assoc);
       covered = rw c.split_at.ensures.back (covers-next rest segs i past_end c.loop-segment-test.true c.loop-segment.invariant.covered).3;
       short = omega arith;
     }

@@ -1,12 +1,9 @@
 -- A text is one drawing at most, and those of symbols are parsed.
-use Rattle.std.proofs.Common.{◌≡◌, ◌≤◌, ◌<◌, ◌+◌, ◌∙◌, ℕ, true, false, List, [], ◌∷◌, length, refl, sym, subst, arith, inl, inr, Option, None}
+use Rattle.std.{proofs.Common.{◌≡◌, ◌≤◌, ◌<◌, ◌+◌, ◌∙◌, ℕ, true, false, List, [], ◌∷◌, length, refl, sym, subst, arith, inl, inr, Option, None}, specs.List.All}
 use Rattle.std.proofs.lemmas.List.{length-map, Elements.{All-cons, All-nil}}
-use Rattle.std.specs.List.{All}
 use Rattle.qr_layout.specs.{Version.side_of, Role.{pattern_colour, role_of}, declared.level.Level.Level}
-use Rattle.qr_bits.specs.{declared.stream.Header.Header, declared.modes.Rule.Rule}
-use Rattle.qr_bits.specs.declared.interpretation.Interpretation.{Interpretation}
-use Rattle.qr_matrix.specs.Grid.{Grid, light}
-use Rattle.qr_matrix.proofs.Facts.{colour-square, square-same}
+use Rattle.qr_bits.specs.declared.{stream.Header.Header, modes.Rule.Rule, interpretation.Interpretation.Interpretation}
+use Rattle.qr_matrix.{specs.Grid.{Grid, light}, proofs.Facts.{colour-square, square-same}}
 use Rattle.qr_symbol.specs.{Encoding.{IsSymbol, IsSymbolAt}, Series.{AreSymbolsFrom, IsSeries, squares_of}, Symbol.{colour_of, grid_of}, declared.symbol.Symbol.Symbol}
 use Rattle.qr_symbol.proofs.Facts.{series-few, series-side, series-some}
 use Rattle.qr_drawing.specs.{Drawing.{HaveOneSide, drawn}, declared.drawing.Drawing.Drawing}
@@ -70,13 +67,12 @@ pub symbol-drawing : (kind : Drawing) (margin smallest : ℕ) (l : Level) (rule 
     → margin ≤ 255 → 1 ≤ smallest → IsSymbol smallest l rule how x v mask g → IsDrawingOf kind margin (g ∷ []) (drawn kind margin (g ∷ []))
 symbol-drawing kind margin smallest l rule how x v mask g m some h =
     let least = h.version.least in
-    let most = h.version.most in
     record {
       some = omega arith;
       few = omega arith;
       margin_in = m;
       one_side = search (arith, one-side, All-cons, All-nil);
-      begin = All-cons BeginsAsSymbol g [] (begins-symbol v l rule how x None mask g (omega arith) most h.made) (All-nil BeginsAsSymbol);
+      begin = All-cons BeginsAsSymbol g [] (begins-symbol v l rule how x None mask g (omega arith) h.version.most h.made) (All-nil BeginsAsSymbol);
       is_drawn = refl;
     }
 

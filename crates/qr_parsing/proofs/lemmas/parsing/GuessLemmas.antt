@@ -1,21 +1,15 @@
 -- What the code finds is all that a text can show.
-use Rattle.std.proofs.Common.{◌≡◌, ◌≤◌, ◌<◌, ◌+◌, ◌-◌, ◌*◌, ◌/◌, ◌∙◌, ℕ, Bool, true, false, List, length, map, sym, ap, subst, arith, inl, inr, ◌⊎◌}
+use Rattle.std.{proofs.Common.{◌≡◌, ◌≤◌, ◌<◌, ◌+◌, ◌-◌, ◌*◌, ◌∙◌, ℕ, Bool, true, false, List, map, sym, ap, subst, arith, ◌⊎◌}, specs.List.range_with_len}
 use Rattle.std.proofs.lemmas.List.FromFn.{fill_by_all, get_or-map-range_with_len, length-map-range_with_len}
-use Rattle.std.specs.List.{range_with_len}
-use Rattle.qr_matrix.specs.Grid.{Grid, light, square}
-use Rattle.qr_matrix.proofs.Facts.{colour-square, square-same}
-use Rattle.qr_drawing.specs.declared.drawing.Drawing.{Drawing}
-use Rattle.qr_drawing.specs.declared.drawing.Drawing.TheVariants.{Ascii, AsciiInverse, Utf8, Svg}
-use Rattle.qr_parsing.specs.{Parsing.{IsDrawingOf, IsNoDrawing}, Steps.Parsing.CanBeDrawn, Steps.Sheet.{HasNoSheet, IsSheetOf, ShowsOn, bytes_in, count_in, is_dark_on, kind_in, width_in}, Steps.Text.cells_in}
+use Rattle.qr_matrix.{specs.Grid.{Grid, light, square}, proofs.Facts.{colour-square, square-same}}
+use Rattle.qr_drawing.specs.declared.drawing.Drawing.{Drawing, TheVariants.{Ascii, AsciiInverse, Utf8, Svg}}
+use Rattle.qr_parsing.specs.{Parsing.{IsDrawingOf, IsNoDrawing}, Steps.{Parsing.CanBeDrawn, Sheet.{HasNoSheet, IsSheetOf, ShowsOn, bytes_in, count_in, is_dark_on, kind_in, width_in}}}
 use Rattle.qr_parsing.proofs.lemmas.{sheet.SheetLemmas.{begins-at, corner-dark, diagonal-light, shows-by, square-on}, svg.DocumentLemmas.{svg-kind, svg-sheet}}
 use Rattle.qr_parsing.proofs.lemmas.text.{AsciiLemmas.{inverse-kind, inverse-sheet, plain-kind, plain-sheet}, HalfBlockLemmas.{block-kind, block-sheet}}
 
 -- the type that is computed from a drawing is its type
 pub kind-shown : (kind : Drawing) (margin : ℕ) (squares : List Grid) (text : List ℕ) → IsDrawingOf kind margin squares text → kind_in text ≡ kind
-kind-shown Ascii margin squares text h = plain-kind margin squares text h
-kind-shown AsciiInverse margin squares text h = inverse-kind margin squares text h
-kind-shown Utf8 margin squares text h = block-kind margin squares text h
-kind-shown Svg margin squares text h = svg-kind margin squares text h
+kind-shown kind margin squares text h = grind (arith, plain-kind, inverse-kind, block-kind, svg-kind)
 
 -- the sheet of a drawing shows its squares
 pub sheet-shown : (kind : Drawing) (margin : ℕ) (squares : List Grid) (text : List ℕ) → IsDrawingOf kind margin squares text
@@ -29,25 +23,11 @@ sheet-shown Svg margin squares text h = svg-sheet margin squares text h
 pub too-wide : (text : List ℕ) (kind : Drawing) (width : ℕ) → kind_in text ≡ kind → width ≡ width_in kind text → (width < 8) ⊎ (687 < width) → HasNoSheet text
 too-wide text kind width e f h = search arith
 
--- the number of squares in half blocks is computed as in the definition
-pub block-count : (len lines width : ℕ) (bytes text : List ℕ) → len ≡ length bytes → lines ≡ (width + 1) / 2 → width ≡ width_in Utf8 text → bytes ≡ cells_in text
-    → len / (lines * (width + 1)) ≡ count_in Utf8 text
-block-count len lines width bytes text e f g h = search arith
-
 -- a text without a sheet is no drawing
 pub none-wide : (text : List ℕ) → HasNoSheet text → IsNoDrawing text
 none-wide text wide kind margin squares h =
-    let b = begins-at squares 0 h.begin h.some in
-    let P : Drawing → Type 0 = λ k. ((width_in k text < 8) ⊎ (687 < width_in k text)) ⊎ (16 < count_in k text) in
     let shown = sheet-shown kind margin squares text h in
-    let w = shown.width_is in
-    let n = shown.count_is in
-    let m = h.margin_in in
-    let few = h.few in
-    elim (subst P (kind-shown kind margin squares text h) wide) [
-      | inl bad ↦ elim bad [ inl lt ↦ omega arith | inr gt ↦ omega arith ]
-      | inr many ↦ omega arith
-    ]
+    grind (arith, kind-shown, begins-at squares 0 h.begin h.some, shown.width_is, shown.count_is, h.margin_in, h.few)
 
 -- a drawing of the type k, with the margin m and the squares s, is what the code guessed
 pub record Guessed (kind : Drawing) (width count : ℕ) (bytes : List ℕ) (margin : ℕ) (k : Drawing) (m : ℕ) (s : List Grid) : Type 0 where
@@ -72,8 +52,8 @@ guessed kind width count bytes margin text is light_before dark k m s h =
     let b = begins-at s 0 h.begin h.some in
     let w = shows.width_is in
     let n = shows.count_is in
-    let below : m < margin → ⊥ = λ lt. let x : true ≡ false = sym (corner-dark kind width count bytes m s h.some h.one_side h.begin shows) ∙ light_before m lt in no x in
-    let above : margin < m → ⊥ = λ lt. let x : true ≡ false = sym (dark (omega arith)) ∙ diagonal-light kind width count bytes m s h.some h.one_side h.begin shows margin lt in no x in
+    let below : m < margin → ⊥ = λ lt. let x : true ≡ false = sym (corner-dark kind width count bytes m s h.some h.one_side h.begin shows) ∙ light_before m lt in cc in
+    let above : margin < m → ⊥ = λ lt. let x : true ≡ false = sym (dark (omega arith)) ∙ diagonal-light kind width count bytes m s h.some h.one_side h.begin shows margin lt in cc in
     let f : m ≡ margin = omega arith in
     record {
       kind_is = e;
@@ -87,9 +67,6 @@ guessed kind width count bytes margin text is light_before dark k m s h =
           (λ i lt. square-on kind width count bytes m s h.some h.one_side h.begin shows i (omega arith)
           ∙ ap (λ z. square (width - 2 * z) (λ r c. is_dark_on kind width bytes i (z + r) (z + c))) f);
     }
-  where
-    no : true ≡ false → ⊥
-    no x = cc
 
 -- squares of one side can be drawn
 pub can-be-drawn : (side count : ℕ) (f : ℕ → ℕ → ℕ → Bool) (squares : List Grid) → squares ≡ map (λ k. square side (f k)) (range_with_len 0 count) → 0 < count → count ≤ 16 → CanBeDrawn squares

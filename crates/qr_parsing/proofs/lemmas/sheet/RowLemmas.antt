@@ -1,35 +1,17 @@
 -- Rows of a sheet, whose modules are written as bytes.
-use Rattle.std.proofs.Common.{◌≡◌, ◌≤◌, ◌<◌, ◌+◌, ◌*◌, ◌%◌, ◌∙◌, ◌||◌, not, eqb, ℕ, Bool, true, false, cond, List, get_or, length, refl, sym, ap, subst, arith}
-use Rattle.std.proofs.{Common.{◌++◌, ◌-◌, below_more, drop, take}, Math.Nat.{add-mul, mul-le-mul_right}}
-use Rattle.std.proofs.lemmas.List.{get_or-append_right, get_or-take, get_or_append_left, length-take-le}
+use Rattle.std.proofs.Common.{◌≡◌, ◌≤◌, ◌<◌, ◌+◌, ◌*◌, ◌%◌, ◌∙◌, ◌||◌, eqb, ℕ, Bool, cond, List, get_or, length, sym, ap, subst, arith}
+use Rattle.std.proofs.{Math.Nat.{add-mul, mul-le-mul_right}, lemmas.List.{get_or-append_right, get_or-take, get_or_append_left, length-take-le}}
 use borrow.Rule.Slice.PartMut.{put_mid}
-use mir.Val.{bool_byte}
 use Rattle.qr_matrix.specs.Bytes.{byte_of}
-use Rattle.qr_drawing.specs.declared.drawing.Drawing.{Drawing}
-use Rattle.qr_drawing.specs.declared.drawing.Drawing.TheVariants.{Ascii, AsciiInverse, Utf8, Svg}
+use Rattle.qr_drawing.specs.declared.drawing.Drawing.{Drawing, TheVariants.{Ascii, AsciiInverse, Utf8, Svg}}
 use Rattle.qr_parsing.specs.Steps.Sheet.{HasPlaces, is_dark_byte, is_dark_on, is_sign, place_of}
-
--- the number of a test is the byte of a module
-pub test-byte : (b : Bool) → bool_byte b ≡ byte_of b
-test-byte true = refl
-test-byte false = refl
-
--- a byte of a module says its colour
-pub byte-dark : (b : Bool) (n : ℕ) → n ≡ byte_of b → not (eqb n 0) ≡ b
-byte-dark true n e = rw e refl
-byte-dark false n e = rw e refl
 
 -- if the next row is put after the rows before it, all these rows are there
 pub rows-more : (side row n : ℕ) (xs ys : List ℕ) (byte : ℕ → ℕ → ℕ) → length ys ≡ side → row * side + side ≤ length xs
     → ((r c : ℕ) → r < row → c < side → get_or xs (r * side + c) 0 ≡ byte r c) → ((c : ℕ) → c < side → get_or ys c 0 ≡ byte row c)
     → (r c : ℕ) → r < row + 1 → c < side → get_or (put_mid (row * side) n xs ys) (r * side + c) 0 ≡ byte r c
 rows-more side row n xs ys byte long fits before here r c l m =
-    let front : length (take (row * side) xs) ≡ row * side = omega (arith, length-take-le (row * side) xs) in
-    below_more (λ r. (c : ℕ) → c < side → get_or (put_mid (row * side) n xs ys) (r * side + c) 0 ≡ byte r c) row
-    (λ r l c m. let in_front : r * side + c < row * side = omega (arith, add-mul r 1 side, mul-le-mul_right {m = r + 1} {n = row} side (omega arith)) in
-    get_or_append_left (take (row * side) xs) _ 0 (r * side + c) (omega arith) ∙ (get_or-take (row * side) xs (r * side + c) 0 in_front ∙ before r c l m))
-    (λ c m. get_or-append_right (take (row * side) xs) _ (row * side) (row * side + c) 0 front (omega arith)
-    ∙ (ap (λ k. get_or (ys ++ drop n (drop (row * side) xs)) k 0) (let e : row * side + c - row * side ≡ c = omega arith in e) ∙ (get_or_append_left ys _ 0 c (omega arith) ∙ here c m))) r l c m
+    search (arith, length-take-le, add-mul, mul-le-mul_right, get_or_append_left, get_or-take, get_or-append_right)
 
 -- ---- rows by types of drawing
 
@@ -40,8 +22,7 @@ pub record ReadsBy (kind : Drawing) (step y : ℕ) (signs : ℕ × ℕ) : Type 0
   pub dark : (b : ℕ) → is_sign signs b ≡ is_dark_byte kind y b
 
 twice : (b : Bool) → (b || b) ≡ b
-twice true = refl
-twice false = refl
+twice b = grind arith
 
 pub ascii-reads : (kind : Drawing) (y : ℕ) → kind ≡ Ascii → ReadsBy kind 2 y (35, 35)
 ascii-reads kind y e = subst (λ (z : Drawing). ReadsBy z 2 y (35, 35)) (sym e) (record { steps = λ w k m x. omega arith; dark = λ b. twice (eqb b 35) })

@@ -1,11 +1,8 @@
 -- A sheet shows one margin and one list of squares at most.
-use Rattle.std.proofs.Common.{◌≡◌, ◌≤◌, ◌<◌, ◌+◌, ◌-◌, ◌*◌, ◌∙◌, ℕ, zero, suc, true, false, List, length, sym, ap, subst, arith}
+use Rattle.std.{proofs.Common.{◌≡◌, ◌≤◌, ◌<◌, ◌+◌, ◌-◌, ◌*◌, ◌∙◌, ℕ, zero, suc, true, false, List, length, sym, ap, subst, arith}, specs.List.All}
 use Rattle.std.proofs.{Math.Nat.mul-le-mul, lemmas.{List.ext_get_or, List.Elements.All-get_or}}
-use Rattle.std.specs.List.{All}
-use Rattle.qr_matrix.specs.Grid.{Grid, colour, light, square}
-use Rattle.qr_matrix.proofs.Facts.{square-same}
-use Rattle.qr_drawing.specs.{Drawing.HaveOneSide, Raster.{is_dark_at, raster_width}, Svg.square_at}
-use Rattle.qr_drawing.specs.declared.drawing.Drawing.{Drawing}
+use Rattle.qr_matrix.{specs.Grid.{Grid, colour, light, square}, proofs.Facts.square-same}
+use Rattle.qr_drawing.specs.{Drawing.HaveOneSide, Raster.{is_dark_at, raster_width}, Svg.square_at, declared.drawing.Drawing.Drawing}
 use Rattle.qr_drawing.proofs.Facts.{is_dark_at_above, is_dark_at-inside}
 use Rattle.qr_parsing.specs.{Parsing.{BeginsAsSymbol, IsDrawingOf}, Steps.Sheet.{ShowsOn, is_dark_on}}
 
@@ -20,8 +17,7 @@ begins-at squares k all lt = All-get_or BeginsAsSymbol squares k (light 0) lt al
 -- the rasters of squares of one side are equally wide
 pub one-width : (margin k : ℕ) (squares : List Grid) → HaveOneSide squares → k < length squares
     → raster_width margin (square_at squares k) ≡ raster_width margin (square_at squares 0)
-one-width margin k squares one lt =
-    ap (λ n. 2 * margin + n) (All-get_or (λ g. g.side ≡ (square_at squares 0).side) squares k (light 0) lt one)
+one-width margin k squares one lt = omega (arith, All-get_or)
 
 -- in this module, `text` is a drawing
 module _ (kind : Drawing) (margin : ℕ) (squares : List Grid) (text : List ℕ) (h : IsDrawingOf kind margin squares text) where
@@ -35,7 +31,7 @@ pub separator-light : (margin : ℕ) (squares : List Grid) (kind : Drawing) (tex
 separator-light zero squares kind text h =
     let b = begins-at squares 0 h.begin h.some in
     is_dark_at-inside 0 0 7 (square_at squares 0) (omega (arith, b.least)) (omega (arith, b.least)) ∙ b.separator
-separator-light (suc margin) squares kind text h = is_dark_at_above (suc margin) 0 7 (square_at squares 0) (omega arith)
+separator-light (suc margin) squares kind text h = omega (arith, is_dark_at_above)
 
 -- a sheet also shows the squares if its width, number of rasters and bytes are replaced by equal ones
 pub shows-by : (kind : Drawing) (w v n m : ℕ) (a b : List ℕ) (margin : ℕ) (squares : List Grid) → w ≡ v → n ≡ m → a ≡ b
@@ -94,9 +90,7 @@ pub one-sheet : (kind : Drawing) (width count : ℕ) (bytes : List ℕ) (m n : �
     → 0 < length s → 0 < length t → HaveOneSide s → HaveOneSide t → All BeginsAsSymbol s → All BeginsAsSymbol t
     → ShowsOn kind width count bytes m s → ShowsOn kind width count bytes n t → (m ≡ n) × (s ≡ t)
 one-sheet kind width count bytes m n s t a b o p x y f g =
-    let lt = one-margin kind width count bytes m n s t a b o p x y f g in
-    let gt = one-margin kind width count bytes n m t s b a p o y x g f in
-    let e : m ≡ n = omega (arith, lt, gt) in
+    let e : m ≡ n = omega (arith, one-margin kind width count bytes m n s t a b o p x y f g, one-margin kind width count bytes n m t s b a p o y x g f) in
     let len : length s ≡ length t = sym f.count_is ∙ g.count_is in (
       e,
       ext_get_or (light 0) s t len (λ i l. square-on kind width count bytes m s a o x f i l

@@ -1,23 +1,12 @@
 -- The canvas of an SVG document while it is painted.
 use Rattle.std.proofs.Common.{◌≡◌, ◌≤◌, ◌<◌, ◌≢◌, ◌+◌, ◌*◌, ◌/◌, ◌%◌, ◌∙◌, ◌++◌, ◌&&◌, ◌||◌, leb, ltb, ℕ, Bool, true, false, cond, eqb, List, ◌∷◌, length, drop, take, get_or, set, replicate, refl, sym, ap, arith, inl, inr}
-use Rattle.std.proofs.lemmas.{Bool.cases_lt, Bool.Decides.nat_tests, Nat.div-mul-add, Nat.mod-mul-add}
+use Rattle.std.proofs.{lemmas.{Bool.{cases_lt, Decides.nat_tests}, Nat.{div-mul-add, mod-mul-add}}, Math.Seq.take-append_seam}
 use Rattle.std.proofs.lemmas.List.{length-set, get_or-set_same, get_or-set_other, FromFn.fill_by_all, get_or-replicate, length-replicate}
-use Rattle.std.proofs.Math.Seq.{take-append_seam}
-use Rattle.qr_parsing.specs.Steps.Svg.{canvas_of, is_in_boxes}
-use Rattle.qr_parsing.proofs.lemmas.text.PlaceLemmas.{place-in}
-
--- an index is its row times the width, and its column
-pub split-place : (i w : ℕ) → 0 < w → i / w * w + i % w ≡ i
-split-place i w some = omega arith
-
--- the byte that is painted is 1, as the box up to this column demands
-painted-same : (w y x col : ℕ) (bytes old : List ℕ) → col < w → x ≤ col → y * w + col < length bytes
-    → get_or (set bytes (y * w + col) 1) (y * w + col) 0 ≡ cond (eqb ((y * w + col) / w) y && (leb x ((y * w + col) % w) && ltb ((y * w + col) % w) (col + 1))) 1 (get_or old (y * w + col) 0)
-painted-same w y x col bytes old lt le fits = search (arith, div-mul-add, mod-mul-add, nat_tests, get_or-set_same)
+use Rattle.qr_parsing.{specs.Steps.Svg.{canvas_of, is_in_boxes}, proofs.lemmas.text.PlaceLemmas.place-in}
 
 -- one column more makes no difference to whether another place is in the box
 same-test : (w y x col i : ℕ) → 0 < w → i ≢ y * w + col → (eqb (i / w) y && (leb x (i % w) && ltb (i % w) (col + 1))) ≡ (eqb (i / w) y && (leb x (i % w) && ltb (i % w) col))
-same-test w y x col i some other = search (arith, split-place, nat_tests)
+same-test w y x col i some other = search (arith, nat_tests)
 
 -- if the box is painted up to a column, and one module more is painted, the box is painted up to the next column
 pub painted : (w h y x col : ℕ) (bytes old : List ℕ) → 0 < w → col < w → x ≤ col → y * w + col < length bytes
@@ -27,8 +16,7 @@ painted w h y x col bytes old some lt le fits before i in_i = elim (cases_lt i (
   | inl l ↦ other (omega arith)
   | inr g ↦ elim (cases_lt (y * w + col) i) [
     | inl l ↦ other (omega arith)
-    | inr m ↦ let e : y * w + col ≡ i = omega arith in
-        search (arith, painted-same)
+    | inr m ↦ search (arith, div-mul-add, mod-mul-add, nat_tests, get_or-set_same)
   ]
 ]
   where

@@ -1,12 +1,12 @@
 -- The sheet of an SVG document.
-use Rattle.std.proofs.Common.{◌≡◌, ◌≤◌, ◌<◌, ◌+◌, ◌*◌, ◌/◌, ◌%◌, ◌∙◌, ◌++◌, ℕ, true, false, cond, List, ◌∷◌, suc, length, get_or, drop, refl, sym, ap, subst, arith, append_assoc, append-nil}
+use Rattle.std.proofs.Common.{◌≡◌, ◌≤◌, ◌<◌, ◌+◌, ◌*◌, ◌/◌, ◌%◌, ◌∙◌, ◌++◌, ℕ, true, false, cond, List, ◌∷◌, length, get_or, drop, refl, sym, ap, subst, arith, append_assoc, append-nil}
 use Rattle.std.proofs.{Math.Nat.mul-div_cancel_left, lemmas.Nat.{div-mul-add, mod-mul-add}, lemmas.List.FromFn.get_or-map-range_with_len}
 use Rattle.std.specs.Prelude.{codes, decimal}
 use Rattle.qr_matrix.specs.Grid.{Grid}
 use Rattle.qr_drawing.specs.{Raster.{is_dark_at, raster_width}, Svg.{background, closing, declaration, foreground, numbered, opening, square_at, stack_path, svg_document}}
 use Rattle.qr_drawing.specs.declared.drawing.Drawing.TheVariants.{Svg}
 use Rattle.qr_parsing.specs.{Parsing.IsDrawingOf, Steps.Sheet.{ShowsOn, bytes_in, count_in, is_dark_byte, is_dark_on, kind_in, width_in}, Steps.Svg.{IsPath, canvas_of, is_in_boxes, numbers_after, numbers_in, path_in}}
-use Rattle.qr_parsing.proofs.lemmas.{sheet.SheetLemmas.{one-width, raster-wide, shows-by}, svg.BoxLemmas.{all_numbers, boxes-dark, stack-is-path, stack-read}, svg.NumberLemmas.number-read, svg.PathLemmas.{decimal-passed, path-from}, text.PlaceLemmas.place-in}
+use Rattle.qr_parsing.proofs.lemmas.{sheet.SheetLemmas.{one-width, raster-wide, shows-by, small}, svg.BoxLemmas.{all_numbers, boxes-dark, stack-is-path, stack-read}, svg.NumberLemmas.number-read, svg.PathLemmas.{decimal-passed, path-from}, text.PlaceLemmas.place-in}
 
 -- the numbers before the boxes
 head_numbers : ℕ → ℕ → List ℕ → List ℕ
@@ -34,8 +34,7 @@ document-read : (w h : ℕ) (path numbers : List ℕ) → w ≤ 99999 → h ≤ 
 unfolding head_numbers numbers_after
 document-read w h path numbers a b read =
     let end = codes "\"/>\n" ++ codes "</svg>\n" in
-    let boxes = path ++ end in
-    let last = decimal h ++ ((codes "\" fill=\"#ffffff\"/>\n" ++ codes "<path fill=\"#000000\" d=\"") ++ boxes) in
+    let last = decimal h ++ ((codes "\" fill=\"#ffffff\"/>\n" ++ codes "<path fill=\"#000000\" d=\"") ++ (path ++ end)) in
     let back = decimal w ++ (codes "\" height=\"" ++ last) in
     let second = decimal h ++ ((codes "\" shape-rendering=\"crispEdges\">\n" ++ codes "<rect x=\"0\" y=\"0\" width=\"") ++ back) in
     let some = λ (n : ℕ) (l : List ℕ). n ∷ l in
@@ -53,12 +52,11 @@ document-path w h path a b =
     let boxes = path ++ (codes "\"/>\n" ++ codes "</svg>\n") in
     let last = decimal h ++ ((codes "\" fill=\"#ffffff\"/>\n" ++ codes "<path fill=\"#000000\" d=\"") ++ boxes) in
     let back = decimal w ++ (codes "\" height=\"" ++ last) in
-    let second = decimal h ++ ((codes "\" shape-rendering=\"crispEdges\">\n" ++ codes "<rect x=\"0\" y=\"0\" width=\"") ++ back) in
     ap path_in (document-split w h path)
-    ∙ (decimal-passed (suc w) w (codes " " ++ second) (omega arith) a
-    ∙ (decimal-passed (suc h) h ((codes "\" shape-rendering=\"crispEdges\">\n" ++ codes "<rect x=\"0\" y=\"0\" width=\"") ++ back) (omega arith) b
-    ∙ (decimal-passed (suc w) w (codes "\" height=\"" ++ last) (omega arith) a
-    ∙ decimal-passed (suc h) h ((codes "\" fill=\"#ffffff\"/>\n" ++ codes "<path fill=\"#000000\" d=\"") ++ boxes) (omega arith) b)))
+    ∙ (decimal-passed w (codes " " ++ (decimal h ++ ((codes "\" shape-rendering=\"crispEdges\">\n" ++ codes "<rect x=\"0\" y=\"0\" width=\"") ++ back))) a
+    ∙ (decimal-passed h ((codes "\" shape-rendering=\"crispEdges\">\n" ++ codes "<rect x=\"0\" y=\"0\" width=\"") ++ back) b
+    ∙ (decimal-passed w (codes "\" height=\"" ++ last) a
+    ∙ decimal-passed h ((codes "\" fill=\"#ffffff\"/>\n" ++ codes "<path fill=\"#000000\" d=\"") ++ boxes) b)))
 
 -- in this module, `text` is a drawing
 module _ (margin : ℕ) (squares : List Grid) (text : List ℕ) (h : IsDrawingOf Svg margin squares text) where
@@ -78,13 +76,10 @@ module _ (margin : ℕ) (squares : List Grid) (text : List ℕ) (h : IsDrawingOf
   numbers =
       let w = wide-in in
       let few = h.few in
-      let bound : wide * length squares ≤ 687 * 16 = product wide (length squares) w.1 few in
+      let bound : wide * length squares ≤ 687 * 16 = small wide (length squares) 687 16 w.1 few in
       ap numbers_in h.is_drawn
       ∙ document-read wide high (stack_path margin squares) (all_numbers margin squares) (omega arith) (omega arith)
       (λ rest. stack-read margin squares rest (λ k lt. let e = one-width margin k squares h.one_side lt in omega arith) few)
-    where
-      product : (a b : ℕ) → a ≤ 687 → b ≤ 16 → a * b ≤ 687 * 16
-      product a b l m = grind arith
 
   canvas : List ℕ
   canvas = canvas_of wide high (all_numbers margin squares)
@@ -149,14 +144,11 @@ module _ (margin : ℕ) (squares : List Grid) (text : List ℕ) (h : IsDrawingOf
       let w = wide-in in
       let few = h.few in
       let end = codes "\"/>\n" ++ codes "</svg>\n" in
-      let bound : wide * length squares ≤ 687 * 16 = product wide (length squares) w.1 few in
+      let bound : wide * length squares ≤ 687 * 16 = small wide (length squares) 687 16 w.1 few in
       let is : path_in text ≡ path_in (stack_path margin squares ++ end) = ap path_in h.is_drawn ∙ document-path wide high (stack_path margin squares) (omega arith) (omega arith) in
       let path = stack-is-path margin squares end (λ k lt. let e = one-width margin k squares h.one_side lt in omega arith) few refl in
       let nums : all_numbers margin squares ≡ drop 16 (numbers_in text) = sym (ap (drop 16) numbers) in
       subst (λ n. IsPath n (path_in text)) nums (subst (IsPath (all_numbers margin squares)) (sym is) (path-from (all_numbers margin squares) (stack_path margin squares ++ end) path))
-    where
-      product : (a b : ℕ) → a ≤ 687 → b ≤ 16 → a * b ≤ 687 * 16
-      product a b l m = grind arith
 
   pub svg-kind : kind_in text ≡ Svg
   unfolding svg_document declaration

@@ -1,31 +1,39 @@
 -- The numbers of texts, and which places are in boxes.
-use Rattle.std.proofs.Common.{◌≡◌, ◌≤◌, ◌<◌, ◌+◌, ◌-◌, ◌*◌, ◌/◌, ◌%◌, ◌∙◌, ◌++◌, ◌||◌, ℕ, zero, suc, ◌^◌, Bool, true, false, List, [], ◌∷◌, length, drop, get_or, refl, sym, ap, arith, inl, inr, add-one, append_assoc, drop-cons, length-append}
-use Rattle.std.proofs.Math.Nat.{pow-suc}
+use Rattle.std.proofs.Common.{◌≡◌, ◌≤◌, ◌<◌, ◌+◌, ◌-◌, ◌*◌, ◌/◌, ◌%◌, ◌++◌, ◌||◌, ℕ, zero, suc, ◌^◌, Bool, true, false, List, [], ◌∷◌, length, drop, get_or, refl, ap, arith, inl, inr, add-one, append_assoc, drop-cons, length-append}
+use Rattle.std.proofs.Math.{Bool.or_assoc, Nat.pow-suc}
 use Rattle.std.{proofs.{lemmas.Fmt.{decimal_digit, decimal_step}, lemmas.Bool.cases_lt, lemmas.Bool.Decides.nat_tests}, specs.Prelude.{codes, decimal}}
-use Rattle.qr_drawing.specs.Raster.{texts_below}
-use Rattle.qr_drawing.specs.Svg.{box_path, numbered}
-use Rattle.qr_drawing.proofs.Facts.{no-texts}
-use Rattle.qr_parsing.specs.Steps.Svg.{is_digit, is_in_boxes, leading, numbers_after}
-use Rattle.qr_parsing.proofs.lemmas.text.PlaceLemmas.{texts-first}
+use Rattle.qr_drawing.{specs.{Raster.texts_below, Svg.{box_path, numbered}}, proofs.Facts.no-texts}
+use Rattle.qr_parsing.{specs.Steps.Svg.{is_digit, is_in_boxes, leading, numbers_after}, proofs.lemmas.text.PlaceLemmas.texts-first}
+
+-- what reads the first digit of a number, and each later digit, reads the digits of the number as the number
+pub digits-by : {A : Type 0} (first : List ℕ → A) (next : ℕ → List ℕ → A)
+    → ((d : ℕ) (rest : List ℕ) → d < 10 → first ((48 + d) ∷ rest) ≡ next (0 * 10 + d) rest)
+    → ((m d : ℕ) (rest : List ℕ) → d < 10 → m * 10 + d ≤ 99999 → next m ((48 + d) ∷ rest) ≡ next (m * 10 + d) rest)
+    → (f n : ℕ) (rest : List ℕ) → n < f → n ≤ 99999 → first (decimal n ++ rest) ≡ next n rest
+digits-by first next begin step zero n rest lt le = absurd (omega arith)
+digits-by first next begin step (suc f) n rest lt le = elim (cases_lt n 10) [
+  | inl l ↦ let same : 0 * 10 + n ≡ n = omega arith in cc (decimal_digit n l, begin n rest l)
+  | inr g ↦
+      let whole : n / 10 * 10 + n % 10 ≡ n = omega arith in
+      cc (
+        decimal_step n g (omega arith),
+        append_assoc (decimal (n / 10)) ((48 + n % 10) ∷ []) rest,
+        digits-by first next begin step f (n / 10) ((48 + n % 10) ∷ rest) (omega arith) (omega arith),
+        step (n / 10) (n % 10) rest (omega arith) (omega arith),
+      )
+]
 
 -- one more digit is read as ten times the number before it, plus the digit
 digit-read : (m d : ℕ) (inside : Bool) (rest : List ℕ) → d < 10 → m * 10 + d ≤ 99999 → numbers_after m inside ((48 + d) ∷ rest) ≡ numbers_after (m * 10 + d) true rest
 unfolding numbers_after
 digit-read m d inside rest lt le = search (arith, nat_tests)
 
--- the digits of a number are read as this number
-decimal-read : (f n : ℕ) (rest : List ℕ) → n < f → n ≤ 99999 → numbers_after 0 false (decimal n ++ rest) ≡ numbers_after n true rest
-decimal-read zero n rest lt le = absurd (omega arith)
-decimal-read (suc f) n rest lt le = elim (cases_lt n 10) [
-  | inl l ↦ search (arith, decimal_digit, digit-read)
-  | inr g ↦
-      search (arith, decimal_step, append_assoc, digit-read, decimal-read f (n / 10) ((48 + n % 10) ∷ rest) (omega arith) (omega arith))
-]
-
 -- a number is read whole if a byte that is no digit comes after it
 pub number-read : (n b : ℕ) (rest : List ℕ) → n ≤ 99999 → is_digit b ≡ false → numbers_after 0 false (decimal n ++ (b ∷ rest)) ≡ n ∷ numbers_after 0 false rest
 unfolding numbers_after
-number-read n b rest le e = search (arith, decimal-read)
+number-read n b rest le e =
+    let digits = digits-by (numbers_after 0 false) (λ m. numbers_after m true) (λ d rest lt. digit-read 0 d false rest lt (omega arith)) (λ m d rest lt le. digit-read m d true rest lt le) (suc n) n (b ∷ rest) (omega arith) le in
+    search arith
 
 -- the five numbers of a box
 unfoldable pub box_numbers : ℕ → ℕ → ℕ → List ℕ
@@ -46,19 +54,6 @@ pub box-read : (x y n : ℕ) (rest : List ℕ) → x ≤ 99999 → y ≤ 99999 �
 unfolding box_numbers numbers_after
 box-read x y n rest a b c = search (arith, box-split, number-read)
 
--- if the numbers of each text are known, those of all texts are these, one after the other
-pub texts-read : (n : ℕ) (f g : ℕ → List ℕ) → ((k : ℕ) → k < n → (rest : List ℕ) → numbers_after 0 false (f k ++ rest) ≡ g k ++ numbers_after 0 false rest)
-    → (rest : List ℕ) → numbers_after 0 false (texts_below n f ++ rest) ≡ texts_below n g ++ numbers_after 0 false rest
-texts-read zero f g h rest = cc (no-texts f, no-texts g)
-texts-read (suc n) f g h rest =
-    let more = texts_below n (λ i. f (suc i)) in
-    ap (λ t. numbers_after 0 false (t ++ rest)) (texts-first n f)
-    ∙ (ap (numbers_after 0 false) (append_assoc (f 0) more rest)
-    ∙ (h 0 (omega arith) (more ++ rest)
-    ∙ (ap (λ t. g 0 ++ t) (texts-read n (λ i. f (suc i)) (λ i. g (suc i)) (λ k lt. h (suc k) (omega arith)) rest)
-    ∙ (sym (append_assoc (g 0) (texts_below n (λ i. g (suc i))) (numbers_after 0 false rest))
-    ∙ ap (λ t. t ++ numbers_after 0 false rest) (sym (texts-first n g))))))
-
 -- ---- numbers and boxes that a text begins with
 
 -- one more digit at the beginning is read as ten times the number before it, plus the digit
@@ -66,36 +61,16 @@ leading-digit : (m d : ℕ) (rest : List ℕ) → d < 10 → leading m ((48 + d)
 unfolding leading
 leading-digit m d rest lt = search (arith, nat_tests)
 
--- the digits of a number at the beginning are read as this number
-leading-decimal : (f n : ℕ) (rest : List ℕ) → n < f → n ≤ 99999 → leading 0 (decimal n ++ rest) ≡ leading n rest
-leading-decimal zero n rest lt le = absurd (omega arith)
-leading-decimal (suc f) n rest lt le = elim (cases_lt n 10) [
-  | inl l ↦ search (arith, decimal_digit, leading-digit)
-  | inr g ↦
-      search (arith, decimal_step, append_assoc, leading-digit, leading-decimal f (n / 10) ((48 + n % 10) ∷ rest) (omega arith) (omega arith))
-]
-
 -- a number at the beginning is read whole if a byte that is no digit comes after it
 pub leading-read : (n b : ℕ) (rest : List ℕ) → n ≤ 99999 → is_digit b ≡ false → leading 0 (decimal n ++ (b ∷ rest)) ≡ (n, rest)
 unfolding leading
-leading-read n b rest le e = search (arith, leading-decimal)
+leading-read n b rest le e =
+    let digits = digits-by (leading 0) leading (λ d rest lt. leading-digit 0 d rest lt) (λ m d rest lt le. leading-digit m d rest lt) (suc n) n (b ∷ rest) (omega arith) le in
+    search arith
 
 -- a digit is a byte that is at most 9 more than `0`
 pub digit-by : (b : ℕ) → b < 256 → (b + 208) % 256 ≤ 9 → is_digit b ≡ true
 digit-by b lt le = search (arith, nat_tests)
-
-pub no-digit-by : (b : ℕ) → b < 256 → 9 < (b + 208) % 256 → is_digit b ≡ false
-no-digit-by b lt gt = search (arith, nat_tests)
-
--- a byte that is no digit ends a number
-pub leading-stop : (m b : ℕ) (bytes : List ℕ) → is_digit b ≡ false → leading m (b ∷ bytes) ≡ (m, bytes)
-unfolding leading
-leading-stop m b bytes e = rw e refl
-
--- a digit continues a number
-pub leading-more : (m b : ℕ) (bytes : List ℕ) → is_digit b ≡ true → leading m (b ∷ bytes) ≡ leading (m * 10 + (b - 48)) bytes
-unfolding leading
-leading-more m b bytes e = rw e refl
 
 -- what follows a number is shorter than the text, unless the text is empty
 pub leading-shorter : (m : ℕ) (bytes : List ℕ) → length (leading m bytes).1 ≤ length bytes - 1
@@ -146,15 +121,13 @@ any-false (suc n) p h = rw (h 0 (omega arith)) (any-false n (λ k. p (suc k)) (�
 pub texts-boxes : (r c n : ℕ) (g : ℕ → List ℕ) (p : ℕ → Bool) → ((k : ℕ) → k < n → (rest : List ℕ) → is_in_boxes (g k ++ rest) r c ≡ (p k || is_in_boxes rest r c))
     → (rest : List ℕ) → is_in_boxes (texts_below n g ++ rest) r c ≡ (any_below n p || is_in_boxes rest r c)
 unfolding any_below
-texts-boxes r c zero g p h rest = ap (λ t. is_in_boxes (t ++ rest) r c) (no-texts g)
+texts-boxes r c zero g p h rest = cc (no-texts g)
 texts-boxes r c (suc n) g p h rest =
     let more = texts_below n (λ i. g (suc i)) in
-    ap (λ t. is_in_boxes (t ++ rest) r c) (texts-first n g)
-    ∙ (ap (λ t. is_in_boxes t r c) (append_assoc (g 0) more rest)
-    ∙ (h 0 (omega arith) (more ++ rest)
-    ∙ (ap (λ b. p 0 || b) (texts-boxes r c n (λ i. g (suc i)) (λ i. p (suc i)) (λ k lt. h (suc k) (omega arith)) rest)
-    ∙ or (p 0) (any_below n (λ k. p (suc k))) (is_in_boxes rest r c))))
-  where
-    or : (a b d : Bool) → (a || (b || d)) ≡ ((a || b) || d)
-    or true b d = refl
-    or false b d = refl
+    cc (
+      texts-first n g,
+      append_assoc (g 0) more rest,
+      h 0 (omega arith) (more ++ rest),
+      texts-boxes r c n (λ i. g (suc i)) (λ i. p (suc i)) (λ k lt. h (suc k) (omega arith)) rest,
+      or_assoc (p 0) (any_below n (λ k. p (suc k))) (is_in_boxes rest r c),
+    )

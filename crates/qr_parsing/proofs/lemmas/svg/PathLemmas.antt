@@ -1,12 +1,7 @@
 -- The boxes of a path, one after the other.
-use Rattle.std.proofs.Common.{zero, suc, ◌≡◌, ◌≢◌, ◌≤◌, ◌<◌, ◌+◌, ◌/◌, ◌%◌, ◌∙◌, ◌++◌, ◌⊎◌, ℕ, eqb, not, cond, true, false, List, [], ◌∷◌, length, drop, get_or, decimal, refl, sym, ap, arith, inl, inr, append_assoc, length-append}
-use Rattle.std.proofs.{Math.Seq.drop-append-add, lemmas.{Bool.cases_lt, Bool.Decides.nat_tests, Fmt.{decimal_digit, decimal_nonempty, decimal_step}, List.drop-drop}}
-use Rattle.std.specs.List.{position_or_len}
-use Rattle.qr_drawing.specs.Raster.{texts_below}
-use Rattle.qr_drawing.proofs.Facts.{no-texts}
-use Rattle.qr_parsing.proofs.lemmas.text.PlaceLemmas.{texts-first}
-use Rattle.qr_parsing.specs.Steps.Svg.{IsPath, path_in}
-use Rattle.qr_parsing.proofs.lemmas.svg.NumberLemmas.{box-split}
+use Rattle.std.proofs.Common.{suc, ◌≡◌, ◌≢◌, ◌≤◌, ◌<◌, ◌+◌, ◌∙◌, ◌++◌, ◌⊎◌, ℕ, eqb, not, cond, true, false, List, [], ◌∷◌, length, drop, get_or, decimal, refl, sym, ap, arith, length-append}
+use Rattle.std.{proofs.{Math.Seq.drop-append-add, lemmas.{Bool.Decides.nat_tests, Fmt.decimal_nonempty, List.drop-drop}}, specs.List.position_or_len}
+use Rattle.qr_parsing.{specs.Steps.Svg.{IsPath, path_in}, proofs.lemmas.svg.NumberLemmas.{box-split, digits-by}}
 
 -- what follows the number of modules of a box, its row and its column
 unfoldable pub after_modules : ℕ → List ℕ → List ℕ
@@ -61,13 +56,7 @@ first-box (x ∷ y ∷ n ∷ high ∷ []) bytes h some m = absurd h
 -- a path that is too short for a box, or does not begin with `M`, has no box
 pub no-box : (numbers bytes : List ℕ) → IsPath numbers bytes → (length bytes < 7) ⊎ (get_or bytes 0 0 ≢ 77) → numbers ≡ []
 unfolding after_column after_row after_modules
-no-box [] bytes h none = refl
-no-box (x ∷ y ∷ n ∷ high ∷ back ∷ more) bytes h none =
-    search (arith, box-split, length-append, column-long, decimal_nonempty)
-no-box (x ∷ []) bytes h none = absurd h
-no-box (x ∷ y ∷ []) bytes h none = absurd h
-no-box (x ∷ y ∷ n ∷ []) bytes h none = absurd h
-no-box (x ∷ y ∷ n ∷ high ∷ []) bytes h none = absurd h
+no-box numbers bytes h none = grind (arith, box-split, length-append, column-long, decimal_nonempty)
 
 -- the path of a text begins at its first `M`
 pub path-start : (text : List ℕ) → drop (position_or_len (λ byte. eqb byte 77) text) text ≡ path_in text
@@ -84,32 +73,12 @@ digit-passed : (d : ℕ) (rest : List ℕ) → d < 10 → path_in ((48 + d) ∷ 
 digit-passed d rest lt = search (arith, nat_tests)
 
 -- the path of a text does not begin in a number
-pub decimal-passed : (f n : ℕ) (rest : List ℕ) → n < f → n ≤ 99999 → path_in (decimal n ++ rest) ≡ path_in rest
-decimal-passed zero n rest lt le = absurd (omega arith)
-decimal-passed (suc f) n rest lt le = elim (cases_lt n 10) [
-  | inl l ↦ cc (decimal_digit n l, digit-passed n rest l)
-  | inr g ↦
-      search (arith, decimal_step, append_assoc, digit-passed, decimal-passed f (n / 10) ((48 + n % 10) ∷ rest) (omega arith) (omega arith))
-]
+pub decimal-passed : (n : ℕ) (rest : List ℕ) → n ≤ 99999 → path_in (decimal n ++ rest) ≡ path_in rest
+decimal-passed n rest le = digits-by path_in (λ m. path_in) digit-passed (λ m d rest lt le. digit-passed d rest lt) (suc n) n rest (omega arith) le
 
 -- a path is its own part from the first `M` on
 pub path-from : (numbers bytes : List ℕ) → IsPath numbers bytes → IsPath numbers (path_in bytes)
-path-from [] bytes h = ap path_in h
-path-from (x ∷ y ∷ n ∷ high ∷ back ∷ more) bytes h = search (arith, box-split)
-path-from (x ∷ []) bytes h = absurd h
-path-from (x ∷ y ∷ []) bytes h = absurd h
-path-from (x ∷ y ∷ n ∷ []) bytes h = absurd h
-path-from (x ∷ y ∷ n ∷ high ∷ []) bytes h = absurd h
-
--- if each text put before a path yields a path, so do all texts, one after the other
-pub texts-path : (n : ℕ) (f g : ℕ → List ℕ) → ((k : ℕ) → k < n → (numbers bytes : List ℕ) → IsPath numbers bytes → IsPath (g k ++ numbers) (f k ++ bytes))
-    → (numbers bytes : List ℕ) → IsPath numbers bytes → IsPath (texts_below n g ++ numbers) (texts_below n f ++ bytes)
-texts-path zero f g h numbers bytes path = search (arith, no-texts)
-texts-path (suc n) f g h numbers bytes path =
-    let more = texts_below n (λ i. f (suc i)) in
-    let others = texts_below n (λ i. g (suc i)) in
-    let tail = texts-path n (λ i. f (suc i)) (λ i. g (suc i)) (λ k lt. h (suc k) (omega arith)) numbers bytes path in
-    search (arith, texts-first, append_assoc)
+path-from numbers bytes h = grind (arith, box-split)
 
 -- what follows the `M` begins one byte after it
 pub after-m : (text rest : List ℕ) (at : ℕ) → drop at text ≡ 77 ∷ rest → drop (at + 1) text ≡ rest

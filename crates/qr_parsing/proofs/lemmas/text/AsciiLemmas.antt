@@ -1,10 +1,9 @@
 -- The sheet of an ASCII text, of both types alike.
-use Rattle.std.proofs.Common.{◌≡◌, ◌≤◌, ◌<◌, ◌+◌, ◌*◌, ◌/◌, ◌∙◌, ◌++◌, not, cond, ℕ, zero, suc, Bool, true, false, eqb, List, [], ◌∷◌, length, get_or, take, refl, ap, arith}
+use Rattle.std.proofs.Common.{◌≡◌, ◌≤◌, ◌<◌, ◌+◌, ◌*◌, ◌/◌, ◌∙◌, ◌++◌, not, cond, ℕ, Bool, false, eqb, List, [], ◌∷◌, length, get_or, take, refl, ap, arith}
 use Rattle.std.proofs.{Math.Nat.{mul-div_cancel, mul-le-mul_right}, lemmas.Bool.Decides.nat_tests, lemmas.List.{get_or-take, length-take}}
 use Rattle.std.specs.List.{flat_map, position_or_len}
 use Rattle.qr_matrix.specs.Grid.{Grid}
-use Rattle.qr_drawing.specs.{Raster.{is_dark_at, raster_width, texts_below}, Svg.square_at, Text.ascii_module}
-use Rattle.qr_drawing.specs.declared.drawing.Drawing.{Drawing}
+use Rattle.qr_drawing.specs.{Raster.{is_dark_at, raster_width, texts_below}, Svg.square_at, Text.ascii_module, declared.drawing.Drawing.Drawing}
 use Rattle.qr_drawing.specs.declared.drawing.Drawing.TheVariants.{Ascii, AsciiInverse}
 use Rattle.qr_parsing.specs.{Parsing.IsDrawingOf, Steps.Sheet.{ShowsOn, bytes_in, count_in, is_dark_byte, is_dark_on, kind_in, place_of, width_in}, Steps.Text.first_line}
 use Rattle.qr_parsing.proofs.lemmas.sheet.SheetLemmas.{raster-wide, separator-light, shows-by}
@@ -12,17 +11,11 @@ use Rattle.qr_parsing.proofs.lemmas.text.PlaceLemmas.{cell-at, cells-length, cel
 
 -- a module is two characters
 module-size : (b : Bool) → length (ascii_module b) ≡ 2
-module-size true = refl
-module-size false = refl
+module-size b = grind arith
 
 -- a byte that is neither `#` nor a space is in no module
 module-without : (sign : ℕ) → eqb 35 sign ≡ false → eqb 32 sign ≡ false → (b : Bool) (j : ℕ) → j < length (ascii_module b) → eqb (get_or (ascii_module b) j 0) sign ≡ false
-module-without sign hash space true zero lt = hash
-module-without sign hash space true (suc zero) lt = hash
-module-without sign hash space true (suc (suc j)) lt = absurd (omega arith)
-module-without sign hash space false zero lt = space
-module-without sign hash space false (suc zero) lt = space
-module-without sign hash space false (suc (suc j)) lt = absurd (omega arith)
+module-without sign hash space b j lt = grind arith
 
 -- a type of drawing whose text shows a module by `#` exactly if `hash` is true of its colour
 pub record IsAscii (kind : Drawing) (hash : Bool → Bool) : Type 0 where

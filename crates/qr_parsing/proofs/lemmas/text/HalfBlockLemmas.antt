@@ -3,8 +3,7 @@ use Rattle.std.proofs.Common.{◌≡◌, ◌≤◌, ◌<◌, ◌+◌, ◌*◌, �
 use Rattle.std.proofs.{Math.Nat.{mul-div_cancel, mul-le-mul_right}, lemmas.Bool.Decides.nat_tests, lemmas.List.{get_or-take, length-take}}
 use Rattle.std.specs.List.{filter, position_or_len}
 use Rattle.qr_matrix.specs.Grid.{Grid}
-use Rattle.qr_drawing.specs.{Raster.{is_dark_at, raster_width, texts_below}, Svg.square_at, Text.half_blocks}
-use Rattle.qr_drawing.specs.declared.drawing.Drawing.TheVariants.{Utf8}
+use Rattle.qr_drawing.specs.{Raster.{is_dark_at, raster_width, texts_below}, Svg.square_at, Text.half_blocks, declared.drawing.Drawing.TheVariants.Utf8}
 use Rattle.qr_drawing.proofs.Facts.{no-texts, texts_below-length}
 use Rattle.qr_parsing.specs.{Parsing.IsDrawingOf, Steps.Sheet.{ShowsOn, bytes_in, count_in, is_dark_byte, is_dark_on, kind_in, place_of, width_in}, Steps.Text.{cells_in, first_line, is_cell}}
 use Rattle.qr_parsing.proofs.lemmas.sheet.SheetLemmas.{raster-wide, separator-light, shows-by}
@@ -12,10 +11,7 @@ use Rattle.qr_parsing.proofs.lemmas.text.PlaceLemmas.{cell-at, cells-filter, cel
 
 -- of the bytes of a character one is kept, the last
 last-size : (u l : Bool) → length (filter is_cell (half_blocks u l)) ≡ 1
-last-size true true = refl
-last-size true false = refl
-last-size false true = refl
-last-size false false = refl
+last-size u l = grind arith
 
 -- the byte that is kept is no newline
 last-newline : (u l : Bool) (j : ℕ) → j < length (filter is_cell (half_blocks u l)) → eqb (get_or (filter is_cell (half_blocks u l)) j 0) 10 ≡ false
@@ -33,43 +29,27 @@ last-newline u l j = none u l j
 
 -- the byte that is kept shows the upper module, in an even row
 upper-shown : (u l : Bool) (y : ℕ) → y % 2 ≡ 0 → is_dark_byte Utf8 y (get_or (filter is_cell (half_blocks u l)) 0 0) ≡ u
-upper-shown true true y e = refl
-upper-shown true false y e = rw e refl
-upper-shown false true y e = rw e refl
-upper-shown false false y e = rw e refl
+upper-shown u l y e = grind arith
 
 -- the byte that is kept shows the lower module, in an odd row
 lower-shown : (u l : Bool) (y : ℕ) → y % 2 ≡ 1 → is_dark_byte Utf8 y (get_or (filter is_cell (half_blocks u l)) 0 0) ≡ l
-lower-shown true true y e = refl
-lower-shown true false y e = rw e refl
-lower-shown false true y e = rw e refl
-lower-shown false false y e = rw e refl
+lower-shown u l y e = grind arith
 
 -- a character has at most three bytes
 most-bytes : (u l : Bool) → length (half_blocks u l) ≤ 3
-most-bytes true true = omega arith
-most-bytes true false = omega arith
-most-bytes false true = omega arith
-most-bytes false false = omega arith
+most-bytes u l = grind arith
 
 -- a character has at least one byte
 first-byte : (u l : Bool) → 0 < length (half_blocks u l)
-first-byte true true = omega arith
-first-byte true false = omega arith
-first-byte false true = omega arith
-first-byte false false = omega arith
+first-byte u l = grind arith
 
 -- if the upper module is light, the first byte of the character is E2
 light-byte : (l : Bool) → get_or (half_blocks false l) 0 0 ≡ 0xE2
-light-byte true = refl
-light-byte false = refl
+light-byte l = grind arith
 
 -- no character begins with the byte with which a document begins
 first-other : (u l : Bool) → eqb (get_or (half_blocks u l) 0 0) 60 ≡ false
-first-other true true = refl
-first-other true false = refl
-first-other false true = refl
-first-other false false = refl
+first-other u l = grind arith
 
 -- in this module, `text` is a drawing
 module _ (margin : ℕ) (squares : List Grid) (text : List ℕ) (h : IsDrawingOf Utf8 margin squares text) where

@@ -1,13 +1,11 @@
 -- The bytes of texts by their index. A text consists of the texts of places, or of lines of cells.
 use Rattle.std.proofs.Common.{◌≡◌, ◌≤◌, ◌<◌, ◌+◌, ◌-◌, ◌*◌, ◌/◌, ◌∙◌, ◌++◌, ℕ, zero, suc, Bool, true, false, eqb, List, [], ◌∷◌, length, get_or, refl, ap, arith, inl, inr, length-append}
-use Rattle.std.proofs.{Math.Nat.suc-mul, Math.Nat.mul-le-mul_right, lemmas.Bool.cases_lt}
+use Rattle.std.{proofs.{Math.Nat.{suc-mul, mul-le-mul_right}, lemmas.Bool.cases_lt}, specs.List.{filter, flat_map, position_or_len, range_with_len}}
 use Rattle.std.proofs.lemmas.List.{get_or_append_left, get_or-append-add, get_or-append_right, Sums.{fails_before_first, position_or_len_is}, Elements.filter-append}
-use Rattle.std.specs.List.{filter, flat_map, position_or_len, range_with_len}
 use Rattle.qr_matrix.specs.Grid.{Grid, light}
 use Rattle.qr_drawing.specs.{Drawing.HaveOneSide, Raster.{raster_width, texts_below}, Svg.square_at}
 use Rattle.qr_drawing.proofs.Facts.{no-texts, texts_below-alike, texts-of-items}
-use Rattle.qr_parsing.specs.Steps.Text.{first_line}
-use Rattle.qr_parsing.proofs.lemmas.sheet.SheetLemmas.{one-width}
+use Rattle.qr_parsing.{specs.Steps.Text.first_line, proofs.lemmas.sheet.SheetLemmas.one-width}
 
 -- the texts from place a + 1 on are the texts of the next places from a on
 shifted : (a n : ℕ) (f : ℕ → List ℕ) → flat_map f (range_with_len (a + 1) n) ≡ flat_map (λ i. f (suc i)) (range_with_len a n)
@@ -33,7 +31,7 @@ text-after zero i j f lt l = absurd (omega arith)
 text-after (suc n) zero j f lt l = search (arith, no-texts, texts-first, get_or_append_left)
 text-after (suc n) (suc i) j f lt l =
     let rest = texts_below i (λ i. f (suc i)) in
-    let e : length (texts_below (suc i) f) + j ≡ length (f 0) + (length rest + j) = omega (arith, ap length (texts-first i f) ∙ length-append (f 0) rest) in
+    let e : length (texts_below (suc i) f) + j ≡ length (f 0) + (length rest + j) = search (arith, texts-first, length-append) in
     rw (e, texts-first n f) (get_or-append-add (f 0) (texts_below n (λ i. f (suc i))) (length rest + j) 0
     ∙ text-after n i j (λ i. f (suc i)) (omega arith) l)
 

@@ -1,8 +1,7 @@
 use Rattle.std.proofs.Common.{rules, ◌+◌, ◌-◌, ◌*◌, ◌∙◌, sym, arith}
-use Rattle.qr_parsing.specs.Steps.Sheet.{is_dark_on}
-use Rattle.qr_parsing.proofs.lemmas.parsing.GuessLemmas.{can-be-drawn, guessed}
+use Rattle.qr_parsing.{specs.Steps.Sheet.is_dark_on, proofs.lemmas.parsing.GuessLemmas.{can-be-drawn, guessed}}
 use Rattle.qr_parsing.proofs.parsing.drawn_of.Goals as goal
-use Rattle.qr_parsing.proofs.parsing.drawn_of.Goals.{then-sheet-eq0-via-then-sheet-eq0, then-sheet-eq0-via-else-sheet-eq0+then-sheet-gt-COUNT_MAX, then-margin-gt255-via-then-margin-gt255, then-margin-gt255-via-else-margin-gt255+then-sheet-margin, then-margin-gt255-via-else-margin-gt255+else-sheet-margin+then-sheet-margin-gt-SIDE_MAX}
+use Rattle.qr_parsing.proofs.parsing.drawn_of.Goals.{then-sheet-eq0-via-then-sheet-eq0, then-sheet-eq0-via-else-sheet-eq0+then-sheet-gt-COUNT_MAX}
 
 pub returns-then-margin-gt255 : goal.returns-then-margin-gt255
 returns-then-margin-gt255 c text is kind margin squares h =

@@ -1,7 +1,5 @@
 use Rattle.std.proofs.Common.{rules, ◌≡◌, ◌/◌, ◌∙◌, length, ap, sym, arith}
-use Rattle.qr_parsing.proofs.lemmas.svg.DocumentLemmas.{svg-path}
-use Rattle.qr_parsing.proofs.lemmas.svg.CanvasLemmas.{canvas-inside}
-use Rattle.qr_parsing.proofs.lemmas.parsing.GuessLemmas.{kind-shown, none-wide}
+use Rattle.qr_parsing.proofs.lemmas.{svg.{DocumentLemmas.svg-path, CanvasLemmas.canvas-inside}, parsing.GuessLemmas.{kind-shown, none-wide}}
 use Rattle.qr_parsing.proofs.parsing.guess_document.Goals as goal
 
 pub returns-in_default : goal.returns-in_default
@@ -13,11 +11,7 @@ invariant_of-sheet-clause-whole c = λ k y x a b l.
     let w = c.in-Some.size.width in
     let h = c.in-Some.size.height in
     let count : c.in-Some.size.count ≡ h / w = s.1 ∙ (λ i. sym s.2 i / sym s.0 i) in
-    let long = ap length c.deref.ensures.value ∙ c.in_ok-canvas.ensures.area in
-    omega (arith, canvas-inside w h c.in-Some.size.count k y x (omega arith) count a b l)
+    omega (arith, canvas-inside w h c.in-Some.size.count k y x (omega arith) count a b l, ap length c.deref.ensures.value ∙ c.in_ok-canvas.ensures.area)
 
 pub returns : goal.returns
-returns c =
-    let text = c.args.text.now in
-    let size = c.in-Some.ensures.size in
-    search (rules, kind-shown, svg-path)
+returns c = search (rules, kind-shown, svg-path, c.args.text.now, c.in-Some.ensures.size)

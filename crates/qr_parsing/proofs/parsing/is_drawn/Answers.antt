@@ -1,6 +1,4 @@
-use Rattle.std.proofs.lemmas.Grind.{common_steps}
-use Rattle.std.proofs.Common.{rules, ◌≡◌, arith}
-use Rattle.std.proofs.lemmas.{Bool.Decides.Decides-eqb, Grind.common_steps, Slice.Eq.slice_eq-Decides}
+use Rattle.std.proofs.{lemmas.{Grind.common_steps, Bool.Decides.Decides-eqb, Slice.Eq.slice_eq-Decides}, Common.{rules, ◌≡◌, arith}}
 use Rattle.qr_drawing.specs.Drawing.{drawn}
 use Rattle.qr_parsing.proofs.parsing.is_drawn.Goals as goal
 

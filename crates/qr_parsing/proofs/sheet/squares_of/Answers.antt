@@ -1,5 +1,4 @@
-use Rattle.std.proofs.Common.{◌+◌, ◌++◌, ◌∷◌, [], ℕ, sym, ◌∙◌, arith}
-use Rattle.std.proofs.lemmas.List.FromFn.{map-range_with_len_more}
+use Rattle.std.proofs.{Common.{◌+◌, ◌++◌, ◌∷◌, [], ℕ, sym, ◌∙◌, arith}, lemmas.List.FromFn.map-range_with_len_more}
 use Rattle.qr_matrix.specs.Grid.{square}
 use Rattle.qr_parsing.specs.Steps.Sheet.{is_dark_on}
 use Rattle.qr_parsing.proofs.sheet.squares_of.Goals as goal

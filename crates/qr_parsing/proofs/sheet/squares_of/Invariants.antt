@@ -1,5 +1,4 @@
-use Rattle.std.proofs.Common.{◌≡◌, ◌+◌, map}
-use Rattle.std.specs.List.{range_with_len}
+use Rattle.std.{proofs.Common.{◌≡◌, ◌+◌, map}, specs.List.range_with_len}
 use Rattle.qr_matrix.specs.Grid.{square}
 use Rattle.qr_parsing.specs.Steps.Sheet.{is_dark_on}
 use Rattle.qr_parsing.proofs.sheet.squares_of.Given as goal

@@ -2,8 +2,7 @@ use Rattle.std.proofs.Common.{◌≡◌, ◌+◌, ◌-◌, ◌*◌, ◌≤◌, �
 use Rattle.std.proofs.{Math.Nat.{add-mul, mul-le-mul_right}, lemmas.List.{length-drop, length-take-le}}
 use borrow.Rule.Slice.PartMut.{same_len_mid}
 use Rattle.qr_matrix.specs.Bytes.{byte_of}
-use Rattle.qr_parsing.specs.Steps.Sheet.{is_dark_on}
-use Rattle.qr_parsing.proofs.lemmas.sheet.RowLemmas.{rows-more}
+use Rattle.qr_parsing.{specs.Steps.Sheet.is_dark_on, proofs.lemmas.sheet.RowLemmas.rows-more}
 use Rattle.qr_parsing.proofs.sheet.write_modules.Goals as goal
 
 pub loop-row-preserved : goal.loop-row-preserved

@@ -1,5 +1,4 @@
-use Rattle.std.proofs.Common.{◌≡◌, ◌≢◌, ◌%◌, ◌∙◌, ℕ, eqb, cond, refl, sym, arith}
-use Rattle.std.proofs.lemmas.Bool.Decides.{nat_tests}
+use Rattle.std.proofs.{Common.{◌≡◌, ◌≢◌, ◌%◌, ◌∙◌, ℕ, eqb, cond, refl, sym, arith}, lemmas.Bool.Decides.nat_tests}
 use Rattle.qr_parsing.proofs.lemmas.sheet.RowLemmas.{ascii-reads, block-reads, inverse-reads, row-dark, row-inside, svg-reads}
 use Rattle.qr_parsing.proofs.sheet.write_row.Goals as goal
 use Rattle.qr_parsing.proofs.sheet.write_row.Goals.{then-y-eq0, else-y-eq0}

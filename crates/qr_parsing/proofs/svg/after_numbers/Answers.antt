@@ -1,5 +1,4 @@
-use Rattle.std.proofs.Common.{◌≡◌, ◌∙◌, [], ap, sym, drop, length, arith}
-use Rattle.std.proofs.lemmas.List.{drop_all, drop-drop, length-drop}
+use Rattle.std.proofs.{Common.{◌≡◌, ◌∙◌, [], ap, sym, drop, length, arith}, lemmas.List.{drop_all, drop-drop, length-drop}}
 use Rattle.qr_parsing.specs.Steps.Svg.{numbers_after, numbers_in}
 use Rattle.qr_parsing.proofs.svg.after_numbers.Goals as goal
 
@@ -11,8 +10,4 @@ returns-in_default c =
     sym (drop_all c.args.count all (omega (arith, ap length none, length-drop c.loop.counter all)))
 
 pub loop-preserved : goal.loop-preserved
-loop-preserved c =
-    let all = numbers_in c.args.text.now in
-    let next = sym c.in-Some.ensures.reads ∙ c.loop.invariant in
-    let one = ap (drop 1) next in
-    one ∙ drop-drop 1 c.loop.counter all
+loop-preserved c = (ap (drop 1) (sym c.in-Some.ensures.reads ∙ c.loop.invariant)) ∙ drop-drop 1 c.loop.counter (numbers_in c.args.text.now)

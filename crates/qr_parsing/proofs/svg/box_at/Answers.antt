@@ -1,10 +1,8 @@
 use Rattle.std.proofs.Common.{rules, ◌≡◌, ◌<◌, ◌+◌, ◌∙◌, ◌∷◌, ℕ, List, decimal, drop, length, get_or, refl, sym, ap, subst, arith, length-drop}
 use Rattle.std.proofs.lemmas.List.{get_or-drop}
-use Rattle.qr_parsing.specs.Steps.Svg.{IsPath}
-use Rattle.qr_parsing.proofs.lemmas.svg.NumberLemmas.{digits-one, digits-two, digits-three}
+use Rattle.qr_parsing.{specs.Steps.Svg.IsPath, proofs.lemmas.svg.NumberLemmas.{digits-one, digits-two, digits-three}}
 use Rattle.qr_parsing.proofs.lemmas.svg.PathLemmas.{FirstBox, after-box, after-m, after_column, after_modules, after_row, column-long, first-box, modules-long, no-box, row-long}
 use Rattle.qr_parsing.proofs.svg.box_at.Goals as goal
-use Rattle.qr_parsing.proofs.svg.box_at.Goals.{then-at-text-via-then-at-text, then-at-text-via-else-at-text+then-text-at-ne77, then-modules-lt10, else-modules-lt10+then-modules-lt100, else-modules-lt10+else-modules-lt100}
 
 -- at an `M` a path begins with a box
 found : (text numbers : List ℕ) (at : ℕ) → IsPath numbers (drop at text) → at < length text → get_or text at 0 ≡ 77 → FirstBox numbers (drop at text)
@@ -13,40 +11,26 @@ found text numbers at path lt m = search (rules, first-box, length-drop, get_or-
 pub returns-then-at-text-clause-reads : goal.returns-then-at-text-clause-reads
 returns-then-at-text-clause-reads c numbers path = search (rules, no-box, length-drop, get_or-drop)
 
-pub returns-in_default-clause-reads : goal.returns-in_default-clause-reads
-returns-in_default-clause-reads c numbers path =
+pub returns-in_err-x-clause-reads : goal.returns-in_err-x-clause-reads
+returns-in_err-x-clause-reads c numbers path =
     let text = c.args.text.now in
     let b = found text numbers c.args.at path (omega arith) c.if-text-at-ne77.false in
-    search (rules, after_column, column-long, after-m)
+    absurd (c.in_err-x.ensures.reads b.x 32 (after_column b.y b.modules b.rest) (omega arith) refl (omega (arith, column-long b.y b.modules b.rest b.modules_in)) (after-m text _ c.args.at b.bytes_are))
 
-pub returns-then-after_x-text-clause-reads : goal.returns-then-after_x-text-clause-reads
+pub returns-in_err-y-clause-reads : goal.returns-in_err-y-clause-reads
 unfolding after_column after_row after_modules
-returns-then-after_x-text-clause-reads c numbers path =
-    let text = c.args.text.now in
-    let b = found text numbers c.args.at path (omega arith) c.if-text-at-ne77.false in
-    search (rules, after_column, column-long, after-m, length-drop)
-
-pub returns-in_default-number_after-clause-reads : goal.returns-in_default-number_after-clause-reads
-unfolding after_column after_row after_modules
-returns-in_default-number_after-clause-reads c numbers path =
+returns-in_err-y-clause-reads c numbers path =
     let text = c.args.text.now in
     let b = found text numbers c.args.at path (omega arith) c.if-text-at-ne77.false in
     search (rules, after_column, column-long, after-m, after_row, row-long)
 
-pub returns-then-after_y-text-clause-reads : goal.returns-then-after_y-text-clause-reads
+pub returns-in_err-modules-clause-reads : goal.returns-in_err-modules-clause-reads
 unfolding after_column after_row after_modules
-returns-then-after_y-text-clause-reads c numbers path =
+returns-in_err-modules-clause-reads c numbers path =
     let text = c.args.text.now in
     let b = found text numbers c.args.at path (omega arith) c.if-text-at-ne77.false in
-    search (rules, after_column, column-long, after-m, after_row, row-long, length-drop)
-
-pub returns-in_default-number_after-2-clause-reads : goal.returns-in_default-number_after-2-clause-reads
-unfolding after_column after_row after_modules
-returns-in_default-number_after-2-clause-reads c numbers path =
-    let text = c.args.text.now in
-    let b = found text numbers c.args.at path (omega arith) c.if-text-at-ne77.false in
-    let x : (c.in-Some.x ≡ b.x) × (drop c.in-Some.after_x text ≡ after_column b.y b.modules b.rest) =
-    c.in-Some.ensures.reads b.x 32 (after_column b.y b.modules b.rest) (omega arith) refl (omega (arith, column-long b.y b.modules b.rest b.modules_in)) (after-m text _ c.args.at b.bytes_are) in
+    let x : (c.in_ok-x.x ≡ b.x) × (drop c.in_ok-x.after_x text ≡ after_column b.y b.modules b.rest) =
+    c.in_ok-x.ensures.reads b.x 32 (after_column b.y b.modules b.rest) (omega arith) refl (omega (arith, column-long b.y b.modules b.rest b.modules_in)) (after-m text _ c.args.at b.bytes_are) in
     search (rules, after_row, row-long, after_modules, modules-long)
 
 pub returns-then-after_modules-back-clause-reads : goal.returns-then-after_modules-back-clause-reads
@@ -54,30 +38,30 @@ unfolding after_column after_row after_modules
 returns-then-after_modules-back-clause-reads c numbers path =
     let text = c.args.text.now in
     let b = found text numbers c.args.at path (omega arith) c.if-text-at-ne77.false in
-    let x : (c.in-Some.x ≡ b.x) × (drop c.in-Some.after_x text ≡ after_column b.y b.modules b.rest) =
-    c.in-Some.ensures.reads b.x 32 (after_column b.y b.modules b.rest) (omega arith) refl (omega (arith, column-long b.y b.modules b.rest b.modules_in)) (after-m text _ c.args.at b.bytes_are) in
-    let y : (c.in-Some-number_after.y ≡ b.y) × (drop c.in-Some-number_after.after_y text ≡ after_row b.modules b.rest) =
+    let x : (c.in_ok-x.x ≡ b.x) × (drop c.in_ok-x.after_x text ≡ after_column b.y b.modules b.rest) =
+    c.in_ok-x.ensures.reads b.x 32 (after_column b.y b.modules b.rest) (omega arith) refl (omega (arith, column-long b.y b.modules b.rest b.modules_in)) (after-m text _ c.args.at b.bytes_are) in
+    let y : (c.in_ok-y.y ≡ b.y) × (drop c.in_ok-y.after_y text ≡ after_row b.modules b.rest) =
     search (rules, after_row, row-long) in
-    let n : (c.in-Some-number_after-2.modules ≡ b.modules) × (drop c.in-Some-number_after-2.after_modules text ≡ after_modules b.modules b.rest) =
+    let n : (c.in_ok-modules.modules ≡ b.modules) × (drop c.in_ok-modules.after_modules text ≡ after_modules b.modules b.rest) =
     search (rules, after_modules, modules-long) in
     let e = n.0 in
     let many : c.if-modules-lt10.back ≡ 4 + length (decimal b.modules) = search (rules, digits-one, digits-two, digits-three) in
-    absurd (omega (arith, ap length n.1, length-drop c.in-Some-number_after-2.after_modules text, modules-long b.modules b.rest))
+    absurd (omega (arith, ap length n.1, length-drop c.in_ok-modules.after_modules text, modules-long b.modules b.rest))
 
 pub returns-clause-reads : goal.returns-clause-reads
 unfolding after_column after_row after_modules
 returns-clause-reads c numbers path =
     let text = c.args.text.now in
     let b = found text numbers c.args.at path (omega arith) c.if-text-at-ne77.false in
-    let x : (c.in-Some.x ≡ b.x) × (drop c.in-Some.after_x text ≡ after_column b.y b.modules b.rest) =
-    c.in-Some.ensures.reads b.x 32 (after_column b.y b.modules b.rest) (omega arith) refl (omega (arith, column-long b.y b.modules b.rest b.modules_in)) (after-m text _ c.args.at b.bytes_are) in
-    let y : (c.in-Some-number_after.y ≡ b.y) × (drop c.in-Some-number_after.after_y text ≡ after_row b.modules b.rest) =
+    let x : (c.in_ok-x.x ≡ b.x) × (drop c.in_ok-x.after_x text ≡ after_column b.y b.modules b.rest) =
+    c.in_ok-x.ensures.reads b.x 32 (after_column b.y b.modules b.rest) (omega arith) refl (omega (arith, column-long b.y b.modules b.rest b.modules_in)) (after-m text _ c.args.at b.bytes_are) in
+    let y : (c.in_ok-y.y ≡ b.y) × (drop c.in_ok-y.after_y text ≡ after_row b.modules b.rest) =
     search (rules, after_row, row-long) in
-    let n : (c.in-Some-number_after-2.modules ≡ b.modules) × (drop c.in-Some-number_after-2.after_modules text ≡ after_modules b.modules b.rest) =
+    let n : (c.in_ok-modules.modules ≡ b.modules) × (drop c.in_ok-modules.after_modules text ≡ after_modules b.modules b.rest) =
     search (rules, after_modules, modules-long) in
     let e = n.0 in
     let many : c.if-modules-lt10.back ≡ 4 + length (decimal b.modules) = search (rules, digits-one, digits-two, digits-three) in
-    let after = after-box text b.rest c.in-Some-number_after-2.after_modules b.modules c.if-modules-lt10.back n.1 many in (
+    let after = after-box text b.rest c.in_ok-modules.after_modules b.modules c.if-modules-lt10.back n.1 many in (
       b.high,
       b.back,
       b.more,

@@ -1,6 +1,4 @@
-use Rattle.std.proofs.Common.{rules}
-use Rattle.std.proofs.lemmas.List.{length-replicate}
-use Rattle.std.proofs.Math.Seq.{take-append_seam}
+use Rattle.std.proofs.{Common.rules, lemmas.List.length-replicate, Math.Seq.take-append_seam}
 use Rattle.qr_parsing.proofs.lemmas.svg.CanvasLemmas.{canvas-is}
 use Rattle.qr_parsing.proofs.svg.canvas_of.Goals as goal
 

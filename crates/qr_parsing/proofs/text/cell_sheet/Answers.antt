@@ -1,8 +1,6 @@
-use Rattle.std.proofs.Common.{rules, ◌∙◌, ap, inl, inr, arith}
+use Rattle.std.proofs.Common.{◌∙◌, ap, inl, inr, arith}
 use Rattle.qr_drawing.specs.declared.drawing.Drawing.TheVariants.{Utf8}
-use Rattle.qr_parsing.specs.Steps.Text.{first_line}
-use Rattle.qr_parsing.proofs.lemmas.parsing.GuessLemmas.{block-count, too-wide}
-use Rattle.qr_parsing.proofs.lemmas.text.PlaceLemmas.{cell-inside}
+use Rattle.qr_parsing.{specs.Steps.Text.first_line, proofs.lemmas.{parsing.GuessLemmas.too-wide, text.PlaceLemmas.cell-inside}}
 use Rattle.qr_parsing.proofs.text.cell_sheet.Goals as goal
 use Rattle.qr_parsing.proofs.text.cell_sheet.Goals.{then-width-lt-SIDE_MIN-via-then-width-lt-SIDE_MIN, then-width-lt-SIDE_MIN-via-else-width-lt-SIDE_MIN+then-width-gt-WIDTH_MAX}
 
@@ -16,6 +14,4 @@ invariant_of-result-clause-whole c = λ k y x a b l.
     cell-inside _ c.position_of-width.result c.div_ceil.result _ k y x (omega arith) (omega arith) (omega arith) a b l
 
 pub returns : goal.returns
-returns c text kind cells =
-    let w = c.position_of-width.ensures ∙ ap first_line cells in
-    search (rules, block-count)
+returns c text kind cells = search (arith, c.position_of-width.ensures ∙ ap first_line cells)

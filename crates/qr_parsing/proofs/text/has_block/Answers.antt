@@ -1,5 +1,4 @@
-use Rattle.std.proofs.Common.{rules}
-use Rattle.std.proofs.lemmas.List.{take_min}
+use Rattle.std.proofs.{Common.rules, lemmas.List.take_min}
 use Rattle.qr_parsing.proofs.text.has_block.Goals as goal
 
 pub returns : goal.returns

@@ -1,5 +1,4 @@
-use Rattle.std.proofs.Common.{rules, eq-eqb, eqb, sym, arith}
-use Rattle.std.proofs.lemmas.List.Sums.{position_or_len_is}
+use Rattle.std.proofs.{Common.{rules, eq-eqb, eqb, sym, arith}, lemmas.List.Sums.position_or_len_is}
 use Rattle.qr_parsing.proofs.text.position_of.Goals as goal
 
 pub returns-then-byte-sign : goal.returns-then-byte-sign

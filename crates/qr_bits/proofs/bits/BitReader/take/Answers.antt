@@ -1,7 +1,5 @@
-use Rattle.std.proofs.Common.{◌≡◌, ◌+◌, ◌-◌, ◌*◌, ◌%◌, ◌≤◌, length, take, sym, ap, ◌∙◌, arith, rules}
-use Rattle.std.proofs.lemmas.Nat.{one_shl}
-use Rattle.qr_bits.specs.Bits.{value}
-use Rattle.qr_bits.proofs.lemmas.bits.{BitLemmas.left_at, WindowLemmas.value-window}
+use Rattle.std.proofs.{Common.{◌≡◌, ◌+◌, ◌-◌, ◌*◌, ◌%◌, ◌≤◌, length, take, sym, ap, ◌∙◌, arith, rules}, lemmas.Nat.one_shl}
+use Rattle.qr_bits.{specs.Bits.value, proofs.lemmas.bits.{BitLemmas.left_at, WindowLemmas.value-window}}
 use Rattle.qr_bits.proofs.bits.BitReader.take.Goals as goal
 
 pub invariant_of-self : goal.invariant_of-self
