@@ -1,6 +1,6 @@
 //! Tests of `Matrix`: modules that are read and set, runs, transposed squares, and differences.
 
-use qr_matrix::{Matrix, differences, matrices_of_bytes, matrix_of_bytes, write_square};
+use qr_matrix::{BitRow, Matrix, differences, matrices_of_bytes, matrix_of_bytes, write_square};
 use std::test::Fail;
 
 #[test]
@@ -49,15 +49,14 @@ fn a_row_is_masked_within(rt: HostRuntime) -> Result<(), Fail> {
     plain.fill(4, 5, 60, 70, true);
     let mut within = Matrix::new(rt.alloc(), 70)?;
     within.fill(4, 5, 0, 66, true);
-    let mut matrix = Matrix::new(rt.alloc(), 70)?;
-    matrix.set_row_masked(4, &plain, &within, 0b000011);
+    let masked = plain.bit_row(4) ^ within.bit_row(4) & BitRow::repeated(0b000011);
     for col in 0..70u8 {
         let is_dark = match col {
             0..60 => col % 6 < 2,
             60 | 61 => false,
             _ => true,
         };
-        assert_eq!(rt; matrix.dark(4, col), is_dark, "column {col}");
+        assert_eq!(rt; masked.at(col), is_dark, "column {col}");
     }
     Ok(())
 }

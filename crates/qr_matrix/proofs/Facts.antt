@@ -5,3 +5,4 @@ pub use Rattle.qr_matrix.proofs.lemmas.bit_row.SetLemmas.{shl-bit, unset-above}
 pub use Rattle.qr_matrix.proofs.lemmas.bit_row.RepeatLemmas.{below-at, same-same, &&-left, &&-right}
 pub use Rattle.qr_matrix.proofs.lemmas.difference.DifferenceLemmas.{no-difference}
 pub use Rattle.qr_matrix.proofs.lemmas.dark_runs.DarkRunLemmas.{AreRunsFrom, all-runs, other-runs, run-colours, run-in}
+pub use Rattle.qr_matrix.proofs.lemmas.matrix.MatrixLemmas.{masked-bit, masked-past}

@@ -80,16 +80,16 @@ impl BitRow {
         requires { n ≤ 192 }
         ensures { (c : ℕ) → has result c ≡ nat_lt c n }
     {
-        if n < 64 {
-            return BitRow::below_in(n, 1);
-        }
-        if n < 128 {
-            return BitRow::below_in(n, 2);
-        }
-        BitRow::below_in(n, 3)
+        let n = u32::from(n);
+        BitRow([
+            low_bits(n.min(64)),
+            low_bits(n.saturating_sub(64).min(64)),
+            low_bits(n.saturating_sub(128)),
+        ])
     }
 
-    pub(crate) fn repeated(pattern: u8) -> BitRow
+    /// Returns the row in which bit `c` is bit `c % 6` of `pattern`.
+    pub fn repeated(pattern: u8) -> BitRow
         requires { pattern < 64 }
         ensures { (c : ℕ) → c < 192 → has result c ≡ has_bit pattern (c % 6) }
     {
@@ -271,15 +271,9 @@ impl Rows for BitRow {
 
     ghost number = { λ count _. count };
 
-    // Where `words` is a constant, only one word has to be computed, because the other two are constants.
     #[inline(always)]
-    fn below_in(n: u8, words: u8) -> BitRow {
-        let n = u32::from(n);
-        match words {
-            1 => BitRow([low_bits(n), 0, 0]),
-            2 => BitRow([u64::MAX, low_bits(n - 64), 0]),
-            _ => BitRow([u64::MAX, u64::MAX, low_bits(n - 128)]),
-        }
+    fn below_in(n: u8, _words: u8) -> BitRow {
+        BitRow::below(n)
     }
 
     #[inline(always)]

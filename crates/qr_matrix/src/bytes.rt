@@ -14,7 +14,7 @@ ghost use Rattle.qr_matrix.specs.Bytes.{byte_of, square_of_bytes, square_of_unkn
 
 use crate::bit_row::BitRow;
 use crate::matrix::Matrix;
-use crate::rows::{Rows, and_not, words_for};
+use crate::rows::{Rows, and_not};
 use std::alloc::{AllocError, Global};
 
 const LIGHT: u8 = 0;
@@ -79,7 +79,7 @@ fn plain_row_of(bytes: &[u8], start: usize, end: usize, side: u8) -> Option<BitR
         → slice_index_or bytes.now (start + c) 0 ≡ byte_of (has row c)) }
     ensures past { IfSome result (λ row. (c : ℕ) → side ≤ c → has row c ≡ false) }
 {
-    let words = usize::from(words_for(side));
+    let words = usize::from(side.div_ceil(64));
     if end - start < 64 * words {
         return None;
     }
@@ -224,7 +224,7 @@ fn write_words(matrix: &Matrix, row: usize, start: usize, bytes: &mut [u8])
     ensures others { (i : ℕ) → (i < start) ⊎ (start + matrix.now.side + 7 ≤ i)
         → slice_index_or bytes.new i 0 ≡ slice_index_or bytes.old i 0 }
 {
-    for number in 0..words_for(matrix.side()) {
+    for number in 0..matrix.side().div_ceil(64) {
         let col = 64 * number;
         let count = (matrix.side() - col).min(64);
         let word = matrix.word(row, usize::from(number));

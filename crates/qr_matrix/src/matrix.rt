@@ -10,14 +10,14 @@
 //! `band` of a square begins at row `64 * band`, and tile `word` of this band begins at column `64 * word`; transposed,
 //! it is tile `band` of band `word`.
 
-ghost use Rattle.std.specs.Prelude.{IfOk, false, if◌then◌else◌, length, nat_lt, not, ℕ, ◌%◌, ◌&&◌, ◌*◌, ◌+◌, ◌-◌, ◌/◌, ◌<◌, ◌≡◌, ◌≤◌};
+ghost use Rattle.std.specs.Prelude.{IfOk, false, length, nat_lt, ℕ, ◌%◌, ◌*◌, ◌+◌, ◌<◌, ◌≡◌, ◌≤◌};
 ghost use Rattle.qr_matrix.specs.Grid.{colour, light, painted, square, transposed, with_rectangle, with_row};
 ghost use Rattle.qr_matrix.specs.BitRow.{dark_in, has, has_bit};
 ghost use Rattle.qr_matrix.specs.Runs.{IsRunEnd};
 ghost use Rattle.qr_matrix.specs.Steps.{bit_in, exchanged, is_change};
 
 use crate::bit_row::BitRow;
-use crate::rows::{Rows, Squares, and_not, words_for};
+use crate::rows::{Rows, Squares, and_not};
 use std::alloc::{AllocError, Global};
 use std::marker::Model;
 
@@ -165,23 +165,6 @@ impl Matrix {
         self.rows[usize::from(row)] = bits;
     }
 
-    /// Copies row `row` of `plain` into this square. The module in column c is inverted if `within` is dark in this row
-    /// and column, and bit `c % 6` of `pattern` is 1. Bit 0 is the lowest bit.
-    #[tactic(auto, using(crate::proofs::Named::replaced_facts))]
-    pub fn set_row_masked(&mut self, row: u8, plain: &Matrix, within: &Matrix, pattern: u8)
-        requires row_in { row < self.old.side }
-        requires plain_side { plain.now.side ≡ self.old.side }
-        requires within_side { within.now.side ≡ self.old.side }
-        requires pattern_in { pattern < 64 }
-        ensures { self.new ≡ with_row self.old row
-            (λ c. if colour within.now row c && has_bit pattern (c % 6)
-            then not (colour plain.now row c) else colour plain.now row c) }
-    {
-        let index = usize::from(row);
-        let inverted = within.bit_row(index) & BitRow::repeated(pattern);
-        self.set_bit_row(row, plain.bit_row(index) ^ inverted);
-    }
-
     /// Makes a rectangle dark if `dark` is true, and light otherwise. The rectangle has the rows `top..bottom` and the
     /// columns `left..right`.
     pub fn fill(&mut self, top: u8, bottom: u8, left: u8, right: u8, dark: bool)
@@ -193,13 +176,13 @@ impl Matrix {
     {
         // Only for the prover, which needs this bound for a rectangle without rows.
         prove!(self.side <= 177);
-        let columns = and_not(BitRow::below(right), BitRow::below(left));
+        let columns = BitRow::below(right) & !BitRow::below(left);
         for row in top..bottom {
             let bits = self.bit_row(usize::from(row));
             let filled = if dark {
                 bits | columns
             } else {
-                and_not(bits, columns)
+                bits & !columns
             };
             self.set_bit_row(row, filled);
         }
@@ -212,14 +195,14 @@ impl Matrix {
     {
         prove!(self.side <= 177);
         let side = usize::from(self.side);
-        let words = usize::from(words_for(self.side));
+        let words = side.div_ceil(64);
         for band in 0..words {
             for word in 0..words {
                 // Tile `band` of band `word` of `other`. If it has rows below the last row of the square, these stay
                 // light.
                 let mut tile = [0; 64];
                 for line in 0..(side - 64 * word).min(64) {
-                    tile[line] = other.word(64 * word + line, band);
+                    tile[line] = other.rows[64 * word + line].0[band];
                 }
                 exchange(&mut tile, 32, 0x0000_0000_FFFF_FFFF);
                 exchange(&mut tile, 16, 0x0000_FFFF_0000_FFFF);

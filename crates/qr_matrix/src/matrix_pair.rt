@@ -1,15 +1,15 @@
 //! Two squares with the same side. Their bit rows are stored side by side in vectors, so that one operation works on 64
 //! modules of each square.
 
-ghost use Rattle.std.specs.Prelude.{Bool, IfOk, List, false, if◌then◌else◌, nat_le, nat_lt, not, true, ℕ, ◌%◌, ◌&&◌, ◌*◌, ◌+◌, ◌-◌, ◌/◌, ◌<◌, ◌==◌, ◌||◌, ◌≡◌, ◌≤◌};
+ghost use Rattle.std.specs.Prelude.{Bool, IfOk, List, false, if◌then◌else◌, nat_le, nat_lt, not, true, ℕ, ◌%◌, ◌&&◌, ◌+◌, ◌-◌, ◌/◌, ◌<◌, ◌==◌, ◌||◌, ◌≡◌, ◌≤◌};
 ghost use Rattle.std.proofs.Common.{rules};
-ghost use Rattle.qr_matrix.specs.Grid.{IsSquare, colour, is_same, light, one_of, painted, square, with_row};
+ghost use Rattle.qr_matrix.specs.Grid.{IsSquare, colour, is_same, light, one_of, square, with_row};
 ghost use Rattle.qr_matrix.specs.BitRow.{has, has_bit};
-ghost use Rattle.qr_matrix.specs.Steps.{IsPair, NeedsWords, lane};
+ghost use Rattle.qr_matrix.specs.Steps.{IsPair, lane};
 
 use crate::bit_row::{BitRow, low_bits};
 use crate::matrix::Matrix;
-use crate::rows::{Rows, Squares, words_for};
+use crate::rows::{Rows, Squares};
 use std::alloc::{AllocError, Global};
 use std::marker::Model;
 use std::ops::{BitAnd, BitOr, BitXor};
@@ -103,24 +103,6 @@ impl RowPair {
         }
     }
 
-    // Replaces the first `words` words of each row by those of `bits`.
-    #[inline(always)]
-    pub(crate) fn put_words(&mut self, words: u8, bits: RowPair)
-        requires some { 1 ≤ words }
-        requires three { words ≤ 3 }
-        ensures { (second : Bool) (c : ℕ) → has (lane self.new second) c
-            ≡ (if nat_lt c (64 * words) then has (lane bits second) c else has (lane self.old second) c) }
-    {
-        match words {
-            1 => self.low = bits.low,
-            2 => {
-                self.low = bits.low;
-                self.middle = bits.middle;
-            }
-            _ => *self = bits,
-        }
-    }
-
     // Replaces the bits of word `number` at which `mask` has a 1: in the first row by the bits of `bits.0`, and in the
     // second row by those of `bits.1`.
     #[inline(always)]
@@ -168,9 +150,15 @@ impl Rows for RowPair {
 
     ghost number = { λ counts second. if second then counts.1 else counts.0 };
 
+    // Where `words` is a constant, only one word has to be computed, because the other two are constants.
     #[inline(always)]
     fn below_in(n: u8, words: u8) -> RowPair {
-        let row = BitRow::below_in(n, words);
+        let n = u32::from(n);
+        let row = match words {
+            1 => BitRow([low_bits(n), 0, 0]),
+            2 => BitRow([u64::MAX, low_bits(n - 64), 0]),
+            _ => BitRow([u64::MAX, u64::MAX, low_bits(n - 128)]),
+        };
         RowPair::of(row, row)
     }
 
@@ -270,27 +258,6 @@ impl MatrixPair {
         Ok(MatrixPair { side, rows })
     }
 
-    /// Returns the number of modules on a side, from 1 to 177.
-    pub fn side(&self) -> u8
-        ensures first { result ≡ self.now.first.side }
-        ensures second { result ≡ self.now.second.side }
-        ensures least { 1 ≤ result }
-        ensures most { result ≤ 177 }
-    {
-        self.side
-    }
-
-    /// Sets the module in row `row` and column `col` of both squares. In the first square it becomes dark if `dark.0`
-    /// is true, and in the second if `dark.1` is true. Otherwise it becomes light.
-    pub fn set(&mut self, row: u8, col: u8, dark: (bool, bool))
-        requires row_in { row < self.old.first.side }
-        requires col_in { col < self.old.first.side }
-        ensures { (second : Bool) → one_of self.new second
-            ≡ painted (one_of self.old second) row col (if second then dark.1 else dark.0) }
-    {
-        self.set_columns(row, col, 1, (u64::from(dark.0), u64::from(dark.1)));
-    }
-
     /// Sets the `count` modules of row `row` from column `col` on. The module in column `col + k` becomes dark if bit k
     /// is 1, and light otherwise. The first square takes its bits from `bits.0`, and the second from `bits.1`. Bit 0 is
     /// the lowest bit.
@@ -304,36 +271,6 @@ impl MatrixPair {
             else colour (one_of self.old second) row c) }
     {
         self.rows[usize::from(row)].put_bits(col, count, bits);
-    }
-
-    #[inline(always)]
-    fn set_rows_masked_in(
-        &mut self,
-        first: u8,
-        plain: &Matrix,
-        within: &Matrix,
-        patterns: (u8, u8),
-        words: u8,
-    )
-        requires first_in { first < 12 }
-        requires plain_side { plain.now.side ≡ self.old.first.side }
-        requires within_side { within.now.side ≡ self.old.first.side }
-        requires patterns_in { (patterns.0 < 64) × (patterns.1 < 64) }
-        requires width { NeedsWords self.old.first.side words }
-        ensures { (second : Bool) → one_of self.new second ≡ square self.old.first.side
-            (λ r c. if r % 12 == first then (if colour within.now r c
-            && has_bit (if second then patterns.1 else patterns.0) (c % 6)
-            then not (colour plain.now r c) else colour plain.now r c) else colour (one_of self.old second) r c) }
-    {
-        let pattern = RowPair::of(BitRow::repeated(patterns.0), BitRow::repeated(patterns.1));
-        let side = usize::from(self.side());
-        let mut row = usize::from(first);
-        while row < side {
-            let (bits, region) = (plain.row_in(row, words), within.row_in(row, words));
-            let inverted = RowPair::of(region, region) & pattern;
-            self.rows[row].put_words(words, RowPair::of(bits, bits) ^ inverted);
-            row += 12;
-        }
     }
 
     /// Copies every twelfth row of `plain`, from row `first` on, into both squares. The module in column c is inverted
@@ -356,10 +293,14 @@ impl MatrixPair {
             && has_bit (if second then patterns.1 else patterns.0) (c % 6)
             then not (colour plain.now r c) else colour plain.now r c) else colour (one_of self.old second) r c) }
     {
-        match words_for(self.side) {
-            1 => self.set_rows_masked_in(first, plain, within, patterns, 1),
-            2 => self.set_rows_masked_in(first, plain, within, patterns, 2),
-            _ => self.set_rows_masked_in(first, plain, within, patterns, 3),
+        let pattern = RowPair::of(BitRow::repeated(patterns.0), BitRow::repeated(patterns.1));
+        let side = usize::from(self.side);
+        let mut row = usize::from(first);
+        while row < side {
+            let (bits, region) = (plain.bit_row(row), within.bit_row(row));
+            let inverted = RowPair::of(region, region) & pattern;
+            self.rows[row] = RowPair::of(bits, bits) ^ inverted;
+            row += 12;
         }
     }
 }
@@ -372,8 +313,13 @@ impl Squares for MatrixPair {
     ghost dark = { λ pair second. colour (one_of pair second) };
 
     #[inline(always)]
-    fn side(&self) -> u8 {
-        MatrixPair::side(self)
+    fn side(&self) -> u8
+        ensures value { result ≡ self.now.first.side }
+        ensures second { result ≡ self.now.second.side }
+        ensures least { 1 ≤ result }
+        ensures most { result ≤ 177 }
+    {
+        self.side
     }
 
     #[inline(always)]

@@ -1,7 +1,6 @@
 //! Computes the penalty of a symbol, by which its mask is chosen (ISO/IEC 18004:2015, 7.8.3).
 
-ghost use Rattle.std.specs.Prelude.{◌≡◌, ℕ, Bool, ◌*◌, ◌/◌, ◌<◌, ◌≤◌};
-ghost use Rattle.std.specs.Int.{abs_diff};
+ghost use Rattle.std.specs.Prelude.{◌≡◌, ℕ, Bool, ◌*◌, ◌≤◌};
 ghost use Rattle.qr_matrix.specs.Grid.{colour};
 ghost use Rattle.qr_matrix.specs.Sums.{places_passing};
 ghost use Rattle.qr_matrix.specs.Penalty.{penalty_of};
@@ -9,7 +8,7 @@ ghost use Rattle.qr_matrix.specs.Steps.{IsCounted, NeedsWords};
 
 use crate::matrix::Matrix;
 use crate::matrix_pair::MatrixPair;
-use crate::rows::{Rows, Squares, added, words_for};
+use crate::rows::{Rows, Squares, added};
 use crate::runs::runs_and_squares;
 use crate::windows::window_count;
 
@@ -81,12 +80,14 @@ fn count_in<S: Squares, const WORDS: u8>(squares: &S) -> Counted<<S::Row as Rows
     }
 }
 
+// Loops over rows are compiled once for each number of words that a row takes, and leave out the words that are always
+// empty.
 pub(crate) fn count_all<S: Squares>(squares: &S) -> Counted<<S::Row as Rows>::Counts>
     ensures { (second : Bool) → IsCounted (S.size squares.now) (S.dark squares.now second)
         (S.Row.number result.runs second) (S.Row.number result.squares second)
         (S.Row.number result.windows second) (S.Row.number result.dark second) }
 {
-    match words_for(squares.side()) {
+    match squares.side().div_ceil(64) {
         1 => count_in::<S, 1>(squares),
         2 => count_in::<S, 2>(squares),
         _ => count_in::<S, 3>(squares),

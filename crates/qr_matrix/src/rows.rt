@@ -101,16 +101,6 @@ pub(crate) trait Squares {
         ensures past { (second : Bool) (c : ℕ) → size self.now ≤ c → Self.Row.bit result second c ≡ false };
 }
 
-// Returns how many words a row of `side` modules takes. Loops over rows are compiled once for each number of words, and
-// leave out the words that are always empty.
-pub(crate) fn words_for(side: u8) -> u8
-    requires least { 1 ≤ side }
-    requires most { side ≤ 177 }
-    ensures { NeedsWords side result }
-{
-    (side - 1) / 64 + 1
-}
-
 #[inline(always)]
 pub(crate) fn and_not<R: Rows>(row: R, other: R) -> R
     ensures { (second : Bool) (c : ℕ) → R.bit result second c ≡ (R.bit row second c && not (R.bit other second c)) }

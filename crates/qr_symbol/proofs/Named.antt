@@ -1,15 +1,11 @@
 -- The lemmas that the attributes of functions name.
 use Rattle.{qr_layout.proofs.Facts.blocks-sound, std.proofs.lemmas.Bool.Decides.nat_tests}
-use Rattle.qr_symbol.proofs.lemmas.interleaving.{CheckLemmas.slice-in, MessageLemmas.data-sizes-whole}
-use Rattle.qr_symbol.proofs.lemmas.interleaving.PositionLemmas.{start-next, start-none}
-use Rattle.qr_symbol.proofs.lemmas.{laws.DistanceLemmas.messages-apart}
-use Rattle.qr_symbol.proofs.lemmas.words.BitLemmas.{word-past}
-use Rattle.qr_symbol.proofs.lemmas.words.SplitLemmas.{all-exchanged-bit, exchanged-bit}
-use Rattle.qr_symbol.proofs.lemmas.reading.ReadLemmas.{read-grid}
-use Rattle.qr_symbol.proofs.lemmas.series.{PartExistenceLemmas.parts-there, PartLemmas.part-least}
+use Rattle.qr_symbol.proofs.lemmas.interleaving.{CheckLemmas.slice-in, MessageLemmas.data-sizes-whole, PositionLemmas.{start-next, start-none}}
+use Rattle.qr_symbol.proofs.lemmas.{laws.DistanceLemmas.messages-apart, words.{BitLemmas.set-bit, SplitLemmas.{all-exchanged-bit, exchanged-bit}}}
+use Rattle.qr_symbol.proofs.lemmas.{reading.ReadLemmas.read-grid, series.{PartExistenceLemmas.parts-there, PartLemmas.part-least}}
 
 -- Bits of words and of codewords.
-pub ruleset word_bits = (nat_tests, word-past)
+pub ruleset word_bits = (nat_tests, set-bit)
 
 -- Bits of a word that are exchanged.
 pub ruleset exchanges = (exchanged-bit, all-exchanged-bit)

@@ -10,9 +10,10 @@ ghost use Rattle.qr_symbol.specs.Steps.Canvas.{HasPatterns};
 ghost use Rattle.qr_symbol.specs.Steps.Placement.{masked_grid, plain_grid, region_grid};
 
 use crate::mask::{pattern, set_masked};
-use crate::patterns::{draw_both_formats, draw_fixed, draw_format, region_of};
+use crate::patterns::{draw_fixed, draw_format, region_of};
 use crate::placement::draw_codewords;
-use qr_layout::{Level, Version, format_word};
+use crate::words::reversed;
+use qr_layout::{FORMAT_BITS, Level, Version, format_place, format_word, second_format_place};
 use qr_matrix::{Matrix, MatrixPair};
 use std::alloc::{AllocError, Global};
 use std::mem;
@@ -84,7 +85,9 @@ impl Canvas {
     }
 
     // As `draw_masked`, but draws into two squares, each under a mask of its own. Rows whose indices differ by a
-    // multiple of twelve have the same pattern, and are set together.
+    // multiple of twelve have the same pattern, and are set together. On the processor, a write to a row has to wait
+    // until the previous write to this row is done. So the bits of the format information in row 8 are written several
+    // at a time, which takes fewer writes.
     pub(crate) fn draw_both_masked(&self, pair: &mut MatrixPair, masks: (u8, u8))
         requires masks_in { (masks.0 < 8) × (masks.1 < 8) }
         requires squares { (second : Bool) → IsSquare (side_of self.now.version) (one_of pair.old second) }
@@ -95,8 +98,31 @@ impl Canvas {
             let patterns = (pattern(masks.0, first), pattern(masks.1, first));
             pair.set_rows_masked(first, &self.plain, &self.region, patterns);
         }
-        let first = u32::from(format_word(self.level, masks.0));
-        let second = u32::from(format_word(self.level, masks.1));
-        draw_both_formats(pair, self.version, (first, second));
+        let side = self.version.side();
+        let formats = (
+            u64::from(format_word(self.level, masks.0)),
+            u64::from(format_word(self.level, masks.1)),
+        );
+        // In column 8 the first copy has bits 0 to 7, and the second copy has bits 8 to 14.
+        for bit in 0..FORMAT_BITS {
+            let place = if bit < 8 {
+                format_place(bit)
+            } else {
+                second_format_place(self.version, bit)
+            };
+            pair.set_columns(
+                place.row,
+                place.col,
+                1,
+                (formats.0 >> bit, formats.1 >> bit),
+            );
+        }
+        // Row 8 has the bits in reverse order, from left to right. The first copy has bits 14 to 9 in columns 0 to 5,
+        // then a module of the timing pattern, and then bits 8 and 7. The second copy has bits 7 to 0 in the last eight
+        // columns.
+        let across = (reversed(formats.0) >> 49, reversed(formats.1) >> 49);
+        pair.set_columns(8, 0, 6, across);
+        pair.set_columns(8, 7, 2, (across.0 >> 6, across.1 >> 6));
+        pair.set_columns(8, side - 8, 8, (across.0 >> 7, across.1 >> 7));
     }
 }

@@ -107,6 +107,9 @@ impl BlockSizes {
     /// Goes through the codewords block by block. In `interleaved`, the indices of two codewords that are neighbours in
     /// a block differ by the number of blocks. The last codewords of the long blocks are the exception: they are at the
     /// end, one after the other.
+    // This function is not inlined. If it were inlined, LLVM would know how many blocks there can be, and would compute
+    // the index of each codeword by a multiplication instead of an addition.
+    #[inline(never)]
     pub fn scatter(self, codewords: &[u8], interleaved: &mut [u8])
         requires whole { length codewords.now ≡ codeword_count self }
         requires room { length interleaved.old ≡ codeword_count self }
@@ -156,28 +159,6 @@ fn corrections(alloc: Global, blocks: Blocks, message: &[u8]) -> Result<Vec<u8>,
     Ok(corrections)
 }
 
-// Interleaves the data codewords, and after them the error correction codewords. This function is not inlined, for two
-// reasons. If it were inlined, LLVM would know how many blocks there can be, and would compute the index of each
-// codeword by a multiplication instead of an addition. Its variables would also be on the stack while error correction
-// codewords are computed.
-#[inline(never)]
-fn interleave_both(
-    alloc: Global,
-    blocks: Blocks,
-    message: &[u8],
-    corrections: &[u8],
-) -> Result<Vec<u8>, AllocError>
-    requires whole { length message.now ≡ codeword_count (data_sizes blocks) }
-    requires checks { IsChecks blocks message.now (block_count (data_sizes blocks)) corrections.now }
-    ensures { IfOk result (λ cw. IsFinalMessage blocks message.now cw.items) }
-{
-    let mut interleaved = vec![in alloc; 0u8; message.len() + corrections.len()]?;
-    let (data, checks) = interleaved.split_at_mut(message.len());
-    BlockSizes::of_data(blocks).scatter(message, data);
-    BlockSizes::of_corrections(blocks).scatter(corrections, checks);
-    Ok(interleaved)
-}
-
 /// Returns the final sequence of the data codewords `message` (ISO/IEC 18004:2015, 7.5.2 and 7.6). It has the first
 /// data codeword of each block, then the second of each block, and so on. After them come the error correction
 /// codewords in the same order.
@@ -199,7 +180,11 @@ pub fn interleave(
 {
     let blocks = version.blocks(level);
     let corrections = corrections(alloc, blocks, message)?;
-    interleave_both(alloc, blocks, message, &corrections)
+    let mut interleaved = vec![in alloc; 0u8; message.len() + corrections.len()]?;
+    let (data, checks) = interleaved.split_at_mut(message.len());
+    BlockSizes::of_data(blocks).scatter(message, data);
+    BlockSizes::of_corrections(blocks).scatter(&corrections, checks);
+    Ok(interleaved)
 }
 
 // Undoes `scatter`. This function is not inlined. If it were inlined, LLVM would compute the index of each codeword by

@@ -83,8 +83,8 @@ fn are_in_series(contents: &[Parsed], parity: u8) -> bool
 ///
 /// # Errors
 ///
-/// Returns `Series` if the contents are neither those of one such symbol nor those of a whole series, or if there are
-/// no contents. Returns `Memory` if an allocation is refused.
+/// Returns `Series` if there are no contents. Returns `Series` also if the contents are neither those of one symbol
+/// without a structured append header nor those of a whole series. Returns `Memory` if an allocation is refused.
 pub fn join(alloc: Global, contents: &[Parsed]) -> Result<Vec<u8>, ReadFault>
     ensures { MatchResult result
         (λ bytes. BelongTogether contents.now × (bytes.items ≡ bytes_of_all contents.now))
@@ -105,8 +105,9 @@ pub fn join(alloc: Global, contents: &[Parsed]) -> Result<Vec<u8>, ReadFault>
 ///
 /// # Errors
 ///
-/// Returns the fault of the first symbol that cannot be read. Returns `Series` if all can be read, but are neither one
-/// such symbol nor a whole series, or if there are no symbols. Returns `Memory` if an allocation is refused.
+/// Returns the fault of the first symbol that cannot be read. Returns `Series` if there are no symbols. Returns
+/// `Series` also if all symbols can be read, but are neither one symbol without a structured append header nor a whole
+/// series. Returns `Memory` if an allocation is refused.
 pub fn read_series(alloc: Global, symbols: &[Symbol]) -> Result<Vec<u8>, ReadFault>
     ensures { MatchResult result
         (λ bytes. IsJoined (squares_of symbols.now) bytes.items)

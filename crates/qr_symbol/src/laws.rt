@@ -246,8 +246,7 @@ pub fn parts_are_there(version: Version, level: Level)
         → (parts : List (List ℕ)) × AreParts version level rule i x parts }
 {}
 
-/// If an input with `Interpretation::Default` is cut into parts, each part has at least five bytes, or is all that is
-/// left after the earlier parts.
+/// If an input with `Interpretation::Default` is cut into parts, each part except the last has at least five bytes.
 #[tactic(auto, using(crate::proofs::Named::laws_of_parts))]
 pub fn parts_are_long(version: Version, level: Level)
     ensures { (rule : Rule) (x p : List ℕ) (ps : List (List ℕ))

@@ -2,26 +2,23 @@
 //! the region is dark (ISO/IEC 18004:2015, 6.3, 7.9 and 7.10). `format` is the format information as a number of 15
 //! bits.
 
-ghost use Rattle.std.specs.Prelude.{◌≡◌, ℕ, Bool, ◌+◌, ◌-◌, ◌<◌, ◌≤◌, ◌==◌, if◌then◌else◌, nat_le, false, IfOk};
-ghost use Rattle.std.specs.List.{list_any, All};
+ghost use Rattle.std.specs.Prelude.{◌≡◌, ℕ, ◌+◌, ◌<◌, ◌≤◌, if◌then◌else◌, nat_le, IfOk};
+ghost use Rattle.std.specs.List.{All};
 ghost use Rattle.qr_layout.specs.Version.{side_of};
 ghost use Rattle.qr_layout.specs.Alignment.{alignment_places, centres_of};
-ghost use Rattle.qr_layout.specs.Region.{is_alignment, is_corner, is_in_region, is_timing, is_version_information, ring_of};
-ghost use Rattle.qr_layout.specs.Rectangles.{is_in_rectangle};
-ghost use Rattle.qr_layout.specs.Steps.Rectangles.{IsCentreInside, IsInside};
-ghost use Rattle.qr_layout.specs.Role.{finder_ring, is_alignment_light, role_of};
+ghost use Rattle.qr_layout.specs.Region.{is_alignment, is_corner, is_in_region, ring_of};
+ghost use Rattle.qr_layout.specs.Steps.Rectangles.{IsCentreInside};
+ghost use Rattle.qr_layout.specs.Role.{finder_ring, role_of};
 ghost use Rattle.qr_layout.specs.Format.{version_word_of};
-ghost use Rattle.qr_matrix.specs.Grid.{square, colour, one_of, IsSquare};
-ghost use Rattle.qr_matrix.specs.BitRow.{has_bit};
-ghost use Rattle.qr_symbol.specs.Steps.Patterns.{fixed_colour, format_bits_or, format_or, is_in_finder_area, paint_of, IsOver};
+ghost use Rattle.qr_matrix.specs.Grid.{square, colour, IsSquare};
+ghost use Rattle.qr_symbol.specs.Steps.Patterns.{fixed_colour, format_or, is_in_finder_area, paint_of, IsOver};
 ghost use Rattle.qr_symbol.specs.Steps.Placement.{region_grid};
 
-use crate::words::{is_bit_set, reversed};
 use qr_layout::{
     FORMAT_BITS, Place, Rectangle, Version, alignment_centres, fixed_rectangles, format_place,
     second_format_place,
 };
-use qr_matrix::{Matrix, MatrixPair};
+use qr_matrix::Matrix;
 use std::alloc::{AllocError, Global};
 
 // Fills the square around `centre`: the modules at most `distance` rows and at most `distance` columns away from it.
@@ -63,60 +60,18 @@ fn paint_finder(matrix: &mut Matrix, version: Version, area: Place, centre: Plac
     fill_around(matrix, centre, 1, true);
 }
 
-#[inline(always)]
-fn draw_format_bits(matrix: &mut Matrix, version: Version, format: u32, first: u8, end: u8)
-    requires square { IsSquare (side_of version) matrix.old }
-    requires in_order { first ≤ end }
-    requires end_in { end ≤ FORMAT_BITS }
-    ensures { matrix.new ≡ square (side_of version) (λ r c. format_bits_or first end format (role_of version r c) (colour matrix.old r c)) }
+// Draws both copies of the format information.
+pub(crate) fn draw_format(matrix: &mut Matrix, version: Version, format: u32)
+    requires { IsSquare (side_of version) matrix.old }
+    ensures { matrix.new ≡ square (side_of version) (λ r c. format_or format (role_of version r c) (colour matrix.old r c)) }
 {
-    for bit in first..end {
-        let dark = is_bit_set(format, bit);
+    for bit in 0..FORMAT_BITS {
+        let dark = format >> bit & 1 == 1;
         let one = format_place(bit);
         matrix.set(one.row, one.col, dark);
         let other = second_format_place(version, bit);
         matrix.set(other.row, other.col, dark);
     }
-}
-
-// Draws both copies of the format information in three parts. In the first part and in the last, the bits of each copy
-// are in one row or in one column, so the compiled code finds their places without branches.
-pub(crate) fn draw_format(matrix: &mut Matrix, version: Version, format: u32)
-    requires { IsSquare (side_of version) matrix.old }
-    ensures { matrix.new ≡ square (side_of version) (λ r c. format_or format (role_of version r c) (colour matrix.old r c)) }
-{
-    draw_format_bits(matrix, version, format, 0, 6);
-    draw_format_bits(matrix, version, format, 6, 9);
-    draw_format_bits(matrix, version, format, 9, FORMAT_BITS);
-}
-
-// As `draw_format`, but draws in two squares, each with its own format information. On the processor, a write to a row
-// has to wait until the previous write to this row is done. So the bits in row 8 are written several at a time, which
-// takes fewer writes.
-pub(crate) fn draw_both_formats(pair: &mut MatrixPair, version: Version, formats: (u32, u32))
-    requires { (second : Bool) → IsSquare (side_of version) (one_of pair.old second) }
-    ensures { (second : Bool) → one_of pair.new second ≡ square (side_of version)
-        (λ r c. format_or (if second then formats.1 else formats.0) (role_of version r c)
-        (colour (one_of pair.old second) r c)) }
-{
-    // In column 8 the first copy has bits 0 to 6, and the second copy has bits 8 to 14.
-    for bit in 0..7 {
-        let place = format_place(bit);
-        let dark = (is_bit_set(formats.0, bit), is_bit_set(formats.1, bit));
-        pair.set(place.row, place.col, dark);
-    }
-    for bit in 8..FORMAT_BITS {
-        let place = second_format_place(version, bit);
-        let dark = (is_bit_set(formats.0, bit), is_bit_set(formats.1, bit));
-        pair.set(place.row, place.col, dark);
-    }
-    // Row 8 has the bits in reverse order, from left to right. The first copy has bits 14 to 9 in columns 0 to 5, then
-    // a module of the timing pattern, and then bits 8 and 7. The second copy has bits 7 to 0 in the last eight columns.
-    let first = reversed(u64::from(formats.0)) >> 49;
-    let second = reversed(u64::from(formats.1)) >> 49;
-    pair.set_columns(8, 0, 6, (first, second));
-    pair.set_columns(8, 7, 2, (first >> 6, second >> 6));
-    pair.set_columns(8, version.side() - 8, 8, (first >> 7, second >> 7));
 }
 
 // Draws the three corners that have a finder pattern: these patterns with their separators, and the modules beside them
@@ -174,9 +129,9 @@ pub(crate) fn draw_fixed(matrix: &mut Matrix, version: Version, format: u32)
         matrix.set(centre.row, centre.col, dark);
     }
     paint_corners(matrix, version, format);
-    // Row 6 and column 6 have the same colours from end to end. The first seven and the last seven modules belong to
-    // finder patterns, and those next to them to separators. Between the separators is a timing pattern (ISO/IEC
-    // 18004:2015, 6.3.5).
+    // For each k, module k of row 6 has the same colour as module k of column 6. The first seven and the last seven
+    // modules belong to finder patterns, and those next to them to separators. Between the separators is a timing
+    // pattern (ISO/IEC 18004:2015, 6.3.5).
     for at in 0..side {
         let dark = at < 7 || at >= side - 7 || at % 2 == 0;
         matrix.set(6, at, dark);
@@ -189,7 +144,7 @@ pub(crate) fn draw_fixed(matrix: &mut Matrix, version: Version, format: u32)
         for bit in 0..VERSION_BITS {
             let row = bit / 3;
             let col = left + bit % 3;
-            let dark = is_bit_set(word, bit);
+            let dark = word >> bit & 1 == 1;
             matrix.set(row, col, dark);
             matrix.set(col, row, dark);
         }

@@ -6,13 +6,11 @@
 //! `across` is a transposed square, in which the two columns of a strip are rows (`spans.rt`). In `region` exactly the
 //! region is dark. The region is symmetric, so `region` is equal to its transposed square.
 
-ghost use Rattle.std.specs.Prelude.{◌≡◌, ℕ, ◌*◌, ◌%◌, ◌+◌, ◌-◌, ◌<◌, ◌≤◌, ◌&&◌, ◌||◌, nat_le, nat_lt, not, false};
+ghost use Rattle.std.specs.Prelude.{◌≡◌, ◌≤◌};
 ghost use Rattle.qr_layout.specs.Version.{side_of};
 ghost use Rattle.qr_matrix.specs.Grid.{square, colour, transposed, IsSquare};
-ghost use Rattle.qr_matrix.specs.BitRow.{has, has_bit};
 ghost use Rattle.qr_symbol.specs.Steps.Placement.{number_at, placed_colour, region_grid, walked_colour, AreDrawn, AreLight, IsRegion};
 ghost use Rattle.qr_symbol.specs.Steps.Spans.{AreWithin};
-ghost use Rattle.qr_symbol.specs.Steps.Words.{rank_in};
 
 use crate::mask::inverts;
 use crate::spans::{Columns, Span, Spans, columns_of};

@@ -1,7 +1,7 @@
 //! Reads one symbol (ISO/IEC 18004:2015, 12). The side gives the version, and one copy of the format information gives
 //! the level and the mask. Then the mask is undone, the codewords are collected from the region and deinterleaved, and
-//! the data codewords are parsed. Errors are not corrected: a symbol is refused if some codeword does not fit the other
-//! codewords of its block.
+//! the data codewords are parsed. Errors are not corrected: a symbol is refused if the error correction codewords of
+//! some block do not belong to its data codewords.
 
 ghost use Rattle.std.specs.Prelude.{◌≡◌, ℕ, ◌<◌, ◌≤◌, Err, length, IfOk, MatchOption, MatchResult};
 ghost use Rattle.std.specs.Bool.{Decides};
@@ -16,7 +16,6 @@ use crate::fault::ReadFault;
 use crate::interleaving::deinterleave;
 use crate::mask::set_masked;
 use crate::patterns::region_of;
-use crate::words::is_bit_set;
 use qr_bits::{Parsed, parse};
 use qr_layout::{FORMAT_BITS, Level, Version, format_place, format_word};
 use qr_matrix::Matrix;
@@ -31,7 +30,7 @@ fn has_format(matrix: &Matrix, level: Level, mask: u8) -> bool
     let word = u32::from(format_word(level, mask));
     for i in 0..FORMAT_BITS {
         let place = format_place(i);
-        if matrix.dark(place.row, place.col) != is_bit_set(word, i) {
+        if matrix.dark(place.row, place.col) != (word >> i & 1 == 1) {
             return false;
         }
     }

@@ -89,10 +89,10 @@ pub fn encode_series(
     )
 }
 
-// The symbol without a structured append header, or `None` if the input does not fit such a symbol. The number of
-// bytes, or a lower bound on the number of bits, may show that the input does not fit before it is cut into segments.
-// If only byte mode is allowed, the bound is not computed: the input then becomes a single segment, which takes no time
-// to find.
+// The symbol without a structured append header, or `None` if the input does not fit such a symbol. Before the input is
+// cut into segments, its number of bytes, or a lower bound on its number of bits, may already show that it does not
+// fit. If only byte mode is allowed, the bound is not computed: the input then becomes a single segment, which takes no
+// time to find.
 fn plain_symbol(
     alloc: Global,
     input: &[u8],

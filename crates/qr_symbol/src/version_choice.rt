@@ -13,7 +13,7 @@ ghost use Rattle.qr_bits.specs.Interpretation.{interpretation_bits, MayWrite};
 ghost use Rattle.qr_bits.specs.Segmentation.{bits, Covers};
 ghost use Rattle.qr_bits.specs.Padding.{capacity_of};
 ghost use Rattle.qr_layout.specs.declared.level.Level.{Level};
-ghost use Rattle.qr_symbol.specs.VersionChoice.{FitsVersion, level_rank};
+ghost use Rattle.qr_symbol.specs.VersionChoice.{level_rank};
 ghost use Rattle.qr_symbol.specs.Steps.Encoding.{IsFit, IsRefusedExactly};
 
 use crate::fault::EncodeFault;
@@ -65,32 +65,6 @@ fn capacity_at(number: u8, level: Level) -> u64
     version.capacity(level)
 }
 
-// Returns the first version of a range: 1, 10 or 27. The input fits no version of the ranges before this one. The
-// number of bytes, or a lower bound on the number of bits, shows this before the input is cut into segments. The lower
-// bound is compared with the capacity of the last version of a range, which is the greatest in this range. If only byte
-// mode is allowed, the bound is not computed, since it would save little time.
-fn first_for(input: &[u8], level: Level, rule: Rule, interpretation: Interpretation) -> u8
-    requires { length input.now ≤ INPUT_MAX }
-    ensures first { 1 ≤ result }
-    ensures last { result ≤ 40 }
-    ensures none { (v : ℕ) → 1 ≤ v → v < result → FitsVersion v level rule interpretation input.now → ⊥ }
-{
-    if input.len() > MEDIUM_BYTES {
-        return 27;
-    }
-    if matches!(rule, Rule::BytesOnly) {
-        return 1;
-    }
-    let bits = u64::from(least_bits(input)) + interpretation_bits(interpretation);
-    if bits > capacity_at(MEDIUM, level) {
-        27
-    } else if bits > capacity_at(SMALL, level) {
-        10
-    } else {
-        1
-    }
-}
-
 // Finds the least version, from `smallest` on, that the input fits, and the segments of the input in this version. Goes
 // through the ranges of versions 1 to 9, 10 to 26 and 27 to 40, from the first range on that has a version to be tried,
 // and cuts the input into segments once for each range. The search ends at the first version that has room for the
@@ -114,7 +88,24 @@ pub(crate) fn least_fit<'a>(
     if input.len() > SYMBOL_BYTES_MAX {
         return Err(EncodeFault::TooLong);
     }
-    let start = first_for(input, level, rule, interpretation);
+    // The first version of a range: 1, 10 or 27. The input fits no version of the ranges before this one. The number of
+    // bytes, or a lower bound on the number of bits, shows this before the input is cut into segments. The lower bound
+    // is compared with the capacity of the last version of a range, which is the greatest in this range. If only byte
+    // mode is allowed, the bound is not computed, since it would save little time.
+    let start = if input.len() > MEDIUM_BYTES {
+        27
+    } else if matches!(rule, Rule::BytesOnly) {
+        1
+    } else {
+        let bits = u64::from(least_bits(input)) + interpretation_bits(interpretation);
+        if bits > capacity_at(MEDIUM, level) {
+            27
+        } else if bits > capacity_at(SMALL, level) {
+            10
+        } else {
+            1
+        }
+    };
     let mut first = Version::new(smallest.number().max(start)).unwrap();
     loop {
         // The last version of the range that contains `first`. In all versions of a range, character count indicators

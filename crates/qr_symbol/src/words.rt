@@ -2,7 +2,7 @@
 //! (ISO/IEC 18004:2015, 7.7.2 and 7.7.3). Bit 0 of a word is its lowest. The bits of all codewords are numbered from 0
 //! on: bit 0 is the highest bit of the first codeword, and bit 8 is the highest bit of the second.
 
-ghost use Rattle.std.specs.Prelude.{◌≡◌, ℕ, ◌*◌, ◌/◌, ◌%◌, ◌+◌, ◌-◌, ◌<◌, ◌≤◌, ◌&&◌, [], ◌∷◌, ◌++◌, nat_lt, length, slice_index, IsTrue, Some, IfOk};
+ghost use Rattle.std.specs.Prelude.{◌≡◌, ℕ, ◌*◌, ◌/◌, ◌%◌, ◌+◌, ◌-◌, ◌<◌, ◌≤◌, ◌&&◌, [], ◌∷◌, ◌++◌, nat_lt, IsTrue, Some, IfOk};
 ghost use Rattle.std.specs.List.{All};
 ghost use Rattle.qr_bits.specs.Bits.{bits_of, codeword_bit, field};
 ghost use Rattle.qr_matrix.specs.BitRow.{has_bit};
@@ -10,14 +10,6 @@ ghost use Rattle.qr_symbol.specs.Steps.Words.{are_halves, are_pairs, partner, ra
 
 use std::alloc::{AllocError, Global};
 use std::marker::Model;
-
-// Whether bit `i` of the word is 1. `i` is compared with 32 because a `u32` cannot be shifted by 32 or more.
-#[tactic(auto, unfolding(qr_matrix::specs::BitRow::has_bit), using(crate::proofs::Named::word_bits))]
-pub(crate) fn is_bit_set(word: u32, i: u8) -> bool
-    ensures { result ≡ has_bit word i }
-{
-    i < 32 && word >> i & 1 == 1
-}
 
 // For each of these masks, a word is divided into groups of bits: of 4 bits for `OF_4`, of 8 bits for `OF_8`, and so
 // on. In each group exactly the second quarter, counted from the lowest bit, is set.
@@ -202,12 +194,12 @@ pub(crate) fn bits_at(codewords: &[u8], number: usize) -> u64
 
 // Bit `number` of the codewords. After the last codeword all bits are 0, so the remainder bits are 0 before a mask is
 // applied.
-#[tactic(auto, unfolding(qr_matrix::specs::BitRow::has_bit))]
+#[tactic(auto, unfolding(qr_matrix::specs::BitRow::has_bit), using(crate::proofs::Named::word_bits))]
 pub(crate) fn bit_at(codewords: &[u8], number: usize) -> bool
     ensures { result ≡ codeword_bit codewords.now number }
 {
     let codeword = codewords.get(number / 8).copied().unwrap_or(0);
-    is_bit_set(u32::from(codeword), 7 - (number % 8) as u8)
+    codeword >> (7 - number % 8) & 1 == 1
 }
 
 // Collects bits into codewords. The first bit of a codeword is its highest. If an allocation is refused, the collector

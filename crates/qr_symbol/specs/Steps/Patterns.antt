@@ -1,6 +1,6 @@
 -- The colours of modules outside the region after each step of drawing. `format` is the format information as a number,
 -- and `version` the version information as a number.
-use Rattle.std.specs.Prelude.{◌≡◌, ◌<◌, ℕ, ◌+◌, ◌-◌, ◌%◌, ◌==◌, ◌&&◌, ◌||◌, nat_le, nat_lt, if◌then◌else◌, Bool, false}
+use Rattle.std.specs.Prelude.{◌≡◌, ◌<◌, ℕ, ◌+◌, ◌&&◌, nat_le, nat_lt, if◌then◌else◌, Bool, false}
 use Rattle.qr_layout.specs.declared.role.Role.{Role}
 use Rattle.qr_layout.specs.declared.role.Role.TheVariants.{Fixed, FormatBit, VersionBit, Region}
 use Rattle.qr_layout.specs.Format.{version_word_of}
@@ -38,12 +38,6 @@ is_in_finder_area top left r c = nat_le top r && nat_lt r (top + 8) && nat_le le
 abbrev pub symmetric_format : ℕ
 symmetric_format = 128
 
--- The module with the index `at` in row 6, or in column 6, is dark; `s` is the side. The seven modules at each end of
--- this row or column belong to finder patterns, and are dark. Of the modules between them, those with an even index are
--- dark.
-abbrev pub is_dark_in_six : ℕ → ℕ → Bool
-is_dark_in_six s at = nat_lt at 7 || nat_le (s - 7) at || at % 2 == 0
-
 -- The colour of a module with the given role after the format information, the number `format`, was drawn. `other` is
 -- its colour before. Only a module that contains a bit of the format information changes its colour.
 unfoldable pub format_or : ℕ → Role → Bool → Bool
@@ -51,11 +45,3 @@ format_or format (Fixed dark) other = other
 format_or format (FormatBit i) other = has_bit format i
 format_or format (VersionBit i) other = other
 format_or format Region other = other
-
--- The colour that a module with the given role has after some bits of the format information were drawn: bits `first`
--- to `end - 1` of the number `format`. `other` is its colour before, which a module keeps if it has none of these bits.
-unfoldable pub format_bits_or : ℕ → ℕ → ℕ → Role → Bool → Bool
-format_bits_or first end format (Fixed dark) other = other
-format_bits_or first end format (FormatBit i) other = if nat_le first i && nat_lt i end then has_bit format i else other
-format_bits_or first end format (VersionBit i) other = other
-format_bits_or first end format Region other = other

@@ -4,8 +4,7 @@
 -- `x` is a strip, and `first` the number of its first bit. Its rows come in the order of filling, which is upward or
 -- downward. `s` is the side of the symbol. `y` has the colours of the two columns of the strip, which are rows of a
 -- transposed square. `region` has two such columns, in which a bit is set exactly if its module is in the region.
--- `before` and `after` have the colours of the two columns before and after a step, but in `IsStripDrawn` they are
--- whole squares.
+-- `before` and `after` have the colours of the two columns before and after a step.
 use Rattle.std.specs.Prelude.{◌≡◌, ◌<◌, ◌≤◌, ℕ, ◌+◌, ◌-◌, ◌&&◌, Bool, false, true, if◌then◌else◌, List}
 use Prim.Native.Nat.{zero, suc}
 use Rattle.qr_layout.specs.declared.level.Level.{Level}
@@ -16,7 +15,7 @@ use Rattle.qr_layout.specs.Order.{index_of}
 use Rattle.qr_layout.specs.Region.{is_in_region}
 use Rattle.qr_layout.specs.Role.{role_of}
 use Rattle.qr_bits.specs.Bits.{codeword_bit}
-use Rattle.qr_matrix.specs.{BitRow.has, Grid.{Grid, square, colour, IsSquare}}
+use Rattle.qr_matrix.specs.{BitRow.has, Grid.{Grid, square, colour}}
 use Rattle.qr_symbol.specs.declared.spans.Columns.{Columns}
 use Rattle.qr_symbol.specs.Mask.{inverts, inverted}
 use Rattle.qr_symbol.specs.Steps.{Patterns.{format_or, paint_of, symmetric_format}, Spans.row_of}
@@ -81,15 +80,6 @@ pub record AreDrawn (v : ℕ) (cw : List ℕ) (x : Strip) (first k n : ℕ) (bef
   pub drawn : (j : ℕ) → k ≤ j → j < k + n
       → IsRowDrawn v cw x first j (has before.right (row_of (side_of v) x j)) (has before.left (row_of (side_of v) x j)) (has after.right (row_of (side_of v) x j)) (has after.left (row_of (side_of v) x j))
   pub kept : (row : ℕ) → ((j : ℕ) → k ≤ j → j < k + n → row_of (side_of v) x j ≡ row → ⊥) → (has after.right row ≡ has before.right row) × (has after.left row ≡ has before.left row)
-
--- Drawing the strip changes the transposed square from `before` to `after`. The first bit of the strip has the number
--- `first`, and the bit that follows the strip has the number `next`.
-pub record IsStripDrawn (v : ℕ) (cw : List ℕ) (x : Strip) (first : ℕ) (before : Grid) (next : ℕ) (after : Grid) : Type 0 where
-  pub number : next ≡ number_at v x first (side_of v)
-  pub square : IsSquare (side_of v) after
-  pub drawn : (j : ℕ) → j < side_of v
-      → IsRowDrawn v cw x first j (colour before x.right (row_of (side_of v) x j)) (colour before (x.right - 1) (row_of (side_of v) x j)) (colour after x.right (row_of (side_of v) x j)) (colour after (x.right - 1) (row_of (side_of v) x j))
-  pub kept : (row col : ℕ) → row < side_of v → col < side_of v → (col ≡ x.right → ⊥) → (col ≡ x.right - 1 → ⊥) → colour after col row ≡ colour before col row
 
 -- The colour of the module in row `r` and column `c` after two steps, which begin with the square `plain`. First the
 -- mask is applied to the modules that are dark in `region`. Then the format information, the number `format`, is drawn.

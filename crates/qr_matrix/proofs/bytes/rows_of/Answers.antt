@@ -1,9 +1,9 @@
-use Rattle.std.proofs.Common.{rules, false, slice_index_or}
-use Rattle.qr_matrix.{specs.BitRow.has, proofs.lemmas.{bytes.ReadLemmas.known-module, runs.ColumnLemmas.has-nothing}}
+use Rattle.std.proofs.Common.{rules, false}
+use Rattle.qr_matrix.proofs.lemmas.runs.ColumnLemmas.{has-nothing}
 use Rattle.qr_matrix.proofs.bytes.rows_of.Goals as goal
 
 pub returns-in-None-clause-dark : goal.returns-in-None-clause-dark
-returns-in-None-clause-dark c = λ k. let e = c.and_not.ensures false k in let f = c.below.ensures k in let h = c.modules_of-light.ensures k in search rules
+returns-in-None-clause-dark c = λ k. let e = c.and_not.ensures false k in search rules
 
 pub returns-in-Some-clause-unknown : goal.returns-in-Some-clause-unknown
-returns-in-Some-clause-unknown c = search (rules, has-nothing, known-module, slice_index_or, has)
+returns-in-Some-clause-unknown c = search (rules, has-nothing)

@@ -1,4 +1,4 @@
-use Rattle.std.proofs.Common.{◌≡◌, ◌+◌, ◌-◌, ◌<◌, ◌≤◌, length, slice_index_or, ap, ◌∙◌, inl, inr, arith}
+use Rattle.std.proofs.Common.{rules, ◌≡◌, ◌+◌, ◌-◌, ◌<◌, ◌≤◌, length, slice_index_or, ap, ◌∙◌, inl, inr, arith}
 use Rattle.{std.proofs.lemmas.Bool.cases_lt, qr_matrix.specs.{BitRow.has_bit, Bytes.byte_of}}
 use borrow.Rule.Slice.PartMut.{put_mid}
 use Rattle.qr_matrix.proofs.lemmas.{bit_row.PlaceLemmas.{has_bit-shr, low-bits}, bytes.WriteLemmas.{part-long, part-here, part-others}}
@@ -25,7 +25,7 @@ loop-next-preserved c =
           let e : a - s + (k + 8) ≡ a + 8 - s + k = omega (arith, i.begun) in
           has_bit-shr bits 8 k ∙ (i.rest (k + 8) ∙ ap (has_bit c.args.word) e);
       written = λ k l. elim (cases_lt (s + k) a) [
-        | inl m ↦ part-others a w xs ys room many (s + k) (inl m) ∙ i.written k m
+        | inl m ↦ search (rules, part-others)
         | inr m ↦
             let j = s + k - a in
             let n : j < 8 = omega arith in
@@ -36,8 +36,5 @@ loop-next-preserved c =
             ∙ (ap (λ l. slice_index_or l j 0) held
             ∙ (c.eight_bytes.ensures j n ∙ ap byte_of (low-bits 8 bits j n ∙ (i.rest j ∙ ap (has_bit c.args.word) f)))))
       ];
-      others = λ j h. elim h [
-        | inl m ↦ part-others a w xs ys room many j (inl (omega (arith, i.begun))) ∙ i.others j (inl m)
-        | inr m ↦ part-others a w xs ys room many j (inr (omega arith)) ∙ i.others j (inr (omega arith))
-      ];
+      others = search (rules, part-others);
     }

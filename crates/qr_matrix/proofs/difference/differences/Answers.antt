@@ -1,6 +1,5 @@
-use Rattle.std.proofs.Common.{rules}
-use Rattle.std.proofs.Common.{arith, ◌∙◌, refl}
-use Rattle.qr_matrix.specs.{Difference.{differs, difference_count}, Sums.{count_below, places_passing}}
+use Rattle.std.proofs.Common.{rules, arith}
+use Rattle.qr_matrix.specs.{Difference.difference_count, Sums.places_passing}
 use Rattle.qr_matrix.proofs.lemmas.{bit_row.SumLemmas.sum_below-more, difference.DifferenceLemmas.row-differs}
 use Rattle.qr_matrix.proofs.difference.differences.Goals as goal
 
@@ -16,10 +15,7 @@ loop-row-preserved c =
       colours = c.bit_row-in-loop-row.ensures.colours;
       past = λ k l. c.bit_row-in-loop-row.ensures.past k (omega arith);
     }) in
-    record {
-      counted = sum_below-more r _ _ _ (λ r. count_below g.side (differs g h r)) c.loop-row.invariant.counted (c.count-total.ensures.value ∙ e) refl;
-      small = omega arith;
-    }
+    search (rules, sum_below-more)
 
 pub returns : goal.returns
 unfolding difference_count places_passing

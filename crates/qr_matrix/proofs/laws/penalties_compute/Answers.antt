@@ -1,5 +1,4 @@
-use Rattle.std.proofs.Common.{◌≡◌, ℕ, zero, suc, ◌+◌, ◌<◌, Bool, false, cond, ◌∙◌, refl, arith}
-use Rattle.std.proofs.lemmas.Bool.Decides.{nat_tests}
+use Rattle.std.proofs.{Common.{rules, ◌≡◌, ℕ, zero, suc, ◌<◌, Bool, false, ◌∙◌, refl, arith}, lemmas.Bool.Decides.nat_tests}
 use Rattle.qr_matrix.specs.Laws.{all_light, chequered, ratio_in_a_column, ratio_in_a_row}
 use Rattle.qr_matrix.specs.Penalty.{dark_cost, is_square_of_two, is_window, over_lines, square_count, window_count}
 use Rattle.qr_matrix.specs.{Runs.begins_five, Runs.begins_long_run, Runs.joins, Runs.place_cost, Sums.places_passing, Sums.sum_below}
@@ -9,7 +8,7 @@ use Rattle.qr_matrix.proofs.laws.penalties_compute.Goals as goal
 -- a line that is light but for its first module has no window
 no-window : (s : ℕ) (line : ℕ → Bool) → ((i : ℕ) → 0 < i → line i ≡ false) → window_count s line ≡ 0
 unfolding window_count is_window
-no-window s line h = sum-zero s (λ c. cond (is_window s line c) 1 0) (λ c _. let second = h (c + 1 + 1) (omega arith) in let sixth = h (c + 1 + 1 + 1 + 1 + 1 + 1) (omega arith) in search arith)
+no-window s line h = search (rules, sum-zero)
 
 -- a sum of which only the term for 0 is not 0
 first-term : (n : ℕ) (f : ℕ → ℕ) → ((k : ℕ) → 0 < k → f k ≡ 0) → sum_below (suc n) f ≡ f 0
@@ -46,5 +45,4 @@ unfolding over_lines
 returns-clause-inside c =
     let dark : ℕ → ℕ → Bool = ratio_in_a_row 60 in
     let rows = first-term 74 (λ r. window_count 75 (dark r)) (λ r l. no-window 75 (dark r) (λ i _. light-row 60 r i l)) in
-    let columns = sum-zero 75 (λ c. window_count 75 (λ r. dark r c)) (λ c _. no-window 75 (λ r. dark r c) (λ i l. light-row 60 i c l)) in
-    omega (arith, rows, columns, two-in-row)
+    omega (arith, rows, sum-zero 75 (λ c. window_count 75 (λ r. dark r c)) (λ c _. no-window 75 (λ r. dark r c) (λ i l. light-row 60 i c l)), two-in-row)

@@ -1,5 +1,5 @@
 -- Conjunctions and negations of tests.
-use Rattle.std.proofs.Common.{◌≡◌, Bool, false, not, ◌&&◌, ◌||◌, refl, sym, subst, arith}
+use Rattle.std.proofs.Common.{◌≡◌, Bool, false, ◌&&◌, ◌||◌, refl, sym, subst, arith}
 
 -- a conjunction with a second part that is false is false
 pub and-false : (a b : Bool) → b ≡ false → (a && b) ≡ false
@@ -8,10 +8,6 @@ and-false a b e = grind arith
 -- a conjunction with a first part that is false is false
 pub false-and : (a b : Bool) → a ≡ false → (a && b) ≡ false
 false-and a b e = subst (λ z. (z && b) ≡ false) (sym e) refl
-
--- a test that is negated twice is the test
-pub not-not : (b : Bool) → not (not b) ≡ b
-not-not b = grind arith
 
 -- a disjunction with a part that is false is the other part
 pub or-false : (a : Bool) → (a || false) ≡ a

@@ -17,9 +17,7 @@ pub record IsFirst (line : ℕ → Bool) (t : ℕ) : Type 0 where
 -- the first bit of a word that is set
 word-first : (a : ℕ) → 0 < a → a < 2 ^ 64 → (trailing_zeros w64 a < 64) × IsFirst (has_bit a) (trailing_zeros w64 a)
 unfolding has_bit
-word-first a p l =
-    let w = bit_at-trailing_zeros w64 a p l in
-    search arith
+word-first a p l = search (arith, bit_at-trailing_zeros w64 a p l)
 
 -- the first set bit is in the low word
 pub first-low : (a b d t : ℕ) → 0 < a → a < 2 ^ 64 → t ≡ trailing_zeros w64 a → (t < 64) × IsFirst (has_bit (three a b d)) t

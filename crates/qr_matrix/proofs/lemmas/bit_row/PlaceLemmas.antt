@@ -1,13 +1,11 @@
 -- The bits of a bit row, one by one: what operations on words do to each bit.
 use Rattle.std.proofs.Common.{◌≢◌, List, length, get_or, set, ◌≡◌, ℕ, zero, suc, ◌+◌, ◌-◌, ◌*◌, ◌/◌, ◌%◌, ◌^◌, ◌<◌, ◌≤◌, eqb, ltb, Bool, false, not, ◌&&◌, cond, bit_and, bit_or, bit_xor, ◌||◌, count_ones, ap, ◌∙◌, subst, arith}
-use Rattle.std.proofs.lemmas.Nat.{and_le_l, ones_cat, ones-le, shr-shr, shr_split, mod_below, pow_pos, shr_below}
+use Rattle.std.{proofs.{lemmas.Nat.{and_le_l, ones_cat, ones-le, shr-shr, shr_split, mod_below, pow_pos, shr_below}, Math.ListN.length-set}, specs.Int.bit_at}
 use Rattle.std.proofs.lemmas.Nat.Bits.{bit_at_above, bit_at_and, bit_at_or, bit_at_xor, bit_at-lt, bit_at_cat_low, bit_at_ones, bit_at_ones_above, bit_at-suc, bit_at_cat_high, bit_at-zero, shr_and_one}
-use Rattle.std.{proofs.Math.ListN.length-set, specs.Int.bit_at}
 use Rattle.std.proofs.lemmas.{List.{get_or_past, get_or-set_same, get_or-set_other}, Bool.Decides.nat_tests}
 use lib.Count.{ones, ones_in}
-use Rattle.qr_matrix.specs.{Steps.AreWords, BitRow.{has, has_bit, bit_row_number}}
-use Rattle.qr_matrix.proofs.lemmas.bit_row.{WordLemmas.three, WordLemmas.three-below, SumLemmas.sum_below-same}
-use Rattle.qr_matrix.specs.{Grid.is_same, Sums.count_below, Sums.sum_below}
+use Rattle.qr_matrix.specs.{Steps.AreWords, BitRow.{has, has_bit, bit_row_number}, Grid.is_same, Sums.{count_below, sum_below}}
+use Rattle.qr_matrix.proofs.lemmas.bit_row.{WordLemmas.three, SumLemmas.sum_below-same}
 
 -- bit c of the conjunction of a and b is set exactly if it is set in a and in b
 pub has_bit-and : (a b c : ℕ) → has_bit (bit_and a b) c ≡ (has_bit a c && has_bit b c)
@@ -19,14 +17,10 @@ pub has_bit-or : (a b c : ℕ) → has_bit (bit_or a b) c ≡ (has_bit a c || ha
 unfolding has_bit
 has_bit-or a b c = grind (arith, nat_tests, bit_at-lt, bit_at_or)
 
--- the sum z of two bits x and y, modulo 2, is 1 exactly if x and y differ
-xor-bits : (x y z : ℕ) → x < 2 → y < 2 → z ≡ (x + y) % 2 → eqb z 1 ≡ not (is_same (eqb x 1) (eqb y 1))
-xor-bits x y z a b e = grind (arith, nat_tests)
-
 -- bit c of the exclusive or of a and b is set exactly if a and b differ in bit c
 pub has_bit-xor : (a b c : ℕ) → has_bit (bit_xor a b) c ≡ not (is_same (has_bit a c) (has_bit b c))
 unfolding has_bit
-has_bit-xor a b c = search (arith, xor-bits, bit_at-lt, bit_at_xor)
+has_bit-xor a b c = search (arith, bit_at-lt, bit_at_xor, nat_tests)
 
 -- bit c of n shifted down by k is bit c + k of n
 pub has_bit-shr : (n k c : ℕ) → has_bit (n / 2 ^ k) c ≡ has_bit n (c + k)
@@ -50,29 +44,22 @@ ones-bits (suc n) N h =
     let high = N / 2 ^ n in
     let low = N % 2 ^ n in
     let split : high * 2 ^ n + low ≡ N = shr_split N n in
-    let low_is = mod_below N (2 ^ n) (pow_pos n) in
     let high_is : high < 2 ^ 1 = shr_below N 1 n (subst (λ z. N < 2 ^ z) (more n) h) in
-    search (arith, ones_cat, one_bit, sum_below-same, bit_at_cat_low, ones-bits n low low_is)
+    search (arith, ones_cat, one_bit, sum_below-same, bit_at_cat_low, ones-bits n low (mod_below N (2 ^ n) (pow_pos n)))
   where
     more : (n : ℕ) → suc n ≡ 1 + n
     more n = omega arith
 
--- a number x below 2 is 1 if it passes the test for 1, and 0 otherwise
-as_test : (x : ℕ) → x < 2 → x ≡ cond (eqb x 1) 1 0
-as_test x h = grind (arith, nat_tests)
-
 -- the population count of a number N of n bits is the number of its bits that are set
 pub ones-count : (n N : ℕ) → N < 2 ^ n → count_ones N ≡ count_below n (has_bit N)
 unfolding has_bit
-ones-count n N h = ones-bits n N h ∙ sum_below-same n (λ c. bit_at N c) (λ c. cond (eqb (bit_at N c) 1) 1 0) (λ c l. as_test (bit_at N c) (bit_at-lt N c))
+ones-count n N h = ones-bits n N h ∙ sum_below-same n (λ c. bit_at N c) (λ c. cond (eqb (bit_at N c) 1) 1 0) (search (arith, bit_at-lt, nat_tests))
 
 -- bit c of a bit row that is shifted up by one is bit c - 1 of the bit row, and bit 0 is not set
 pub has_bit-up : (n c : ℕ) → c < 192 → has_bit (n * 2 % 2 ^ 192) c ≡ (ltb 0 c && has_bit n (c - 1))
 unfolding has_bit
 has_bit-up n zero h = search arith
-has_bit-up n (suc c) h =
-    let f = bit_at_cat_low (n * 2 / 2 ^ 192) 192 (n * 2 % 2 ^ 192) (suc c) h in
-    search (arith, bit_at-suc, shr_split)
+has_bit-up n (suc c) h = search (arith, bit_at-suc, shr_split, bit_at_cat_low (n * 2 / 2 ^ 192) 192 (n * 2 % 2 ^ 192) (suc c) h)
 
 -- ---- one bit of three words
 
@@ -110,20 +97,16 @@ has-place ws i w l = search (arith, has_bit-low, has_bit-middle, has_bit-high)
 -- no bit from 192 on is set in a bit row
 pub has-past : (ws : List ℕ) (i : ℕ) → ((k : ℕ) → get_or ws k 0 < 2 ^ 64) → 192 ≤ i → has ws i ≡ false
 unfolding has has_bit bit_row_number
-has-past ws i w l = ap (λ z. eqb z 1) (bit_at_above (three (get_or ws 0 0) (get_or ws 1 0) (get_or ws 2 0)) 192 i (three-below (get_or ws 0 0) (get_or ws 1 0) (get_or ws 2 0) (w 0) (w 1) (w 2)) l)
+has-past ws i w l = ap (λ z. eqb z 1) (bit_at_above (three (get_or ws 0 0) (get_or ws 1 0) (get_or ws 2 0)) 192 i (search arith) l)
 
 -- the bit that the code reads is bit c of the bit row
 pub at-step : (ws : List ℕ) (c k : ℕ) → ((j : ℕ) → get_or ws j 0 < 2 ^ 64) → c < 192 → k ≡ c / 64 → eqb (bit_and (get_or ws k 0 / 2 ^ (c % 64)) 1) 1 ≡ has ws c
 unfolding has_bit
 at-step ws c k w h e = search (arith, shr_and_one, has-place)
 
--- all words are still below 2 ^ 64 after one of them is replaced by a number x below 2 ^ 64
-pub set-small : (ws : List ℕ) (k x : ℕ) → k < length ws → x < 2 ^ 64 → ((j : ℕ) → get_or ws j 0 < 2 ^ 64) → (j : ℕ) → get_or (set ws k x) j 0 < 2 ^ 64
-set-small ws k x l m w j = search (arith, get_or-set_same, get_or-set_other)
-
 -- three words of 64 bits are still three words of 64 bits after one of them is replaced by such a word
 pub set-words : (ws : List ℕ) (k x : ℕ) → k < 3 → x < 2 ^ 64 → AreWords ws → AreWords (set ws k x)
-set-words ws k x l m w = search (arith, set-small, words-small, length-set)
+set-words ws k x l m w = search (arith, words-small, length-set, get_or-set_same, get_or-set_other)
 
 -- the conjunction of a word with any number is a word
 pub and-small : (n m : ℕ) → n < 2 ^ 64 → bit_and n m < 2 ^ 64
@@ -133,7 +116,7 @@ and-small n m h = let e = and_le_l n m in omega arith
 pub put-step : (ws : List ℕ) (c k x : ℕ) (d : Bool) → length ws ≡ 3 → ((j : ℕ) → get_or ws j 0 < 2 ^ 64) → x < 2 ^ 64 → c < 192 → k ≡ c / 64 → eqb (bit_at x (c % 64)) 1 ≡ d → ((j : ℕ) → j < 64 → j ≢ c % 64 → bit_at x j ≡ bit_at (get_or ws k 0) j) → (i : ℕ) → has (set ws k x) i ≡ cond (eqb i c) d (has ws i)
 unfolding has_bit
 put-step ws c k x d l w m h e here there i =
-    grind (arith, set-small, has-place, get_or-set_same, nat_tests, get_or-set_other, has-past)
+    search (arith, has-place, get_or-set_same, nat_tests, get_or-set_other, has-past)
 
 -- ---- four places
 
@@ -157,8 +140,7 @@ eight-step ws c i k w h m e l = places-step ws 8 c i k w h (omega arith) e l
 
 -- a bit row with a new word k has the bits f, if this word has those of its places, and the others had theirs
 pub word-step : (ws : List ℕ) (k x : ℕ) (f : ℕ → Bool) → length ws ≡ 3 → ((j : ℕ) → get_or ws j 0 < 2 ^ 64) → x < 2 ^ 64 → k < 3 → ((j : ℕ) → j < 64 → has_bit x j ≡ f (64 * k + j)) → ((i : ℕ) → (i / 64 ≡ k → ⊥) → has ws i ≡ f i) → (i : ℕ) → has (set ws k x) i ≡ f i
-word-step ws k x f l w m n here there i =
-    search (arith, set-small, has-place, get_or-set_same, get_or-set_other, has-past)
+word-step ws k x f l w m n here there i = search (arith, has-place, get_or-set_same, get_or-set_other, has-past)
 
 -- no bit below s is set in a number that is shifted up by s
 pub has_bit-shl-low : (d s j : ℕ) → j < s → has_bit (d * 2 ^ s) j ≡ false

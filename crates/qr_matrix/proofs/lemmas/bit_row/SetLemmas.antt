@@ -1,10 +1,9 @@
 -- Bits of a bit row that are set at once, and bits that are set one after the other.
 use Rattle.std.proofs.Common.{List, [], ◌∷◌, length, get_or, set, ◌≡◌, ℕ, suc, ◌+◌, ◌-◌, ◌*◌, ◌/◌, ◌%◌, ◌^◌, ◌<◌, ◌≤◌, eqb, leb, Bool, true, false, not, ◌&&◌, ◌||◌, bit_or, sym, ap, ◌∙◌, inl, inr, w64, subst, arith}
-use Rattle.std.proofs.lemmas.Nat.{le-div, or_lt, trailing_le, leading_le, leading_top, mod_below, pow_pos, shr_below}
+use Rattle.std.proofs.{lemmas.Nat.{le-div, or_lt, trailing_le, leading_le, leading_top, mod_below, pow_pos, shr_below}, Math.Nat.div-le_self}
 use Rattle.std.proofs.lemmas.Nat.Bits.{bit_at_above, bit_at_not, bit_at_ones, bit_at-lt, bit_at-trailing_ones}
 use Rattle.{std.proofs.lemmas.Bool.{cases_lt, false≢true, Decides.nat_tests}, qr_matrix.specs.BitRow.{has, has_bit}}
 use lib.Count.{count_trailing_zeros, count_leading_zeros}
-use Rattle.std.proofs.Math.Nat.{div-le_self}
 use Rattle.std.specs.Int.{bit_at, bit_not, trailing_ones, leading_ones}
 use Rattle.qr_matrix.proofs.lemmas.bit_row.PlaceLemmas.{has-place, has_bit-or, has_bit-shr, low-bits, word-step, words-small, has_bit-shl-low, has_bit-shl-high}
 

@@ -23,19 +23,14 @@ three-or a b c d e f ha hb hd he = omega (arith, or_block)
 pub three-ones : (a b c : ℕ) → a < 2 ^ 64 → b < 2 ^ 64 → count_ones a + count_ones b + count_ones c ≡ count_ones (three a b c)
 three-ones a b c ha hb = omega (arith, ones_cat)
 
--- a bit row of three words is below 2 ^ 192
-pub three-below : (a b c : ℕ) → a < 2 ^ 64 → b < 2 ^ 64 → c < 2 ^ 64 → three a b c < 2 ^ 192
-three-below a b c ha hb hc = omega arith
-
 -- two words, shifted down by k bits: the lower word is that of the low one shifted down, and of the high one shifted up
 two-down : (j k h l : ℕ) → l < 2 ^ (j + k) → (h * 2 ^ (j + k) + l) / 2 ^ k ≡ h / 2 ^ k * 2 ^ (j + k) + bit_or (l / 2 ^ k) (h * 2 ^ j % 2 ^ (j + k))
 two-down j k h l hl =
     let p = pow-add 2 j k in
     let q = h / 2 ^ k in
     let m = h % 2 ^ k in
-    let hs = shr_split h k in
     let lm = mod_below l (2 ^ k) (pow_pos k) in
-    let e : h * 2 ^ j ≡ q * 2 ^ (j + k) + m * 2 ^ j = ap (λ z. z * 2 ^ j) (sym hs) ∙ product q m (2 ^ j) (2 ^ k) (2 ^ (j + k)) p in
+    let e : h * 2 ^ j ≡ q * 2 ^ (j + k) + m * 2 ^ j = ap (λ z. z * 2 ^ j) (sym (shr_split h k)) ∙ product q m (2 ^ j) (2 ^ k) (2 ^ (j + k)) p in
     let below : m * 2 ^ j < 2 ^ (j + k) = search (arith, shl_below) in
     let f : h * 2 ^ j % 2 ^ (j + k) ≡ m * 2 ^ j = search (arith, mod_low) in
     let g : bit_or (l / 2 ^ k) (m * 2 ^ j) ≡ m * 2 ^ j + l / 2 ^ k = search (arith, or_comm, or_shifted, shr_below) in
@@ -53,14 +48,9 @@ at-64 j k h l e = subst (λ z. l < 2 ^ z → (h * 2 ^ z + l) / 2 ^ k ≡ h / 2 ^
 pub three-down : (a b c k : ℕ) → k < 64 → a < 2 ^ 64 → b < 2 ^ 64 → three (bit_or (a / 2 ^ k) (b * 2 ^ (64 - k) % 2 ^ 64)) (bit_or (b / 2 ^ k) (c * 2 ^ (64 - k) % 2 ^ 64)) (c / 2 ^ k) ≡ three a b c / 2 ^ k
 three-down a b c k hk ha hb =
     let e : 64 - k + k ≡ 64 = omega arith in
-    let p = at-64 (64 - k) k (c * 2 ^ 64 + b) a e ha in
-    search (arith, at-64, mul-add-mod_self_right)
+    search (arith, at-64, mul-add-mod_self_right, at-64 (64 - k) k (c * 2 ^ 64 + b) a e ha)
 
 -- ---- the n lowest bits
-
--- if x is 2 ^ n - 1, then the bit row whose low word is x, above which all bits are 0, has its n lowest bits set
-pub three-low : (n x : ℕ) → x ≡ 2 ^ n - 1 → three x 0 0 ≡ 2 ^ n - 1
-three-low n x e = omega arith
 
 -- a low word of ones and a middle word with m lowest bits set have m + 64 lowest bits set
 pub three-middle : (n m x : ℕ) → m + 64 ≡ n → x ≡ 2 ^ m - 1 → three (2 ^ 64 - 1) x 0 ≡ 2 ^ n - 1

@@ -37,8 +37,7 @@ plain-bytes f l e =
     let p3 = peel (((f 7 * 2 ^ 8 + f 6) * 2 ^ 8 + f 5) * 2 ^ 8 + f 4) (f 3) 0xFEFEFEFE (l 3) p2.0 in
     let p4 = peel ((f 7 * 2 ^ 8 + f 6) * 2 ^ 8 + f 5) (f 4) 0xFEFEFE (l 4) p3.0 in
     let p5 = peel (f 7 * 2 ^ 8 + f 6) (f 5) 0xFEFE (l 5) p4.0 in
-    let p6 = peel (f 7) (f 6) 254 (l 6) p5.0 in
-    search (arith, plain-byte)
+    search (arith, plain-byte, peel (f 7) (f 6) 254 (l 6) p5.0)
 
 -- ---- their bits
 
@@ -54,11 +53,6 @@ gathered n = n * 0x0102040810204080 % 2 ^ 64 / 2 ^ 56
 gather-at : ℕ → ℕ → Bool
 gather-at b k = is_same (has_bit (gathered (joined (digit b))) k) (eqb (digit b k) 1)
 
--- for all bits, computed
-all-gather : all_below 256 (λ b. all_below 8 (gather-at b)) ≡ true
-unfolding gather-at has_bit digit
-all-gather = refl
-
 -- an item of a list of eight
 item : (f : ℕ → ℕ) (k : ℕ) → k < 8 → get_or (f 0 ∷ f 1 ∷ f 2 ∷ f 3 ∷ f 4 ∷ f 5 ∷ f 6 ∷ f 7 ∷ []) k 0 ≡ f k
 item f k l = grind arith
@@ -66,7 +60,7 @@ item f k l = grind arith
 -- each byte is that of its bit
 pub gathered-bits : (f : ℕ → ℕ) → (f 0 < 2) × (f 1 < 2) × (f 2 < 2) × (f 3 < 2) × (f 4 < 2) × (f 5 < 2) × (f 6 < 2) × (f 7 < 2)
     → (k : ℕ) → k < 8 → f k ≡ byte_of (has_bit (gathered (joined f)) k)
-unfolding gather-at digit
+unfolding gather-at digit has_bit
 gathered-bits f s k l =
     let b = f 0 + 2 * f 1 + 4 * f 2 + 8 * f 3 + 16 * f 4 + 32 * f 5 + 64 * f 6 + 128 * f 7 in
     let small : b < 256 = omega (arith, s) in
@@ -80,8 +74,7 @@ gathered-bits f s k l =
     let e7 : digit b 7 ≡ f 7 = omega (arith, s) in
     let whole : joined (digit b) ≡ joined f = omega (arith, e0, e1, e2, e3, e4, e5, e6, e7) in
     let one : digit b k ≡ f k = cc (item (digit b) k l, item f k l) in
-    let bit = same-same (has_bit (gathered (joined (digit b))) k) (eqb (digit b k) 1) (below-at 8 (gather-at b) (below-at 256 (λ b. all_below 8 (gather-at b)) all-gather b small) k l) in
-    search arith
+    search (arith, same-same, below-at)
 
 -- ---- words
 
@@ -103,14 +96,6 @@ past-eight n k l m = unset-above n 8 k l m
 
 -- ---- rows
 
--- a bit of a row before its first column
-pub none-read : (i : ℕ) (old dark : Bool) → old ≡ false → old ≡ (ltb i 0 && dark)
-none-read i old dark e = grind (arith, nat_tests)
-
 -- a test in a column of the row
 pub read-there : (c side : ℕ) (read test : Bool) → c < side → read ≡ (ltb c side && test) → read ≡ test
 read-there c side read test l e = grind (arith, nat_tests)
-
--- a module whose byte is 0 or 1 is known
-pub known-module : (c side byte : ℕ) (bit : Bool) → (c < side → byte ≡ byte_of bit) → false ≡ (ltb c side && eqb byte 2)
-known-module c side byte bit e = search arith

@@ -1,8 +1,7 @@
 -- Bits that are spread over bytes, and some bytes of a buffer that are written at once.
 use Rattle.std.proofs.Common.{◌≡◌, ℕ, ◌+◌, ◌*◌, ◌/◌, ◌%◌, ◌^◌, ◌<◌, ◌≤◌, ◌⊎◌, Bool, true, eqb, bit_and, List, length, length-append, length-drop, get_or, slice_index_or, refl, inl, inr, arith}
 use Rattle.std.{specs.Int.{to_le_bytes, w64}, proofs.lemmas.Bool.eqb-true}
-use Rattle.qr_matrix.specs.{BitRow.has_bit, Bytes.byte_of, Sums.all_below}
-use Rattle.qr_matrix.proofs.lemmas.bit_row.RepeatLemmas.{below-at}
+use Rattle.qr_matrix.{specs.{BitRow.has_bit, Bytes.byte_of, Sums.all_below}, proofs.lemmas.bit_row.RepeatLemmas.below-at}
 use Rattle.std.proofs.lemmas.List.{get_or-append_right, get_or_append_left, get_or-drop, get_or-take, length-take-le}
 use borrow.Rule.Slice.PartMut.{put_mid}
 

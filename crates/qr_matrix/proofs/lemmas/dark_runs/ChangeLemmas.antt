@@ -30,10 +30,6 @@ steady-to line a b le none =
 both : (a b : Bool) → (a && b) ≡ true → (a ≡ true) × (b ≡ true)
 both a b e = grind (arith, nat_tests)
 
--- if the conjunction of a and b is false and b is true, then a is false
-left-fails : (a b : Bool) → (a && b) ≡ false → b ≡ true → a ≡ false
-left-fails a b e f = grind (arith, nat_tests)
-
 -- f is the first place that passes, or 192 if none before passes
 pub record IsFirst (passes : ℕ → Bool) (f : ℕ) : Type 0 where
   pub before : (c : ℕ) → c < f → passes c ≡ false
@@ -46,7 +42,7 @@ pub run-end-is : (g : Grid) (row col f end : ℕ) (later : ℕ → Bool) → col
 run-end-is g row col f end later l s is first e =
     let before = first.before in
     let here = first.here in
-    let stays : (c : ℕ) → col < c → c < end → is_change (colour g row) c ≡ false = search (arith, left-fails) in
+    let stays : (c : ℕ) → col < c → c < end → is_change (colour g row) c ≡ false = search (arith, nat_tests) in
     let after : col < end = search arith in
     let same : (c : ℕ) → col ≤ c → c < end → colour g row c ≡ colour g row col =
     λ c k m. steady-to (colour g row) col c k (λ i a b. stays i a (omega arith)) in

@@ -1,9 +1,8 @@
 -- Differences of squares.
 use Rattle.std.{proofs.lemmas.Bool.{Decides.nat_tests, cases_lt}, specs.Prelude.{List, ◌↔◌}}
 use Rattle.std.proofs.Common.{◌≡◌, ℕ, zero, suc, ◌<◌, ◌≤◌, Bool, true, false, not, cond, inl, inr, refl, arith}
-use Rattle.qr_matrix.specs.{Grid.{Grid, colour, is_same}, BitRow.has, Steps.size_of}
+use Rattle.qr_matrix.{specs.{Grid.{Grid, colour, is_same}, BitRow.has, Steps.size_of}, proofs.lemmas.runs.RowLemmas.size-is}
 use Rattle.qr_matrix.specs.{Sums.{places_passing, sum_below, count_below}, Difference.{differs, difference_count}}
-use Rattle.qr_matrix.proofs.lemmas.runs.RowLemmas.{size-is}
 
 -- a colour is the same as itself
 same-self : (b : Bool) → is_same b b ≡ true
@@ -17,10 +16,6 @@ one_if b = cond b 1 0
 same-is : (a b : Bool) → one_if (not (is_same a b)) ≡ 0 → a ≡ b
 same-is a b h = grind (arith, nat_tests)
 
--- a place outside both rows differs in neither
-differs-past : (x y : Bool) → x ≡ false → y ≡ false → not (is_same x y) ≡ false
-differs-past x y e f = cc
-
 -- the bits of a are the colours of row r of g, and none from s on is set
 pub record HasRow (s : ℕ) (g : Grid) (r : ℕ) (a : List ℕ) : Type 0 where
   pub colours : (c : ℕ) → has a c ≡ colour g r c
@@ -29,7 +24,7 @@ pub record HasRow (s : ℕ) (g : Grid) (r : ℕ) (a : List ℕ) : Type 0 where
 -- the bits that are set in exactly one of two rows are the places at which the rows differ
 pub row-differs : (g h : Grid) (r : ℕ) (d a b : List ℕ) → g.side ≤ 192 → ((c : ℕ) → has d c ≡ not (is_same (has a c) (has b c)))
     → HasRow g.side g r a → HasRow g.side h r b → size_of d ≡ count_below g.side (differs g h r)
-row-differs g h r d a b few x p q = search (arith, size-is, differs-past)
+row-differs g h r d a b few x p q = search (arith, size-is)
 
 -- if a sum is 0, each term is 0
 term-zero : (n : ℕ) (f : ℕ → ℕ) → sum_below n f ≡ 0 → (k : ℕ) → k < n → f k ≡ 0

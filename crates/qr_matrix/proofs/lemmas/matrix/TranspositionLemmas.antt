@@ -1,11 +1,9 @@
 -- A tile of 64 words of 64 bits is transposed in six stages, each of which exchanges parts of s rows and s columns.
-use Rattle.std.proofs.Common.{List, length, get_or, set, replicate, ◌≡◌, ◌≢◌, ℕ, ◌+◌, ◌-◌, ◌*◌, ◌/◌, ◌%◌, ◌^◌, ◌<◌, ◌≤◌, min, eqb, ltb, Bool, true, false, not, ◌&&◌, cond, bit_and, bit_xor, ap, ◌∙◌, ◌||◌, inl, inr, arith}
-use Rattle.std.proofs.{lemmas.Nat.mod-mul-add, lemmas.Nat.shr_split, Math.Nat.mod-eq_of_lt}
-use Rattle.std.proofs.{Math.ListN.length-set, lemmas.Nat.Bits.bit_at_cat_low, lemmas.Nat.Bits.bit_at-zero}
+use Rattle.std.proofs.Common.{List, length, get_or, set, replicate, ◌≡◌, ◌≢◌, ℕ, ◌+◌, ◌-◌, ◌*◌, ◌/◌, ◌%◌, ◌^◌, ◌<◌, ◌≤◌, min, eqb, ltb, Bool, true, not, ◌&&◌, cond, bit_and, bit_xor, ap, ◌∙◌, ◌||◌, inl, inr, arith}
+use Rattle.std.proofs.{lemmas.Nat.{mod-mul-add, shr_split, Bits.{bit_at_cat_low, bit_at-zero}}, Math.{Nat.mod-eq_of_lt, ListN.length-set}}
 use Rattle.std.proofs.lemmas.List.{get_or_past, get_or-replicate, length-replicate, get_or-set_same, get_or-set_other}
 use Rattle.std.proofs.lemmas.Bool.{cases_lt, cases_eq, Decides.nat_tests}
-use Rattle.qr_matrix.specs.{BitRow.{has, has_bit}, Sums.all_below, Steps.{bit_in, exchanged}}
-use Rattle.qr_matrix.specs.Grid.{is_same, Grid, square, colour}
+use Rattle.qr_matrix.specs.{BitRow.{has, has_bit}, Sums.all_below, Steps.{bit_in, exchanged}, Grid.{is_same, Grid, square, colour}}
 use Rattle.qr_matrix.proofs.lemmas.bit_row.PlaceLemmas.{has-place, has_bit-and, has_bit-xor, has_bit-shr, word-step, has_bit-shl-low, has_bit-shl-high}
 use Rattle.qr_matrix.proofs.lemmas.bit_row.RepeatLemmas.{below-at, same-same}
 
@@ -46,8 +44,7 @@ upper-word u l s m c p masks h =
     has_bit-xor u (d * 2 ^ s % 2 ^ 64) c ∙ (ap (λ z. not (is_same (has_bit u c) z)) (has_bit-word (d * 2 ^ s) c h) ∙ elim (cases_lt c s) [
       | inl k ↦ search (arith, mod-eq_of_lt, nat_tests, has_bit-shl-low)
       | inr k ↦
-          let x = c - s in
-          let e : s + x ≡ c = omega arith in
+          let e : s + (c - s) ≡ c = omega arith in
           grind (arith, mod-up, nat_tests, mod-down, has_bit-shl-high, has_bit-and, has_bit-xor, has_bit-shr)
     ])
 
@@ -148,9 +145,7 @@ half-low s x l =
 -- if x is in the second half of a pair of parts, then its offset in its part is its offset in the pair, less s
 half-high : (s x : ℕ) → 1 ≤ s → s ≤ x % (2 * s) → x % s ≡ x % (2 * s) - s
 half-high s x p l =
-    let q = x / (2 * s) in
-    let m = x % (2 * s) in
-    let e : x ≡ (2 * q + 1) * s + (m - s) = omega arith in
+    let e : x ≡ (2 * (x / (2 * s)) + 1) * s + ((x % (2 * s)) - s) = omega arith in
     search (arith, mod-mul-add)
 
 -- from f with parts of 2 * s by 2 * s bits transposed as wholes, the exchange makes f with parts of s by s bits so
@@ -219,16 +214,6 @@ row-more band row r q l = grind (arith, nat_tests)
 -- the tile b has the colours of the square g in the rows of band `word` and the columns of word `band`, where there are any
 abbrev pub IsTileOf : ℕ → ℕ → ℕ → List ℕ → Grid → Type 0
 IsTileOf word band s b g = Agree 64 (bit_in b) (λ r c. ltb (64 * word + r) s && colour g (64 * word + r) (64 * band + c))
-
--- a bit of the transposed tile is the colour of the square with row and column exchanged
-pub tile-bit : (band word r c s : ℕ) (b t : List ℕ) (g : Grid) → Agree 64 (bit_in t) (λ r c. bit_in b c r) → IsTileOf word band s b g
-    → c < s → (eqb (r / 64) band && eqb (c / 64) word) ≡ true → bit_in t (r % 64) (c % 64) ≡ colour g c r
-tile-bit band word r c s b t g turned read l h = search (arith, nat_tests)
-
--- a bit of the transposed tile that is past the side is not set
-pub tile-past : (band word r c s : ℕ) (b t : List ℕ) (g : Grid) → Agree 64 (bit_in t) (λ r c. bit_in b c r) → IsTileOf word band s b g
-    → r < 64 → c < 64 → s ≤ 64 * word + c → bit_in t r c ≡ false
-tile-past band word r c s b t g turned read l m h = search (arith, nat_tests)
 
 -- ---- a tile that is read
 

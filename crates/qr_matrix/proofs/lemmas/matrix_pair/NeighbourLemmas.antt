@@ -14,8 +14,7 @@ both-chosen words m d e = zip2 bit_xor words (zip2 bit_and (zip2 bit_xor words (
 
 pub chosen-pair : (words : List ℕ) (m d e : ℕ) → IsPair words → d < 2 ^ 64 → e < 2 ^ 64 → IsPair (both-chosen words m d e)
 chosen-pair words m d e p k l =
-    let x = zip2 bit_xor words (d ∷ e ∷ []) in
-    let q : IsPair x = xor-pair words (d ∷ e ∷ []) p (refl, k, l) in
+    let q : IsPair (zip2 bit_xor words (d ∷ e ∷ [])) = xor-pair words (d ∷ e ∷ []) p (refl, k, l) in
     search (arith, xor-pair, zip-pair, and-small, word-small)
 
 -- bit a, inverted where it differs from b and t holds

@@ -1,8 +1,6 @@
 -- The bits of rows that are added column by column.
-use Rattle.std.proofs.Common.{◌≡◌, ℕ, zero, suc, ◌+◌, ◌*◌, ◌≤◌, ltb, Bool, false, not, ◌&&◌, cond, refl, arith}
-use Rattle.std.proofs.lemmas.Bool.Decides.{nat_tests}
-use Rattle.qr_matrix.specs.{Grid.is_same, Steps.set_count, Sums.count_below}
-use Rattle.qr_matrix.proofs.lemmas.bit_row.SumLemmas.{count_below-cut}
+use Rattle.std.proofs.{Common.{◌≡◌, ℕ, zero, suc, ◌+◌, ◌*◌, ◌≤◌, ltb, Bool, false, not, ◌&&◌, cond, refl, arith}, lemmas.Bool.Decides.nat_tests}
+use Rattle.qr_matrix.{specs.{Grid.is_same, Steps.set_count, Sums.count_below}, proofs.lemmas.bit_row.SumLemmas.count_below-cut}
 
 -- the sum of three bits, by its two digits
 digits : (a b d s t : Bool) → s ≡ not (is_same (not (is_same a b)) d) → t ≡ not (is_same (not (is_same a b) && not (is_same a d)) a) → cond a 1 0 + cond b 1 0 + cond d 1 0 ≡ cond s 1 0 + 2 * cond t 1 0

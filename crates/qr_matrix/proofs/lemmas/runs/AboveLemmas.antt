@@ -3,11 +3,7 @@ use Rattle.std.proofs.Common.{◌≡◌, ℕ, ◌+◌, ◌-◌, ◌<◌, ◌≤�
 use Rattle.std.proofs.lemmas.Bool.{cases_lt, Decides.nat_tests}
 use Rattle.qr_matrix.specs.{Sums.{count_below, sum_below}, Penalty.is_square_of_two, Steps.{begin_five, is_charged, is_near_five, joins_down, row_share, set_count, IsAbove, IsCountedTo}, Runs.{begins_five, place_cost}}
 use Rattle.qr_matrix.proofs.lemmas.bit_row.SumLemmas.{count_below-cut, sum_below-cut, sum_below-more}
-use Rattle.qr_matrix.proofs.lemmas.{rows.AdderLemmas.none-of, runs.{ColumnLemmas.{guarded-five, guarded-size, guarded-three}, RowLemmas.five-past}}
-
--- before the first row
-pub none-above : (join : ℕ → Bool) (a b d e f : Bool) → a ≡ false → b ≡ false → d ≡ false → e ≡ false → f ≡ false → IsAbove join 0 a b d e f
-none-above join a b d e f ha hb hd he hf = search arith
+use Rattle.qr_matrix.proofs.lemmas.{rows.AdderLemmas.none-of, runs.{ColumnLemmas.{guarded-size, guarded-three}, RowLemmas.five-past}}
 
 module _ (join : ℕ → Bool) (n : ℕ) (a b d e f x : Bool) (h : IsAbove join n a b d e f) (hx : x ≡ join n) where
   positive : ltb 0 (n + 1) ≡ true
@@ -52,21 +48,17 @@ module _ (join : ℕ → Bool) (n : ℕ) (a b d e f x : Bool) (h : IsAbove join 
 
 five-column : (s : ℕ) (dark : ℕ → ℕ → Bool) (c r : ℕ) → begin_five (joins_down s dark c) r ≡ (ltb c s && begins_five s (λ i. dark i c) r)
 unfolding begins_five
-five-column s dark c r = search (arith, guarded-five)
-
-near-column : (s : ℕ) (dark : ℕ → ℕ → Bool) (c r : ℕ) → is_near_five (joins_down s dark c) r ≡ (ltb c s && is_charged s (λ i. dark i c) r)
-unfolding is_charged
-near-column s dark c r = search (arith, five-column, guarded-three)
+five-column s dark c r = search (arith, nat_tests)
 
 -- the bits that are set for columns after n rows are the share of row n - 3, if there is one
 pub share-next : (s : ℕ) (dark : ℕ → ℕ → Bool) (n : ℕ) (bit : ℕ → Bool) → s ≤ 192 → ((c : ℕ) → bit c ≡ (ltb 2 n && is_near_five (joins_down s dark c) (n - 3)))
     → sum_below (n + 1 - 3) (row_share s dark) ≡ sum_below (n - 3) (row_share s dark) + set_count bit
-unfolding row_share
+unfolding row_share is_charged
 share-next s dark n bit l h = elim (cases_lt 2 n) [
   | inl k ↦
       let t : ltb 2 n ≡ true = grind (arith, nat_tests) in
       let e : n + 1 - 3 ≡ n - 3 + 1 = omega arith in
-      search (arith, guarded-size, near-column, sum_below-more)
+      search (arith, guarded-size, sum_below-more, five-column, guarded-three)
   | inr k ↦ search (arith, none-of)
 ]
 
@@ -86,8 +78,7 @@ pub share-left : (s : ℕ) (dark : ℕ → ℕ → Bool) (bit : ℕ → Bool) �
     → sum_below (s - 3) (row_share s dark) + set_count bit ≡ sum_below s (row_share s dark)
 share-left s dark bit l h =
     let last = share-next s dark s bit l (λ c. h c ∙ near c) in
-    let cut = sum_below-cut (s - 2) (s - (s - 2)) (row_share s dark) (share-none s dark) in
-    search arith
+    search (arith, sum_below-cut (s - 2) (s - (s - 2)) (row_share s dark) (share-none s dark))
   where
     only : (u v p q a b d : Bool) → (u ≡ true → a ≡ false) → (u ≡ true → b ≡ false) → v ≡ (u && q) → (v && d) ≡ (u && ((a || (p && b)) || (q && d)))
     only u v p q a b d ea eb ev = grind (arith, nat_tests)

@@ -1,10 +1,9 @@
 -- The modules that cost a point for a run are as many as the points that the runs cost.
 use Rattle.std.proofs.Common.{◌≡◌, ℕ, zero, suc, ◌+◌, ◌-◌, ◌*◌, ◌<◌, ◌≤◌, ltb, Bool, true, false, not, ◌&&◌, ◌||◌, cond, refl, ◌∙◌, arith}
 use Rattle.std.proofs.lemmas.Bool.Decides.{nat_tests}
-use Rattle.qr_matrix.specs.{Sums.{count_below, sum_below}, Steps.{is_charged, set_count}}
+use Rattle.qr_matrix.specs.{Sums.{count_below, sum_below}, Steps.{begin_five, is_charged, is_near_five, set_count}}
 use Rattle.qr_matrix.specs.Runs.{joins, begins_five, begins_long_run, place_cost}
-use Rattle.qr_matrix.proofs.lemmas.bit_row.{BoolLemmas.and-false, SumLemmas.sum_below-add, SumLemmas.sum_below-scale}
-use Rattle.qr_matrix.proofs.lemmas.runs.RowLemmas.{five-bit, five-past, size-is}
+use Rattle.qr_matrix.proofs.lemmas.{bit_row.{BoolLemmas.and-false, SumLemmas.{sum_below-add, sum_below-scale}}, runs.RowLemmas.{five-past, size-is}}
 
 -- five modules of one colour begin at the module before module c, and at the second module before it
 one_before : ℕ → (ℕ → Bool) → ℕ → Bool
@@ -12,14 +11,6 @@ one_before s line c = ltb 0 c && begins_five s line (c - 1)
 
 two_before : ℕ → (ℕ → Bool) → ℕ → Bool
 two_before s line c = ltb 1 c && begins_five s line (c - 2)
-
-long-is : (s : ℕ) (line : ℕ → Bool) (c : ℕ) → begins_long_run s line c ≡ (begins_five s line c && not (one_before s line c))
-unfolding begins_long_run begins_five one_before
-long-is s line c = search arith
-
-gap-is : (s : ℕ) (line : ℕ → Bool) (c : ℕ) → two_before s line c ≡ true → one_before s line c ≡ false → begins_five s line c ≡ false
-unfolding two_before one_before begins_five
-gap-is s line c h k = search arith
 
 -- the points that are counted at a module, and the points that are still owed for the runs before it
 owed : Bool → Bool → ℕ
@@ -37,8 +28,8 @@ owed-next s line n m h = search (arith, nat_tests, owed)
 -- the points of module c
 point-step : (s : ℕ) (line : ℕ → Bool) (c : ℕ) → cond (begins_five s line c) 1 0 + 2 * cond (begins_long_run s line c) 1 0 + owed (one_before s line c) (two_before s line c)
     ≡ cond (is_charged s line c) 1 0 + owed (begins_five s line c) (one_before s line c)
-unfolding is_charged one_before two_before
-point-step s line c = rw (long-is s line c) (search (arith, step, gap-is))
+unfolding is_charged one_before two_before begins_long_run begins_five
+point-step s line c = search (arith, step)
 
 -- after the first n modules, the points of the runs and the points of the modules differ by the points that are owed
 points-sum : (s : ℕ) (line : ℕ → Bool) (n : ℕ) → sum_below n (λ c. cond (begins_five s line c) 1 0 + 2 * cond (begins_long_run s line c) 1 0) ≡ count_below n (is_charged s line) + owed (one_before s line n) (two_before s line n)
@@ -50,20 +41,19 @@ points-sum s line (suc n) = search (arith, point-step, owed-next, points-sum s l
 pub charged-cost : (s : ℕ) (line : ℕ → Bool) → count_below s (is_charged s line) ≡ place_cost s line
 unfolding place_cost owed one_before two_before
 charged-cost s line =
-    let a = points-sum s line s in
     let b = sum_below-add s (λ c. cond (begins_five s line c) 1 0) (λ c. 2 * cond (begins_long_run s line c) 1 0) in
     let d = sum_below-scale 2 s (λ c. cond (begins_long_run s line c) 1 0) in
-    search (arith, owed, two_before, and-false, five-past)
+    search (arith, owed, two_before, and-false, five-past, points-sum s line s)
 
 -- no module past the side costs a point
 charged-past : (s : ℕ) (line : ℕ → Bool) (c : ℕ) → s ≤ c → is_charged s line c ≡ false
 unfolding is_charged
 charged-past s line c h = search (arith, five-past, and-false)
 
--- if j has the joins, f the places where four begin, and t those up to two after one of f, then t has the cost
-pub row_cost : (s : ℕ) (line : ℕ → Bool) (j f t : ℕ → Bool) → s ≤ 192 → ((c : ℕ) → j c ≡ joins s line c) → ((c : ℕ) → f c ≡ ((j c && j (c + 1)) && (j (c + 2) && j (c + 3))))
-    → ((c : ℕ) → c < 192 → t c ≡ ((f c || (ltb 0 c && f (c - 1))) || (ltb 1 c && f (c - 2)))) → set_count t ≡ place_cost s line
-unfolding is_charged
-row_cost s line j f t l hj hf ht =
-    let five : (c : ℕ) → f c ≡ begins_five s line c = λ c. five-bit s line j c (f c) hj (hf c) in
+-- if j has the joins, and t the places up to two after one where four of them begin, then t has the cost
+pub row_cost : (s : ℕ) (line : ℕ → Bool) (j t : ℕ → Bool) → s ≤ 192 → ((c : ℕ) → j c ≡ joins s line c)
+    → ((c : ℕ) → c < 192 → t c ≡ is_near_five j c) → set_count t ≡ place_cost s line
+unfolding is_charged begins_five
+row_cost s line j t l hj ht =
+    let five : (c : ℕ) → begin_five j c ≡ begins_five s line c = search arith in
     size-is s t (is_charged s line) l (λ c k. ht c k ∙ (λ i. (five c i || (ltb 0 c && five (c - 1) i)) || (ltb 1 c && five (c - 2) i))) (charged-past s line) ∙ charged-cost s line

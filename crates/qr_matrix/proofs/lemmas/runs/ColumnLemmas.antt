@@ -3,9 +3,8 @@ use Rattle.std.proofs.Common.{◌≡◌, ℕ, ◌+◌, ◌<◌, ◌≤◌, [], �
 use Rattle.std.proofs.lemmas.{Bool.Decides.nat_tests, Nat.Bits.bit_at-zero}
 use Rattle.qr_matrix.specs.{BitRow.{has, has_bit, bit_row_number}, Runs.{joins, place_cost}}
 use Rattle.qr_matrix.specs.{Steps.{is_charged, row_share, set_count}, Grid.is_same, Sums.{count_below, sum_below}}
-use Rattle.qr_matrix.proofs.lemmas.bit_row.SumLemmas.{count_below-same, count_below-cut, sum_below-same, sum_below-swap}
+use Rattle.qr_matrix.proofs.lemmas.bit_row.{SumLemmas.{count_below-same, count_below-cut, sum_below-same, sum_below-swap}, BoolLemmas.and-false}
 use Rattle.qr_matrix.proofs.lemmas.runs.{RowLemmas.joins-past, ChargeLemmas.charged-cost}
-use Rattle.qr_matrix.proofs.lemmas.bit_row.BoolLemmas.{and-false, not-not}
 
 -- the bit row of zeros has no bit set
 pub has-nothing : (c : ℕ) → has (0 ∷ 0 ∷ 0 ∷ []) c ≡ false
@@ -13,9 +12,9 @@ unfolding has bit_row_number has_bit
 has-nothing c = ap (λ z. eqb z 1) (bit_at-zero c)
 
 -- a bit that is set in the columns whose place does not differ from that below it is set where they are joined
-pub joins-down-bit : (s : ℕ) (line : ℕ → Bool) (c r : ℕ) (x i d : Bool) → r + 1 < s → x ≡ (i && not d) → i ≡ ltb c s → d ≡ not (is_same (line r) (line (r + 1))) → x ≡ (ltb c s && joins s line r)
+pub joins-down-bit : (s : ℕ) (line : ℕ → Bool) (c r : ℕ) (x i d y z : Bool) → r + 1 < s → x ≡ (i && not d) → i ≡ ltb c s → d ≡ not (is_same y z) → y ≡ line r → z ≡ line (r + 1) → x ≡ (ltb c s && joins s line r)
 unfolding joins
-joins-down-bit s line c r x i d h e f g = search (arith, nat_tests, not-not)
+joins-down-bit s line c r x i d y z h e f g k l = search (arith, nat_tests)
 
 -- in the last row no place is joined to a place below it
 pub joins-down-none : (s : ℕ) (line : ℕ → Bool) (c r : ℕ) (x : Bool) → s ≤ r + 1 → x ≡ false → x ≡ (ltb c s && joins s line r)
@@ -28,10 +27,6 @@ past s c b h = search (arith, nat_tests)
 -- a test that fails from s on is the same as this test together with the test that c is below s
 pub guarded : (s c : ℕ) (b : Bool) → (s ≤ c → b ≡ false) → b ≡ (ltb c s && b)
 guarded s c b h = search (arith, nat_tests, past)
-
--- four tests that are each guarded by u are the same as the guard u together with the four tests
-pub guarded-five : (u a b d e : Bool) → (((u && a) && (u && b)) && ((u && d) && (u && e))) ≡ (u && ((a && b) && (d && e)))
-guarded-five u a b d e = grind (arith, nat_tests)
 
 -- the guard u of three tests, of which the last two have the guards t and w too, is the guard of their disjunction
 pub guarded-three : (u t w f g h : Bool) → (((u && f) || (t && (u && g))) || (w && (u && h))) ≡ (u && ((f || (t && g)) || (w && h)))

@@ -1,8 +1,7 @@
 -- Bit operations on a bit row compute the tests of a row. A module is joined if the module after it has its colour.
-use Rattle.std.proofs.Common.{◌≡◌, ℕ, ◌+◌, ◌-◌, ◌<◌, ◌≤◌, ltb, Bool, false, not, ◌&&◌, arith}
-use Rattle.std.proofs.lemmas.Bool.Decides.{nat_tests}
+use Rattle.std.proofs.{Common.{◌≡◌, ℕ, ◌+◌, ◌-◌, ◌<◌, ◌≤◌, ltb, Bool, false, not, ◌&&◌, arith}, lemmas.Bool.Decides.nat_tests}
 use Rattle.qr_matrix.specs.{Steps.{set_count, NeedsWords}, Grid.is_same, Sums.count_below, Runs.joins, Runs.begins_five}
-use Rattle.qr_matrix.proofs.lemmas.bit_row.{SumLemmas.count_below-cut, BoolLemmas.{and-false, false-and, not-not}}
+use Rattle.qr_matrix.proofs.lemmas.bit_row.{SumLemmas.count_below-cut, BoolLemmas.{and-false, false-and}}
 
 -- ---- the number of set bits
 
@@ -20,7 +19,7 @@ size-is s bit q l e f = count_below-cut 192 s bit q l e f
 -- a bit that is set just where module c is not the last and does not differ from the next is set just where c is joined
 pub joins-bit : (s : ℕ) (line : ℕ → Bool) (c : ℕ) (r i d y : Bool) → 0 < s → r ≡ (i && not d) → i ≡ ltb c (s - 1) → d ≡ not (is_same (line c) y) → y ≡ line (c + 1) → r ≡ joins s line c
 unfolding joins
-joins-bit s line c r i d y h e f g k = search (arith, nat_tests, not-not)
+joins-bit s line c r i d y h e f g k = search (arith, nat_tests)
 
 -- neither the last module nor a module c past the side is joined
 pub joins-past : (s : ℕ) (line : ℕ → Bool) (c : ℕ) → s ≤ c + 1 → joins s line c ≡ false
@@ -31,8 +30,3 @@ joins-past s line c h = search (arith, false-and, nat_tests)
 pub five-past : (s : ℕ) (line : ℕ → Bool) (c : ℕ) → s ≤ c + 4 → begins_five s line c ≡ false
 unfolding begins_five
 five-past s line c h = search (arith, and-false, joins-past)
-
--- the four modules from module c on are joined just when five modules of one colour begin at c
-pub five-bit : (s : ℕ) (line j : ℕ → Bool) (c : ℕ) (f : Bool) → ((c : ℕ) → j c ≡ joins s line c) → f ≡ ((j c && j (c + 1)) && (j (c + 2) && j (c + 3))) → f ≡ begins_five s line c
-unfolding begins_five
-five-bit s line j c f h e = search arith

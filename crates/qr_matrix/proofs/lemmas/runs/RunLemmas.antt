@@ -2,8 +2,7 @@
 use Rattle.std.proofs.Common.{◌≡◌, ℕ, zero, suc, ◌+◌, ◌-◌, ◌*◌, ◌<◌, ◌≤◌, ◌⊎◌, inl, inr, eqb, ltb, leb, Bool, true, false, not, ◌&&◌, ◌||◌, cond, refl, ap, ◌∙◌, arith}
 use Rattle.std.proofs.lemmas.Bool.{cases_Bool, cases_lt, Decides.nat_tests}
 use Rattle.qr_matrix.specs.{Grid.is_same, Sums.all_below, Sums.places_passing, Sums.sum_below, Penalty.is_run, Penalty.run_cost}
-use Rattle.qr_matrix.specs.Penalty.{dark_cost, over_lines, penalty_of, square_count, window_count}
-use Rattle.qr_matrix.specs.Runs.{joins, begins_five, begins_long_run, place_cost}
+use Rattle.qr_matrix.specs.{Penalty.{dark_cost, over_lines, penalty_of, square_count, window_count}, Runs.{joins, begins_five, begins_long_run, place_cost}}
 use Rattle.qr_matrix.proofs.lemmas.bit_row.SumLemmas.{sum_below-same, sum_below-add, sum_below-scale, sum_below-one}
 use Rattle.qr_matrix.proofs.lemmas.{bit_row.BoolLemmas.and-false, runs.RowLemmas.joins-past}
 
@@ -38,23 +37,14 @@ joins-true : (s : ℕ) (line : ℕ → Bool) (a : ℕ) → joins s line a ≡ tr
 unfolding joins
 joins-true s line a h = search arith
 
--- if module a is not joined, then it is the last module, or the module after it has another colour
-joins-false : (s : ℕ) (line : ℕ → Bool) (a : ℕ) → joins s line a ≡ false → (s ≤ a + 1) ⊎ (is_same (line a) (line (a + 1)) ≡ false)
-unfolding joins
-joins-false s line a h = search (arith, nat_tests)
-
 -- if module a is joined, then it has one module more ahead than the next
 ahead-true : (j : ℕ → Bool) (n a : ℕ) → j a ≡ true → ahead j (suc n) a ≡ suc (ahead j n (a + 1))
 unfolding ahead
 ahead-true j n a e = ap (λ z. cond z (suc (ahead j n (a + 1))) 0) e
 
--- if module a is not joined, then it has 0 modules ahead
-ahead-false : (j : ℕ → Bool) (n a : ℕ) → j a ≡ false → ahead j n a ≡ 0
-unfolding ahead
-ahead-false j n a e = grind (arith, nat_tests)
-
 -- if module a has at least k modules ahead, then module a + k is not past the side and has the colour of a
 stretch : (s : ℕ) (line : ℕ → Bool) (n a k : ℕ) → a + n ≡ s → 0 < n → k ≤ ahead (joins s line) n a → (a + k < s) × (line (a + k) ≡ line a)
+unfolding ahead
 stretch s line zero a k e p h = absurd (omega arith)
 stretch s line (suc n) a zero e p h = (omega arith, ap line (plain a))
   where
@@ -65,18 +55,18 @@ stretch s line (suc n) a (suc k) e p h = elim (cases_Bool (joins s line a)) [
       let f = ahead-true (joins s line) n a t in
       let u = joins-true s line a t in
       search (arith, stretch s line n (a + 1) k (omega arith) (omega arith) (omega arith))
-  | inr t ↦ search (arith, ahead-false)
+  | inr t ↦ search (arith, nat_tests)
 ]
 
 -- the module after those that module a has ahead is past the side or has another colour
 stretch-end : (s : ℕ) (line : ℕ → Bool) (n a : ℕ) → a + n ≡ s → 0 < n → (a + suc (ahead (joins s line) n a) ≡ s) ⊎ (is_same (line (a + suc (ahead (joins s line) n a))) (line a) ≡ false)
+unfolding joins ahead
 stretch-end s line zero a e p = absurd (omega arith)
 stretch-end s line (suc n) a e p = elim (cases_Bool (joins s line a)) [
   | inl t ↦
-      let f = ahead-true (joins s line) n a t in
       let u = joins-true s line a t in
-      search (arith, stretch-end s line n (a + 1) (omega arith) (omega arith))
-  | inr t ↦ search (arith, ahead-false, joins-false)
+      search (arith, stretch-end s line n (a + 1) (omega arith) (omega arith), ahead-true (joins s line) n a t)
+  | inr t ↦ search (arith, nat_tests)
 ]
 
 -- ---- the maximal run from a module on, if a run begins at this module
@@ -134,16 +124,12 @@ left s line a = ahead (joins s line) (s - a) a
 -- a joined module has one module more ahead than the next, and any other has 0
 left-is : (s : ℕ) (line : ℕ → Bool) (a : ℕ) → left s line a ≡ cond (joins s line a) (suc (left s line (a + 1))) 0
 unfolding ahead
-left-is s line a = search (arith, joins-past, ahead-false)
-
--- a module and the three after it are joined just when it has at least four modules ahead
-five-from : (a b c d e : ℕ) (i j k l : Bool) → a ≡ cond i (suc b) 0 → b ≡ cond j (suc c) 0 → c ≡ cond k (suc d) 0 → d ≡ cond l (suc e) 0 → ((i && j) && (k && l)) ≡ leb 4 a
-five-from a b c d e i j k l p q r s = grind (arith, nat_tests)
+left-is s line a = search (arith, joins-past, nat_tests)
 
 -- five modules of one colour begin at module a just when it has at least four modules ahead
 five-is : (s : ℕ) (line : ℕ → Bool) (a : ℕ) → begins_five s line a ≡ leb 4 (left s line a)
 unfolding begins_five
-five-is s line a = search (arith, five-from, left-is)
+five-is s line a = search (arith, left-is, nat_tests)
 
 -- no module before module a belongs to its run just when there is no joined module before it
 heads-is : (s : ℕ) (line : ℕ → Bool) (a : ℕ) → a < s → heads line a ≡ not (ltb 0 a && joins s line (a - 1))
@@ -175,14 +161,10 @@ begins_long_run-is : (s : ℕ) (line : ℕ → Bool) (a : ℕ) → begins_long_r
 unfolding begins_long_run
 begins_long_run-is s line a = cc (five-is s line a)
 
--- the same at module a
-place-step : (s : ℕ) (line : ℕ → Bool) (a : ℕ) → a < s → place_at s line a + open_at s line (a + 1) ≡ cost_at s line a + open_at s line a
-place-step s line a h = grind (arith, balance, left-is, five-is, begins_long_run-is, open-next, heads-is)
-
 -- the cost counted at the first n modules plus the open cost at n is the cost of the runs that begin at them
 places-sum : (s : ℕ) (line : ℕ → Bool) (n : ℕ) → n ≤ s → sum_below n (place_at s line) + open_at s line n ≡ sum_below n (cost_at s line)
 places-sum s line zero h = refl
-places-sum s line (suc n) h = search (arith, place-step, places-sum s line n (omega arith))
+places-sum s line (suc n) h = search (arith, balance, left-is, five-is, begins_long_run-is, open-next, heads-is, places-sum s line n (omega arith))
 
 -- the open cost past the last module, at s, is 0
 open-end : (s : ℕ) (line : ℕ → Bool) → open_at s line s ≡ 0
@@ -194,10 +176,9 @@ unfolding run_cost place_cost
 runs-by-places s line =
     let a = sum_below-same s (λ a. sum_below (s + 1) (λ k. cond (leb 5 k && is_run s line a k) (k - 2) 0)) (cost_at s line) (λ a h. run_at s line a h) in
     let b = places-sum s line s (omega arith) in
-    let c = open-end s line in
     let d = sum_below-add s (λ a. cond (begins_five s line a) 1 0) (λ a. 2 * cond (begins_long_run s line a) 1 0) in
     let e = sum_below-scale 2 s (λ a. cond (begins_long_run s line a) 1 0) in
-    omega arith
+    omega (arith, open-end s line)
 
 -- the penalty, with the points for runs counted module by module
 pub penalty-by-places : (s : ℕ) (d : ℕ → ℕ → Bool) → penalty_of s d ≡ over_lines s d (place_cost s) + 3 * square_count s d + 40 * over_lines s d (window_count s) + dark_cost s (places_passing s d)

@@ -1,21 +1,12 @@
 -- Bit operations on two rows compute the test of a square of two by two modules.
-use Rattle.std.proofs.Common.{◌≡◌, ℕ, ◌+◌, ◌<◌, ◌≤◌, ltb, Bool, true, false, ◌&&◌, arith}
-use Rattle.std.proofs.lemmas.Bool.{Decides.nat_tests}
-use Rattle.qr_matrix.specs.{Steps.set_count, Grid.is_same, Sums.count_below, Penalty.is_square_of_two}
+use Rattle.std.proofs.{Common.{◌≡◌, ℕ, ◌+◌, ◌<◌, ◌≤◌, ltb, Bool, false, ◌&&◌, arith}, lemmas.Bool.Decides.nat_tests}
+use Rattle.qr_matrix.specs.{Steps.set_count, Sums.count_below, Penalty.is_square_of_two}
 use Rattle.qr_matrix.{specs.Runs.joins, proofs.lemmas.{runs.RowLemmas.size-is, bit_row.BoolLemmas.and-false}}
-
--- four modules p, q, m and n are equal exactly if p is joined to q and m to n in their rows, and p to m in its column
-square-bools : (t u w p q m n : Bool) → (t ≡ true → u ≡ true) → (((t && is_same p q) && (t && is_same m n)) && (u && (w && is_same p m))) ≡ ((((w && t) && is_same p q) && is_same p m) && is_same p n)
-square-bools t u w p q m n f = grind (arith, nat_tests)
-
--- without a row below there is no square
-square-end : (t a b d : Bool) (u w x y z : Bool) → w ≡ false → (t && (u && (w && a))) ≡ ((((w && b) && x) && y) && z)
-square-end t a b d u w x y z e = grind (arith, nat_tests)
 
 -- a bit that is set where joins in row r, in the next row and in column c begin is set where a square of two begins
 pub square-bit : (s : ℕ) (dark : ℕ → ℕ → Bool) (r c : ℕ) (x y a n d : Bool) → y ≡ (a && n) → x ≡ (y && d) → a ≡ joins s (dark r) c → (r + 1 < s → n ≡ joins s (dark (r + 1)) c) → d ≡ (ltb c s && joins s (λ i. dark i c) r) → x ≡ is_square_of_two s dark r c
 unfolding is_square_of_two joins
-square-bit s dark r c x y a n d ey ex ea en ed = search (arith, nat_tests, square-bools, square-end)
+square-bit s dark r c x y a n d ey ex ea en ed = search (arith, nat_tests)
 
 -- no square of two by two modules begins in a column from the side on
 square-past : (s : ℕ) (dark : ℕ → ℕ → Bool) (r c : ℕ) → s ≤ c → is_square_of_two s dark r c ≡ false

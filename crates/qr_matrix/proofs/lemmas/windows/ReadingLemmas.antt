@@ -1,8 +1,7 @@
 -- The tests of the ratio 1:1:3:1:1 and of four light modules, made on whole bit rows at once.
 use Rattle.std.proofs.Common.{◌≡◌, ℕ, suc, ◌+◌, ◌<◌, ◌≤◌, List, [], ◌∷◌, ◌++◌, length, ltb, leb, Bool, true, false, not, ◌&&◌, ◌||◌, inl, inr, sym, ap, ◌∙◌, arith}
 use Rattle.std.proofs.{Math.Bool.and_assoc, lemmas.Bool.cases_lt, lemmas.Bool.Decides.nat_tests}
-use Rattle.qr_matrix.proofs.lemmas.bit_row.BoolLemmas.{and-false}
-use Rattle.qr_matrix.specs.{Grid.is_same, Penalty.{finder_ratio, four_light, is_window, reads}}
+use Rattle.qr_matrix.{proofs.lemmas.bit_row.BoolLemmas.and-false, specs.{Grid.is_same, Penalty.{finder_ratio, four_light, is_window, reads}}}
 
 -- the colours of two lists in turn are those of the first, and then those of the second
 reads-append : (line : ℕ → Bool) (c : ℕ) (xs ys : List Bool) → reads line c (xs ++ ys) ≡ (reads line c xs && reads line (c + length xs) ys)

@@ -1,6 +1,6 @@
 -- The windows of rows and columns, found and counted on bit rows.
-use Rattle.std.proofs.Common.{◌≡◌, ℕ, zero, suc, ◌+◌, ◌-◌, ◌<◌, ◌≤◌, ltb, leb, Bool, true, false, not, ◌&&◌, ◌||◌, cond, inl, inr, refl, sym, ap, ◌∙◌, arith}
-use Rattle.{std.proofs.lemmas.Bool.{cases_lt, Decides.nat_tests}, qr_matrix.proofs.lemmas.bit_row.BoolLemmas.{and-false, false-and}}
+use Rattle.std.proofs.Common.{◌≡◌, ℕ, zero, suc, ◌+◌, ◌-◌, ◌<◌, ◌≤◌, ltb, leb, Bool, true, false, not, ◌&&◌, ◌||◌, cond, refl, sym, ap, ◌∙◌, arith}
+use Rattle.{std.proofs.lemmas.Bool.Decides.nat_tests, qr_matrix.proofs.lemmas.bit_row.BoolLemmas.{and-false, false-and}}
 use Rattle.qr_matrix.specs.{Steps.{is_after_light, is_before_light, is_found, set_count, AreWindowsTo}, Sums.count_below, Sums.sum_below}
 use Rattle.qr_matrix.specs.Penalty.{finder_ratio, four_light, reads, is_window, window_count}
 use Rattle.qr_matrix.proofs.lemmas.{rows.AdderLemmas.set_count-most, bit_row.SumLemmas.{count_below-cut, sum_below-add, sum_below-more, sum_below-same, sum_below-swap}}
@@ -23,15 +23,10 @@ window-bit s line core four c cores fours =
     fits-too : (n : ℕ) → n ≤ 11 → leb (c + 11) s ≡ true → leb (c + n) s ≡ true
     fits-too n h e = grind (arith, nat_tests)
 
--- no window begins at a module c from the side s on
-window-past : (s : ℕ) (line : ℕ → Bool) (c : ℕ) → s ≤ c → is_window s line c ≡ false
-unfolding is_window
-window-past s line c h = false-and (leb (c + 11) s) _ (grind (arith, nat_tests))
-
 -- a bit row that has a bit set just where a window begins has as many set bits as there are windows
 pub windows-row : (s : ℕ) (line : ℕ → Bool) (bit : ℕ → Bool) → s ≤ 192 → ((c : ℕ) → bit c ≡ is_window s line c) → set_count bit ≡ window_count s line
-unfolding window_count
-windows-row s line bit l h = search (arith, size-is, window-past)
+unfolding window_count is_window
+windows-row s line bit l h = search (arith, size-is, false-and, nat_tests)
 
 -- ---- windows of columns
 
@@ -51,22 +46,10 @@ pub found-bit : (s : ℕ) (line : ℕ → Bool) (r : ℕ) (u x y : Bool) → x �
 unfolding is_found
 found-bit s line r u x y e f = search arith
 
--- in the first three rows no window is found that begins with light modules
-pub found-top : (s : ℕ) (line : ℕ → Bool) (r : ℕ) (u x : Bool) → r < 3 → x ≡ (u && is_before_light s line r) → x ≡ (u && is_found s line r)
-unfolding is_found
-found-top s line r u x h e = search arith
-
--- in the last ten rows no window is found that begins with the ratio
-pub found-bottom : (s : ℕ) (line : ℕ → Bool) (r : ℕ) (u x : Bool) → s < r + 11 → x ≡ (u && (ltb 2 r && is_after_light s line (r - 3))) → x ≡ (u && is_found s line r)
-unfolding is_found
-found-bottom s line r u x h e = search (arith, nat_tests)
-
 -- nor is one found in the last seven rows, or in the first three of these ten
 pub found-none : (s : ℕ) (line : ℕ → Bool) (r : ℕ) (u x : Bool) → s < r + 11 → (3 ≤ r → s < r + 8) → x ≡ false → x ≡ (u && is_found s line r)
-found-none s line r u x h k e = found-bottom s line r u x h (e ∙ sym (and-false u _ (elim (cases_lt 2 r) [
-  | inl l ↦ search (arith, and-false, false-and)
-  | inr l ↦ false-and (ltb 2 r) _ (grind (arith, nat_tests))
-])))
+unfolding is_found
+found-none s line r u x h k e = search (arith, and-false, false-and, nat_tests)
 
 -- a bit row with a bit set just where a window is found in row r has as many set bits as windows are found there
 pub found-row : (s : ℕ) (dark : ℕ → ℕ → Bool) (r : ℕ) (bit : ℕ → Bool) → s ≤ 192 → ((c : ℕ) → bit c ≡ (ltb c s && is_found s (λ i. dark i c) r)) → set_count bit ≡ count_below s (λ c. is_found s (λ i. dark i c) r)
@@ -100,8 +83,7 @@ found-below s line zero = refl
 found-below s line (suc n) =
     let rest = found-below s line n in
     let one = either (is_before_light s line n) (ltb 2 n && is_after_light s line (n - 3)) (line n) (dark-first s line n) light in
-    let more = later-more n (is_after_light s line) in
-    search arith
+    search (arith, later-more n (is_after_light s line))
   where
     both : (a b : Bool) → (a && b) ≡ true → (a ≡ true) × (b ≡ true)
     both a b h = (grind (arith, nat_tests), grind (arith, nat_tests))
@@ -120,8 +102,7 @@ found-all s line =
     let cut = count_below-cut s (s - 3) (is_after_light s line) (is_after_light s line) (omega arith) (λ c _. refl) (λ c h. false-and (leb (c + 11) s) _ (past c h)) in
     let kinds = sum_below-same s (λ c. cond (is_window s line c) 1 0) (λ c. cond (is_before_light s line c) 1 0 + cond (is_after_light s line c) 1 0) (λ c _. kind c) in
     let sum = sum_below-add s (λ c. cond (is_before_light s line c) 1 0) (λ c. cond (is_after_light s line c) 1 0) in
-    let found = found-below s line s in
-    omega arith
+    omega (arith, found-below s line s)
   where
     past : (c : ℕ) → s - 3 ≤ c → leb (c + 11) s ≡ false
     past c h = let k : s < c + 11 = omega arith in grind (arith, nat_tests)
@@ -139,10 +120,6 @@ pub found-are-columns : (s : ℕ) (dark : ℕ → ℕ → Bool) → sum_below s 
 found-are-columns s dark =
     sum_below-swap s s (λ r c. cond (is_found s (λ i. dark i c) r) 1 0)
     ∙ sum_below-same s (λ c. count_below s (is_found s (λ i. dark i c))) (λ c. window_count s (λ r. dark r c)) (λ c _. found-all s (λ r. dark r c))
-
--- before the first row
-pub windows-none : (s : ℕ) (dark : ℕ → ℕ → Bool) (k : ℕ) → k ≡ 0 → AreWindowsTo s dark 0 k
-windows-none s dark k e = record { windows_are = e; windows_most = omega arith }
 
 -- what is counted after one more row
 pub windows-next : (s : ℕ) (dark : ℕ → ℕ → Bool) (n windows : ℕ) (across upright : ℕ → Bool) (more : ℕ) → s ≤ 192 → AreWindowsTo s dark n windows

@@ -9,7 +9,7 @@ loop-row-init c = search rules
 
 -- a group of rows is inside the tile
 room : (s k : ℕ) → 1 ≤ s → 32 % s ≡ 0 → k < 32 / s → 2 * s * k + 2 * s ≤ 64
-room s k p q l = let h = mul-le-mul_left {m = k + 1} {n = 32 / s} s (omega arith) in omega arith
+room s k p q l = search (rules, mul-le-mul_left)
 
 pub loop-row-preserved : goal.loop-row-preserved
 unfolding bit_in
@@ -24,14 +24,13 @@ loop-row-preserved c =
     let u = bit_xor upper (d * 2 ^ s % 2 ^ 64) in
     let v = bit_xor lower d in
     let i = c.loop-row.invariant in
-    let h = room s c.loop-group.group c.requires.some c.requires.fits (omega arith) in
     let next : AreNext s first row w b = record {
       some = c.requires.some;
       long = i.long;
       whole = mul-mod_right (2 * s) c.loop-group.group;
       begun = omega arith;
       within = omega arith;
-      room = h;
+      room = search rules;
       upper = i.between row (omega arith) (omega arith);
       lower = i.below (row + s) (omega arith);
     } in record {

@@ -1,5 +1,4 @@
-use Rattle.std.proofs.Common.{rules}
-use Rattle.std.proofs.Common.{◌≡◌, ℕ, ◌+◌, ◌*◌, Bool, arith, ap, refl, sym, ◌∙◌}
+use Rattle.std.proofs.Common.{rules, ◌≡◌, ℕ, ◌+◌, ◌*◌, Bool, arith, ap, ◌∙◌}
 use Rattle.qr_matrix.specs.{Steps.set_count, Sums.{count_below, places_passing, sum_below}}
 use Rattle.qr_matrix.proofs.lemmas.{rows.AdderLemmas.{never, none-of, set_count-most}, bit_row.SumLemmas.sum_below-more, penalties.PenaltyLemmas.row-count}
 use Rattle.qr_matrix.proofs.penalties.dark_count.Goals as goal
@@ -17,16 +16,14 @@ kept f t o a b u x p q l y s e k h i j m = omega arith
 
 -- a sum with its next four terms
 next : (n m : ℕ) (f : ℕ → ℕ) → m ≡ n + 1 → sum_below m f ≡ sum_below n f + f n
-next n m f e = ap (λ z. sum_below z f) e ∙ sym (sum_below-more n _ _ _ f refl refl refl)
+next n m f e = search (rules, sum_below-more)
 
 -- a sum with the next four terms added is the sum of four terms more
 four-more : (n m x y : ℕ) (f : ℕ → ℕ) → m ≡ n + 4 → x ≡ sum_below n f → y ≡ x + (f n + f (n + 1) + (f (n + 2) + f (n + 3))) → y ≡ sum_below m f
 four-more n m x y f e d h =
-    let a = next n (n + 1) f refl in
     let b = next (n + 1) (n + 2) f (omega arith) in
     let i = next (n + 2) (n + 3) f (omega arith) in
-    let j = next (n + 3) m f (omega arith) in
-    omega arith
+    search rules
 
 pub loop-quarter-preserved : goal.loop-quarter-preserved
 loop-quarter-preserved g c =

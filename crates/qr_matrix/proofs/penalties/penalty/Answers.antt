@@ -1,18 +1,9 @@
-use Rattle.std.proofs.Common.{◌∙◌, ap, sym, subst, false}
+use Rattle.std.proofs.Common.{rules, ◌∙◌, ap, sym, subst, false}
 use Rattle.qr_matrix.specs.{Grid.colour, Penalty.penalty_of, Steps.IsCounted}
 use Rattle.qr_matrix.proofs.penalties.penalty.Goals as goal
 
-pub points-requires-clause-runs : goal.points-requires-clause-runs
-points-requires-clause-runs c = (c.count_all.ensures false).runs_most
-
-pub points-requires-clause-squares : goal.points-requires-clause-squares
-points-requires-clause-squares c = (c.count_all.ensures false).squares_most
-
-pub points-requires-clause-windows : goal.points-requires-clause-windows
-points-requires-clause-windows c = (c.count_all.ensures false).windows_most
-
-pub points-requires-clause-dark : goal.points-requires-clause-dark
-points-requires-clause-dark c = (c.count_all.ensures false).darks_most
+pub points-requires : goal.points-requires
+points-requires c = let n = c.count_all.ensures false in search rules
 
 pub returns : goal.returns
 returns c =

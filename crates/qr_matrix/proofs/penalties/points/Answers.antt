@@ -1,6 +1,7 @@
-use Rattle.std.proofs.Common.{arith}
-use Rattle.qr_matrix.proofs.lemmas.penalties.PenaltyLemmas.{counted-is}
+use Rattle.qr_matrix.specs.Penalty.{dark_cost, penalty_of}
+use Rattle.std.proofs.Common.{rules}
 use Rattle.qr_matrix.proofs.penalties.points.Goals as goal
 
 pub returns : goal.returns
-returns c = search (arith, counted-is)
+unfolding penalty_of dark_cost
+returns c = search rules

@@ -4,5 +4,4 @@ use Rattle.qr_matrix.proofs.windows.counted.Goals as goal
 
 pub returns-then-is_empty : goal.returns-then-is_empty
 returns-then-is_empty g c = λ b.
-    let e = none-of (g.R.Rows.bit c.added-sum.result.1 b) (c.is_empty.ensures c.if-is_empty.true b) in
-    omega (arith, c.added-sum.ensures b)
+    omega (arith, c.added-sum.ensures b, none-of (g.R.Rows.bit c.added-sum.result.1 b) (c.is_empty.ensures c.if-is_empty.true b))

@@ -9,7 +9,6 @@ returns g c = λ b k.
     let d = g.S.Squares.dark m b in
     let first = c.row_in.ensures in
     let l0 = first.colours b k ∙ guarded s k (d c.args.row k) (λ h. sym (first.colours b k) ∙ first.past b k h) in
-    let l1 = c.row_in-2.ensures.colours b k in
     let l2 = c.row_in-3.ensures.colours b k in
     let l3 = c.row_in-4.ensures.colours b k in
     let l4 = c.row_in-5.ensures.colours b k in
@@ -22,4 +21,4 @@ returns g c = λ b k.
     let h4 = c.and_not.ensures b k in
     let h5 = g.met.S.Row.Rows.bitand_law _ _ _ c.bitand-3.ensures b k in
     let read = ratio-read (ltb k s) (λ i. d i k) c.args.row in
-    cc
+    cc (c.row_in-2.ensures.colours b k)

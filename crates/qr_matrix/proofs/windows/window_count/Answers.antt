@@ -1,6 +1,6 @@
 use Rattle.std.proofs.Common.{ltb, ◌≡◌, ◌*◌, ◌+◌, ℕ, arith, ap, ◌∙◌}
 use Rattle.qr_matrix.specs.{Sums.{count_below, sum_below}, Penalty.{over_lines, window_count}, Steps.is_found}
-use Rattle.qr_matrix.proofs.lemmas.{rows.AdderLemmas.{never, none-of}, runs.RowLemmas.side-most, windows.WindowLemmas.{found-are-columns, found-none, windows-next, windows-none}}
+use Rattle.qr_matrix.proofs.lemmas.{rows.AdderLemmas.{never, none-of}, runs.RowLemmas.side-most, windows.WindowLemmas.{found-are-columns, found-none, windows-next}}
 use Rattle.qr_matrix.proofs.windows.window_count.Goals as goal
 
 -- nothing is counted yet
@@ -8,10 +8,7 @@ begun : (t o : ℕ) → t ≡ 0 → o ≡ 0 → 2 * t + o ≡ 0
 begun t o d e = omega arith
 
 pub loop-upper-init : goal.loop-upper-init
-loop-upper-init g c = record {
-  counted = λ b. windows-none (g.S.Squares.size c.args.squares.now) (g.S.Squares.dark c.args.squares.now b) _
-      (begun _ _ (g.met.S.Row.Rows.zero_law _ c.default-twos.ensures b) (none-of (g.S.Row.Rows.bit c.below_in-none.result b) (λ k. c.below_in-none.ensures b k ∙ never k)));
-}
+loop-upper-init g c = search (arith, begun, none-of, never)
 
 pub loop-upper-preserved : goal.loop-upper-preserved
 loop-upper-preserved g c =

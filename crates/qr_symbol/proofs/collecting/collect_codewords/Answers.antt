@@ -1,7 +1,6 @@
-use Rattle.qr_layout.{proofs.Facts.Inside, specs.{Order.{IsOrder, in_region_of}, Strips.places_of, Version.side_of}}
-use Rattle.{qr_layout.specs.declared.strips.Strip.Strip, qr_symbol.proofs.lemmas.collecting.CollectingLemmas.strip-read}
-use Rattle.qr_symbol.proofs.lemmas.reading.SymbolReadLemmas.{all-read, read-across}
-use Rattle.std.proofs.Common.{◌≤◌, List, ◌++◌, ◌∙◌, ap, sym, subst, append_assoc, append-nil, arith}
+use Rattle.qr_symbol.proofs.lemmas.{placement.PlacementLemmas.{places-push, kept-append}, reading.SymbolReadLemmas.{all-read, read-across}}
+use Rattle.std.proofs.{lemmas.List.map-append, Common.{rules, ◌≤◌, List, ◌++◌, ◌∙◌, ap, sym, subst, append_assoc, append-nil, arith}}
+use Rattle.qr_layout.{proofs.Facts.Inside, specs.{Order.{IsOrder, in_region_of}, Strips.places_of, Version.side_of, declared.strips.Strip.Strip}}
 use Rattle.std.{proofs.lemmas.List.Elements.{All-tail}, specs.List.All, proofs.lemmas.Result.IfOk-weaker}
 use Rattle.qr_symbol.proofs.collecting.collect_codewords.Goals as goal
 
@@ -11,7 +10,7 @@ loop-strip-init c =
     let e = sym c.into_iter-strip-iterator.ensures.into_iter_gives in record {
       can_next = tt;
       is_finite = tt;
-      inside = subst (All (Inside v)) e c.all_strips-strip-items.ensures.inside;
+      inside = search rules;
       whole = subst (λ (xs : List Strip). IsOrder v (in_region_of v (places_of (side_of v) xs))) e c.all_strips-strip-items.ensures.order;
       bits = c.in_ok-bits.ensures;
     }
@@ -25,7 +24,7 @@ loop-strip-preserved c =
       is_finite = tt;
       inside = All-tail (Inside v) x c.next.new.self (subst (All (Inside v)) c.in-Some.ensures.steps i.inside);
       whole = subst (λ (zs : List Strip). IsOrder v (in_region_of v (places_of s zs))) (ap (λ (zs : List Strip). xs ++ zs) c.in-Some.ensures.steps ∙ sym (append_assoc xs _ _)) i.whole;
-      bits = strip-read v s _ xs x _ _ i.bits c.collect_strip.ensures;
+      bits = search (rules, map-append, kept-append, places-push);
     }
 
 pub returns : goal.returns

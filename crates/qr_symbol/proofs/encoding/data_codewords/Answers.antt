@@ -1,9 +1,7 @@
-use Rattle.qr_bits.proofs.Facts.{covered-short}
-use Rattle.qr_bits.specs.declared.fault.BitFault.{BitFault, TheVariants.{Memory, TooLong}}
+use Rattle.qr_bits.{proofs.Facts.covered-short, specs.declared.fault.BitFault.{BitFault, TheVariants.{Memory, TooLong}}}
 use Rattle.qr_symbol.specs.Fault.{fault_of}
-use Rattle.std.proofs.Common.{rules, ◌≡◌, refl}
-use Rattle.std.proofs.lemmas.Result.{err_from_is_err_and}
 use Rattle.qr_symbol.specs.declared.fault.EncodeFault.TheVariants as fault
+use Rattle.std.proofs.{Common.{rules, ◌≡◌, refl}, lemmas.Result.err_from_is_err_and}
 use Rattle.qr_symbol.proofs.encoding.data_codewords.Goals as goal
 
 -- A fault of `qr_bits` that is not `TooLong` becomes `Memory`.

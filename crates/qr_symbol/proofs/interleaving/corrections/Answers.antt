@@ -1,6 +1,5 @@
-use Rattle.std.proofs.{Common.{◌+◌, ◌*◌, ap, subst, arith}}
-use Rattle.qr_symbol.specs.Interleaving.{block_count, IsChecks}
-use Rattle.qr_symbol.proofs.lemmas.interleaving.CheckLemmas.{push-checks}
+use Rattle.std.proofs.{Common.{rules, ◌+◌, ◌*◌, ap, subst, arith}}
+use Rattle.qr_symbol.{specs.Interleaving.{block_count, IsChecks}, proofs.lemmas.interleaving.CheckLemmas.push-checks}
 use Rattle.qr_symbol.proofs.interleaving.corrections.Goals as goal
 
 pub loop-pair-preserved : goal.loop-pair-preserved
@@ -11,7 +10,7 @@ loop-pair-preserved c =
     let two = push-checks c.args.blocks c.args.message.now _ _ _ _ (2 * c.loop-pair.pair + 1) c.of_data-sizes.ensures (omega arith)
     (rw (c.new-divisor.ensures, c.part-second.ensures.value, c.from-ec_len.ensures, ← c.as_slice-in-loop-pair.ensures.value) at c.corrections-left.ensures.second)
     one c.in_ok-extend_from_slice-2.ensures.items in
-    subst (λ k. IsChecks c.args.blocks c.args.message.now k c.extend_from_slice-in-loop-pair.new.self.items) (omega arith) two
+    search rules
 
 pub loop-block-preserved : goal.loop-block-preserved
 loop-block-preserved c = push-checks _ _ _ _ _ _ _ c.of_data-sizes.ensures (omega arith)

@@ -1,5 +1,4 @@
-use Rattle.qr_symbol.proofs.lemmas.fault.ExactLemmas.{check-exactly}
-use Rattle.qr_symbol.proofs.lemmas.interleaving.MessageLemmas.{data-sizes-whole, sizes-whole}
+use Rattle.qr_symbol.proofs.lemmas.{fault.ExactLemmas.check-exactly, interleaving.MessageLemmas.{data-sizes-whole, sizes-whole}}
 use Rattle.std.proofs.{Common.{rules}}
 use Rattle.qr_symbol.proofs.interleaving.deinterleave.Goals as goal
 

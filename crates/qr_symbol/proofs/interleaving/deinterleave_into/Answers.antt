@@ -1,14 +1,12 @@
-use Rattle.std.proofs.{Common.{◌≡◌, ℕ, ◌+◌, ◌*◌, ◌-◌, List, length, get_or, sym, ◌∙◌, ap, subst, arith}, lemmas.List.length-set}
-use Rattle.std.proofs.lemmas.Bool.{Decides.nat_tests}
-use Rattle.qr_symbol.specs.Interleaving.{block_count, start_of}
+use Rattle.std.proofs.{Common.{rules, ◌≡◌, ℕ, ◌+◌, ◌*◌, ◌-◌, List, get_or, sym, ◌∙◌, ap, subst, arith}, lemmas.{List.length-set, Bool.Decides.nat_tests}}
+use Rattle.qr_symbol.{specs.Interleaving.{block_count, start_of}, proofs.interleaving.deinterleave_into.Goals.{then-block-short, else-block-short}}
 use Rattle.qr_symbol.proofs.lemmas.interleaving.{OrderLemmas.{IsPlaced, placed-block, placed-end, placed-gathered}, PositionLemmas.{len-most, position-in}, RankLemmas.{in-row, in-last-row}}
-use Rattle.qr_symbol.proofs.interleaving.deinterleave_into.Goals.{then-block-short, else-block-short}
 use Rattle.qr_symbol.proofs.interleaving.deinterleave_into.Goals as goal
 
 pub bounds-message-start : goal.bounds-message-start
 bounds-message-start c =
     let w = in-row c.args.sizes c.loop-index.index c.loop-block.block (omega arith) (omega arith) in
-    let k = position-in c.args.sizes c.loop-index.index c.loop-block.block w.0 in omega (arith, k, c.start-start.ensures, c.loop-index.invariant.long)
+    let k = position-in c.args.sizes c.loop-index.index c.loop-block.block w.0 in search rules
 
 pub loop-index-preserved : goal.loop-index-preserved
 loop-index-preserved c =
@@ -24,10 +22,7 @@ loop-block-preserved c =
     let sizes = c.args.sizes in let b = c.loop-block.block in let h = c.loop-index.invariant in
     let e : c.loop-index.index ≡ sizes.short_len = omega arith in
     let all = subst (λ (p : ℕ). IsPlaced sizes b p c.args.codewords.now c.loop-index.message) e h.placed in record {
-      long = elim c.if-block-short.branch [
-        | then-block-short w ↦ ap length w.message-is ∙ (length-set c.loop-index.message _ _ ∙ h.long)
-        | else-block-short w ↦ ap length w.message-is ∙ h.long
-      ];
+      long = search (rules, length-set);
       placed = elim c.if-block-short.branch [
         | then-block-short w ↦
             let v = in-last-row sizes b (omega arith) (omega arith) in

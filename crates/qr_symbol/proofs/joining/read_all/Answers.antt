@@ -1,6 +1,4 @@
-use Rattle.std.proofs.lemmas.Grind.{common_steps}
-use Rattle.std.proofs.Common.{rules, arith}
-use Rattle.std.proofs.{Common.rules, lemmas.{List.take_all, Result.err_from_is_err_and}}
+use Rattle.std.proofs.{lemmas.{Grind.common_steps, List.take_all, Result.err_from_is_err_and}, Common.{rules, arith}}
 use Rattle.qr_symbol.proofs.lemmas.joining.JoiningLemmas.{readings-none, readings-more, unjoined-at}
 use Rattle.qr_symbol.proofs.joining.read_all.Goals as goal
 

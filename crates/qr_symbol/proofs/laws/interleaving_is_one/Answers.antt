@@ -1,3 +1,4 @@
+use Rattle.std.proofs.Common.{rules}
 use Rattle.{std.proofs.Common.{◌∙◌, sym, arith}, qr_layout.specs.Blocks.blocks_of}
 use Rattle.qr_symbol.proofs.lemmas.interleaving.MessageLemmas.{final-one, final-whole, data-one, data-sizes-whole}
 use Rattle.qr_symbol.proofs.laws.interleaving_is_one.Goals as goal
@@ -5,6 +6,6 @@ use Rattle.qr_symbol.proofs.laws.interleaving_is_one.Goals as goal
 pub returns : goal.returns
 returns c = let whole = data-sizes-whole c.args.version c.args.level (omega arith) (omega arith) in record {
   interleaved = final-one (blocks_of c.args.version c.args.level);
-  many = λ d xs i. final-whole c.args.version c.args.level d xs (omega arith) (omega arith) i;
+  many = search (rules, final-whole);
   message = λ d e xs m n. data-one (blocks_of c.args.version c.args.level) d e xs (m ∙ sym whole) (n ∙ sym whole);
 }

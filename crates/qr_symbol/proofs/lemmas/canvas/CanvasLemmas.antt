@@ -1,19 +1,11 @@
 -- The function patterns of a canvas, which stay while codewords are drawn, and the mask of the least penalty.
-use Rattle.qr_layout.proofs.Facts.{below, below-at, region-symmetric, role-symmetric}
-use Rattle.qr_layout.specs.Region.{is_in_region}
-use Rattle.qr_layout.specs.Version.{side_of}
+use Rattle.qr_layout.{proofs.Facts.{below, below-at, region-symmetric, role-symmetric}, specs.{Version.side_of, declared.level.Level.Level}}
 use Rattle.qr_matrix.proofs.Facts.{same-same, square-same, colour-square, colour-transposed}
-use Rattle.qr_matrix.specs.BitRow.{has_bit}
-use Rattle.qr_matrix.specs.Grid.{is_same, Grid, square, colour, transposed}
+use Rattle.qr_matrix.specs.{BitRow.has_bit, Grid.{is_same, Grid, square, colour, transposed}}
 use Rattle.qr_symbol.proofs.lemmas.placement.PlacementLemmas.{by_test, inside, outside, square-is, masked-all}
-use Rattle.qr_symbol.specs.Steps.Canvas.{HasPatterns}
-use Rattle.qr_symbol.specs.Steps.Patterns.{fixed_colour, paint_of, symmetric_format}
-use Rattle.qr_symbol.specs.Steps.Placement.{placed_colour, plain_grid, masked_grid, masked_penalty, region_grid}
-use Rattle.std.proofs.Common.{◌≡◌, ℕ, ◌<◌, ◌≤◌, true, cond, eqb, List, refl, ◌∙◌, arith, ap, subst}
-use Rattle.qr_layout.specs.declared.level.Level.{Level}
-use Rattle.qr_symbol.specs.Choice.{IsFirstLeast, IsMask}
-use Rattle.qr_symbol.specs.Symbol.{grid_of}
-use Rattle.qr_symbol.specs.declared.canvas.Canvas.{Canvas}
+use Rattle.qr_symbol.specs.{Steps.{Canvas.HasPatterns, Patterns.{fixed_colour, paint_of, symmetric_format}}, Choice.{IsFirstLeast, IsMask}, Symbol.grid_of}
+use Rattle.qr_symbol.specs.{Steps.Placement.{placed_colour, plain_grid, masked_grid, masked_penalty, region_grid}, declared.canvas.Canvas.Canvas}
+use Rattle.std.proofs.Common.{◌≡◌, ℕ, ◌<◌, ◌≤◌, true, eqb, List, refl, ◌∙◌, arith, ap, subst}
 
 -- just bit 7 of the symmetric format information is 1, computed
 just-seven : below 15 (λ i. is_same (has_bit symmetric_format i) (eqb i 7)) ≡ true
@@ -25,10 +17,6 @@ paint-symmetric : (v r c : ℕ) → 1 ≤ v → r < side_of v → c < side_of v 
 unfolding fixed_colour
 paint-symmetric v r c l h k =
     role-symmetric (fixed_colour _ _) v r c l h k (λ i m. same-same _ _ (below-at 15 (λ i. is_same (has_bit symmetric_format i) (eqb i 7)) just-seven i m))
-
--- a square on which the function patterns are drawn has them
-pub patterns-start : (v : ℕ) (g h : Grid) → h ≡ square (side_of v) (λ r c. cond (is_in_region v r c) (colour g r c) (paint_of v symmetric_format r c)) → HasPatterns v h
-patterns-start v g h e = search (arith, square-is, outside, colour-square)
 
 -- the symbol of any codewords has the function patterns
 pub patterns-kept : (v : ℕ) (cw : List ℕ) (g : Grid) → g ≡ plain_grid v cw → HasPatterns v g

@@ -1,18 +1,8 @@
 -- The bits of a strip, row by row, are those of the strip's places in the encoding region, in their order.
-use Rattle.qr_layout.specs.Order.{in_region_of}
-use Rattle.qr_layout.specs.Region.{is_in_region}
-use Rattle.qr_layout.specs.Strips.{both_of, rows_from, places_of}
-use Rattle.qr_layout.specs.declared.region.Place.{Place}
-use Rattle.qr_layout.specs.declared.strips.Strip.{Strip}
-use Rattle.std.proofs.lemmas.List.{map-append}
-use Rattle.qr_matrix.specs.BitRow.{has, has_bit}
-use Rattle.qr_matrix.specs.Grid.{Grid, colour}
-use Rattle.qr_symbol.specs.declared.spans.Columns.{Columns}
-use Rattle.qr_symbol.proofs.lemmas.placement.PlacementLemmas.{kept-append, places-push}
-use Rattle.qr_symbol.proofs.lemmas.placement.PlacementLemmas.{at}
-use Rattle.qr_symbol.specs.Steps.Collecting.{bit_if, bits_in_rows, colour_across}
-use Rattle.qr_symbol.specs.Steps.Words.{Appends, Bits, HasCollected}
-use Rattle.qr_symbol.specs.Steps.Spans.{row_of, AreOutside, AreWholeRows}
+use Rattle.qr_layout.specs.{Order.in_region_of, Region.is_in_region, Strips.{both_of, rows_from}, declared.{region.Place.Place, strips.Strip.Strip}}
+use Rattle.qr_matrix.specs.{BitRow.{has, has_bit}, Grid.{Grid, colour}}
+use Rattle.qr_symbol.specs.{declared.spans.Columns.Columns, Steps.{Collecting.{bit_if, bits_in_rows, colour_across}, Words.{Appends, Bits}}}
+use Rattle.qr_symbol.{proofs.lemmas.placement.PlacementLemmas.at, specs.Steps.Spans.{row_of, AreOutside, AreWholeRows}}
 use Rattle.std.proofs.Common.{◌≡◌, ℕ, zero, suc, ◌+◌, ◌-◌, ◌<◌, ◌≤◌, Bool, true, false, cond, List, [], ◌∷◌, ◌++◌, map, refl, append_assoc, append-nil, arith, ◌*◌, sym, ◌∙◌, ap}
 use Rattle.qr_bits.specs.Bits.{field}
 
@@ -68,11 +58,6 @@ module _ (v s : ℕ) (g : Grid) (x : Strip) (r y : Columns)
   pub strip-bits : (k n : ℕ) → k + n ≤ s → bits_in_rows s x r y k n ≡ map (colour_across g) (in_region_of v (both_of (rows_from s x k n)))
   strip-bits k zero l = refl
   strip-bits k (suc n) l = search (arith, at, append_assoc, kept-bit, strip-bits (k + 1) n (omega arith))
-
--- the bits of one strip more
-pub strip-read : (v s : ℕ) (f : Place → Bool) (xs : List Strip) (x : Strip) (a b : Bits) → HasCollected (map f (in_region_of v (places_of s xs))) a → Appends (map f (in_region_of v (both_of (rows_from s x 0 s)))) a b
-    → HasCollected (map f (in_region_of v (places_of s (xs ++ x ∷ [])))) b
-strip-read v s f xs x a b i q = search (arith, map-append, kept-append, places-push)
 
 -- n rows of which all modules are in the region have the bits of a number with two bits for each row, of which the right
 -- column has the higher one; the lowest bits are for the last row

@@ -1,32 +1,16 @@
 -- An input has only one symbol, and a symbol that is built from the codewords of an input is the symbol of this input.
-use Rattle.qr_bits.specs.declared.interpretation.Interpretation.{Interpretation}
-use Rattle.qr_bits.specs.Interpretation.{MayWrite, interpretation_bits}
-use Rattle.qr_symbol.proofs.lemmas.version_choice.FitLemmas.{fits-bits, interpretation-most}
-use Rattle.qr_bits.proofs.Facts.{capacity-least, length-stream, least_fits, data-one, segmentation-one}
-use Rattle.qr_bits.specs.Header.{header_bits}
-use Rattle.qr_bits.specs.Padding.{IsData, capacity_of, room_of}
-use Rattle.qr_bits.specs.Segmentation.{bits, HasFit, IsLeastSegmentation}
-use Rattle.qr_bits.specs.declared.stream.Header.{Header}
-use Rattle.qr_bits.specs.declared.modes.Rule.{Rule}
-use Rattle.qr_bits.specs.declared.segmentation.Segment.{Segment}
+use Rattle.qr_bits.specs.{declared.interpretation.Interpretation.Interpretation, Interpretation.{MayWrite, interpretation_bits}, Header.header_bits}
+use Rattle.qr_symbol.proofs.lemmas.{version_choice.FitLemmas.{fits-bits, interpretation-most}, fault.ExactLemmas.exactly, reading.RoundTripLemmas.symbol-read}
+use Rattle.qr_bits.{proofs.Facts.{capacity-least, least_fits, data-one, segmentation-one}, specs.declared.{modes.Rule.Rule, segmentation.Segment.Segment}}
+use Rattle.qr_bits.specs.{Padding.{IsData, capacity_of, room_of}, Segmentation.{bits, HasFit, IsLeastSegmentation}, declared.stream.Header.Header}
 use Rattle.qr_layout.specs.declared.level.Level.{Level}
 use Rattle.qr_matrix.specs.Grid.{Grid}
-use Rattle.qr_symbol.proofs.lemmas.fault.ExactLemmas.{exactly}
-use Rattle.qr_symbol.proofs.lemmas.reading.RoundTripLemmas.{symbol-read}
-use Rattle.qr_symbol.specs.Choice.{IsMask}
-use Rattle.qr_symbol.specs.Encoding.{IsSymbolAt, IsBoostedSymbol, IsSymbol, BoostedSymbolsAreOne, SymbolsAreOne}
-use Rattle.qr_symbol.specs.Interleaving.{IsInterleaved}
-use Rattle.qr_symbol.specs.Reading.{IsReadBack}
-use Rattle.qr_symbol.specs.Series.{IsSymbolOf}
-use Rattle.qr_symbol.specs.Steps.Encoding.{IsRefusedExactly}
-use Rattle.qr_symbol.specs.Symbol.{grid_of}
-use Rattle.qr_symbol.specs.VersionChoice.{FitsVersion, IsHighestLevel, IsVersion, level_rank}
-use Rattle.qr_symbol.specs.declared.fault.EncodeFault.{EncodeFault}
-use Rattle.qr_symbol.specs.declared.symbol.Symbol.{Symbol}
-use Rattle.std.proofs.Common.{◌≡◌, ℕ, ◌+◌, ◌<◌, ◌≤◌, List, Option, None, Some, Result, Ok, Err, refl, subst, sym, arith, inl, inr}
+use Rattle.qr_symbol.specs.{Choice.IsMask, Encoding.{IsSymbolAt, IsBoostedSymbol, IsSymbol, BoostedSymbolsAreOne, SymbolsAreOne}, Interleaving.IsInterleaved}
+use Rattle.qr_symbol.specs.{Reading.IsReadBack, Series.IsSymbolOf, Steps.Encoding.IsRefusedExactly, Symbol.grid_of, declared.fault.EncodeFault.EncodeFault}
+use Rattle.qr_symbol.specs.{VersionChoice.{FitsVersion, IsHighestLevel, IsVersion, level_rank}, declared.symbol.Symbol.Symbol}
+use Rattle.std.proofs.{Common.{◌≡◌, ℕ, ◌+◌, ◌<◌, ◌≤◌, List, Option, None, Some, Result, Ok, Err, refl, subst, sym, arith, inl, inr}, lemmas.Bool.cases_lt}
 use Rattle.std.specs.Prelude.{IfOk, IfErr, MatchResult}
 use Rattle.qr_symbol.proofs.lemmas.interleaving.MessageLemmas.{final-one}
-use Rattle.std.proofs.lemmas.Bool.{cases_lt}
 use Rattle.qr_symbol.specs.declared.fault.EncodeFault.TheVariants as fault
 
 -- Two least versions are equal.
@@ -110,11 +94,6 @@ symbol-back v l b how x (Ok s) p q w made = let is = made.made in
     subst (λ (w : ℕ). IsReadBack w b how x s.matrix) (sym made.version)
     (search (arith, symbol-read))
 symbol-back v l b how x (Err f) p q w made = tt
-
--- bytes that have a symbol without a header fit its version
-pub symbol-fits : (v : ℕ) (l : Level) (b : Rule) (how : Interpretation) (x : List ℕ) (mask : ℕ) (g : Grid) → 1 ≤ v → v ≤ 40
-    → IsSymbolAt v l b how x None mask g → FitsVersion v l b how x
-symbol-fits v l b how x mask g p q s = search (arith, fits-bits, length-stream)
 
 -- if some segments have room after a header, so have the segments of the fewest bits
 pub behind-header : (v : ℕ) (l : Level) (b : Rule) (how : Interpretation) (x ys : List ℕ) (segs : List Segment) (h : Header) → 1 ≤ v → v ≤ 40

@@ -1,14 +1,13 @@
 -- A call is refused for a fault exactly if the fault is there, unless memory is refused.
-use Rattle.qr_bits.{proofs.Facts.empty-fits, specs.{declared.modes.Rule.Rule}}
-use Rattle.qr_bits.specs.declared.interpretation.Interpretation.{Interpretation}
+use Rattle.qr_bits.{proofs.Facts.empty-fits, specs.declared.{modes.Rule.Rule, interpretation.Interpretation.Interpretation}}
 use Rattle.qr_symbol.proofs.lemmas.version_choice.FitLemmas.{version-short}
+use Rattle.qr_symbol.specs.declared.fault.ReadFault.TheVariants as unread
 use Rattle.{qr_layout.specs.declared.level.Level.Level}
 use Rattle.qr_symbol.specs.{Series.{IsSeries, HasNoSeries}, Steps.Encoding.IsRefusedExactly, VersionChoice.{FitsVersion, HasNoVersion}}
 use Rattle.qr_symbol.specs.declared.{fault.{EncodeFault.EncodeFault, ReadFault.ReadFault}, symbol.Symbol.Symbol}
+use Rattle.qr_symbol.specs.declared.fault.EncodeFault.TheVariants as fault
 use Rattle.std.proofs.Common.{◌≡◌, ◌≢◌, ◌<◌, ◌≤◌, ◌↔◌, ◌⊎◌, inl, inr, ℕ, List, [], length, Result, Ok, Err, Vec, Global, sym, ap, subst, arith}
 use Rattle.std.specs.Prelude.{IfOk, IfErr, MatchResult}
-use Rattle.qr_symbol.specs.declared.fault.EncodeFault.TheVariants as fault
-use Rattle.qr_symbol.specs.declared.fault.ReadFault.TheVariants as unread
 
 -- the result is the fault e exactly if it is not lack of memory and the fact holds
 abbrev pub Refused : {X E : Type 0} → Result X E → (e memory : E) → Type 0 → Type 0

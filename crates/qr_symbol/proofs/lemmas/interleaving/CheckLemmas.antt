@@ -2,21 +2,16 @@
 use Rattle.{qr_field.specs.Polynomial.IsCorrection, qr_layout.specs.declared.blocks.Blocks.Blocks}
 use Rattle.qr_symbol.proofs.lemmas.interleaving.PositionLemmas.{start-next, start-most, part-at, part-grown, part-last}
 use Rattle.qr_symbol.specs.Interleaving.{Position, IsPosition, block_count, block_len, start_of, codeword_count, codeword_at, check_at, data_sizes, correction_sizes, block_of, part_of, IsFinalMessage, IsGathered}
-use Rattle.qr_symbol.specs.Interleaving.{IsChecks}
-use Rattle.qr_symbol.specs.declared.interleaving.BlockSizes.{BlockSizes}
+use Rattle.qr_symbol.specs.{Interleaving.IsChecks, declared.interleaving.BlockSizes.BlockSizes}
 use Rattle.std.proofs.Common.{◌≡◌, ℕ, suc, ◌+◌, ◌<◌, ◌≤◌, List, [], ◌∷◌, ◌++◌, map, length, length-append, get_or, refl, sym, ◌∙◌, ap, inl, inr, arith}
 use Rattle.std.proofs.lemmas.{Bool.{cases_lt, Decides.nat_tests}, List.{take_all, FromFn.{get_or-map-range_with_len, length-map-range_with_len}}}
 use Rattle.std.specs.List.{All, range_with_len}
-
--- each block has the same number of error correction codewords
-pub check-len : (b : Blocks) (k : ℕ) → k < block_count (data_sizes b) → block_len (correction_sizes b) k ≡ b.ec_len
-check-len b k l = grind (arith, nat_tests)
 
 -- with the error correction codewords of one more block, the list is that of one block more
 pub checks-push : (b : Blocks) (d xs ys es : List ℕ) (k : ℕ) → k < block_count (data_sizes b) → IsChecks b d k xs → IsCorrection (block_of b d k) b.ec_len es → ys ≡ xs ++ es → IsChecks b d (k + 1) ys
 checks-push b d xs ys es k l h c e =
     let sizes = correction_sizes b in
-    let long : length es ≡ block_len sizes k = omega (arith, c.count, check-len b k l) in
+    let long : length es ≡ block_len sizes k = search (arith, nat_tests) in
     rw e (record {
       long = cc (length-append xs es, start-next sizes k);
       each = λ i a. elim (cases_lt i k) [

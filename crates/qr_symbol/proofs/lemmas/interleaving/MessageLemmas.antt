@@ -2,8 +2,7 @@
 use Rattle.qr_field.{proofs.Facts.correction-one, specs.Polynomial.IsCorrection}
 use Rattle.qr_layout.{proofs.Facts.{Mem-of-Contains, blocks-sound}, specs.Blocks.{data_codewords_of, blocks_of}}
 use Rattle.qr_layout.specs.{Version.total_codewords_of, declared.{blocks.Blocks.Blocks, level.Level.Level}}
-use Rattle.qr_symbol.proofs.lemmas.interleaving.OrderLemmas.{positions-many}
-use Rattle.qr_symbol.proofs.lemmas.interleaving.RankLemmas.{positions-one, position-of, map-at}
+use Rattle.qr_symbol.proofs.lemmas.interleaving.{OrderLemmas.positions-many, RankLemmas.{positions-one, position-of, map-at}}
 use Rattle.qr_symbol.proofs.lemmas.interleaving.{CheckLemmas.both-interleaved, PositionLemmas.part-at}
 use Rattle.qr_symbol.specs.{Interleaving.IsChecks, declared.interleaving.BlockSizes.BlockSizes}
 use Rattle.qr_symbol.specs.Interleaving.{block_count, codeword_count, codeword_at, data_sizes, correction_sizes, block_of, check_at, part_of, IsFinalMessage, IsGathered}

@@ -1,11 +1,11 @@
 -- The order of the positions, by their ranks, and what it makes of codewords that were put at their ranks.
+use Rattle.std.proofs.lemmas.Bool.Decides.{nat_tests}
 use Rattle.std.proofs.Common.{◌≡◌, ℕ, zero, suc, ◌+◌, ◌-◌, ◌<◌, ◌≤◌, List, [], ◌∷◌, ◌++◌, map, take, length, length-append, get_or, set, replicate, refl, sym, ◌∙◌, ap, subst, inl, inr, ◌⊎◌, arith}
-use Rattle.qr_symbol.specs.declared.interleaving.BlockSizes.{BlockSizes}
+use Rattle.qr_symbol.{specs.declared.interleaving.BlockSizes.BlockSizes, proofs.lemmas.interleaving.CheckLemmas.map-each}
 use Rattle.std.proofs.lemmas.{Bool.cases_lt, List.{get_or_append_left, get_or-append_right, get_or-set_other, get_or-set_same, length-map, length-replicate, length-take, map-append, take_more}}
 use Rattle.qr_symbol.specs.Interleaving.{IsPositionOrder, Position, block_count, block_len, start_of, codeword_count, IsPosition, codeword_at, IsGathered}
-use Rattle.qr_symbol.proofs.lemmas.interleaving.CheckLemmas.{map-each}
 use Rattle.qr_symbol.proofs.lemmas.interleaving.PositionLemmas.{position, PositionsBefore, positions-start, positions-push, positions-pass, positions-row, positions-end, position-in}
-use Rattle.qr_symbol.proofs.lemmas.interleaving.RankLemmas.{position-one, position-of, positions-one, rank_of, rank-end, rank-in, rank-one, rank-pass, rank-push, rank-row, rank-start}
+use Rattle.qr_symbol.proofs.lemmas.interleaving.RankLemmas.{position-one, position-of, positions-one, rank_of, rank-in, rank-one, rank-pass, rank-push, rank-row, rank-start}
 
 -- the item of an interleaved list for a position
 abbrev pub item_at : BlockSizes → List ℕ → Position → ℕ
@@ -93,7 +93,7 @@ pub placed-end : (c : BlockSizes) (b : ℕ) (interleaved xs : List ℕ) → leng
 placed-end c b interleaved xs l n e h =
     let o = ordered-down c interleaved (c.short_len + 1) n (omega arith) in
     let order = positions-end c o.positions o.order in
-    let whole : map (item_at c interleaved) o.positions ≡ take (codeword_count c) interleaved = o.same ∙ ap (λ (k : ℕ). take k interleaved) (rank-end c) in record {
+    let whole : map (item_at c interleaved) o.positions ≡ take (codeword_count c) interleaved = search (arith, nat_tests) in record {
       long = l;
       positions = o.positions;
       order = order;

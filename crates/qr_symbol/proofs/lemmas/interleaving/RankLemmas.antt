@@ -1,8 +1,7 @@
 -- The number of positions before a position, and that blocks have only one order of positions.
 use Rattle.qr_layout.proofs.Facts.{All-rec, Mem, Mem-at, Mem-of-Contains, Rises-of-pairs, one-rising}
-use Rattle.qr_symbol.proofs.lemmas.interleaving.PositionLemmas.{position, start-next, start-most}
+use Rattle.qr_symbol.{proofs.lemmas.interleaving.PositionLemmas.{position, start-next, start-most}, specs.declared.interleaving.BlockSizes.BlockSizes}
 use Rattle.qr_symbol.specs.Interleaving.{Position, ComesBefore, block_count, start_of, codeword_count, IsPosition, IsPositionOrder}
-use Rattle.qr_symbol.specs.declared.interleaving.BlockSizes.{BlockSizes}
 use Rattle.std.proofs.Common.{◌≡◌, ℕ, zero, suc, ◌+◌, ◌-◌, ◌*◌, ◌<◌, ◌≤◌, cond, eqb, ltb, List, [], ◌∷◌, map, sym, ◌∙◌, ap, inl, inr, ◌⊎◌, arith}
 use Rattle.std.proofs.{Math.Nat.{mul-suc, mul-le-mul_left, mul_comm}, lemmas.Bool.{cases_lt, Decides.nat_tests}}
 
@@ -73,10 +72,6 @@ rank-row c p l = search (arith, mul-suc, mul_comm, nat_tests)
 -- no position comes before the first
 pub rank-start : (c : BlockSizes) → 0 ≡ rank_of c 0 0
 rank-start c = grind (arith, nat_tests)
-
--- after the last index, the number is that of all codewords
-pub rank-end : (c : BlockSizes) → rank_of c (c.short_len + 1) 0 ≡ codeword_count c
-rank-end c = grind (arith, nat_tests)
 
 -- each block has a codeword at an index that all blocks have, and its rank follows from whole rows
 pub in-row : (c : BlockSizes) (p b : ℕ) → p < c.short_len → b < block_count c → IsPosition c (position p b) × (block_count c * p + b ≡ rank_of c p b)

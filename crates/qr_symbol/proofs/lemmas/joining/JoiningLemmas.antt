@@ -3,10 +3,10 @@ use Rattle.{qr_bits.specs.Parsing.Content, qr_matrix.specs.Grid.Grid}
 use Rattle.qr_symbol.proofs.lemmas.reading.RefusalLemmas.{FaultsAreOne, IsOneFault}
 use Rattle.qr_symbol.specs.Joining.{AreReadBy, HaveHeaders, IsFirstRefused, IsJoinedBy, IsNoSeries, IsUnjoined, IsUnjoinedBy, bytes_of_all}
 use Rattle.qr_symbol.specs.{Reading.{IsReading, IsUnread}, Series.squares_of}
+use Rattle.qr_symbol.specs.declared.fault.ReadFault.TheVariants as fault
 use Rattle.{qr_symbol.specs.declared.{fault.ReadFault.ReadFault, symbol.Symbol.Symbol}, std.specs.Prelude.Some}
 use Rattle.std.proofs.Common.{◌≡◌, ℕ, ◌+◌, ◌<◌, ◌≤◌, List, [], ◌∷◌, ◌++◌, take, drop, length, get_or, refl, sym, ◌∙◌, inl, inr, ◌⊎◌, arith}
 use Rattle.std.proofs.lemmas.List.{flat_map_more, take_more, take-append-drop, take-map, drop_more, drop_all, get_or-map, length-map}
-use Rattle.qr_symbol.specs.declared.fault.ReadFault.TheVariants as fault
 
 -- ---- squares and contents, in turn
 

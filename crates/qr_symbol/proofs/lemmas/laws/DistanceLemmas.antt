@@ -3,11 +3,9 @@ use Rattle.std.proofs.Common.{◌≡◌, ℕ, zero, suc, ◌+◌, ◌<◌, ◌�
 use Rattle.std.proofs.{Math.Seq.take-add, Math.Seq.take-length, lemmas.Bool.cases_lt, lemmas.List.length-take}
 use Rattle.qr_field.{proofs.Facts.near-same, proofs.Facts.unambiguous-known, specs.Distance.differences}
 use Rattle.qr_layout.{proofs.Facts.laws-of, specs.Blocks.blocks_of, specs.declared.level.Level.Level}
-use Rattle.qr_symbol.specs.declared.interleaving.BlockSizes.{BlockSizes}
-use Rattle.qr_symbol.specs.Interleaving.{block_count, block_len, start_of, codeword_count, data_sizes, block_of}
+use Rattle.qr_symbol.specs.{declared.interleaving.BlockSizes.BlockSizes, Interleaving.{block_count, block_len, start_of, codeword_count, data_sizes, block_of}}
 use Rattle.qr_symbol.specs.Distance.{blocks_in, held_block, DamagedMessagesAreOne, HeldMessage, MessagesLieApart}
-use Rattle.qr_symbol.proofs.lemmas.interleaving.MessageLemmas.{data-sizes-whole}
-use Rattle.qr_symbol.proofs.lemmas.interleaving.PositionLemmas.{start-none, start-next, len-most}
+use Rattle.qr_symbol.proofs.lemmas.interleaving.{MessageLemmas.data-sizes-whole, PositionLemmas.{start-none, start-next, len-most}}
 
 -- block i, where the list contains the codewords block after block
 abbrev pub part : BlockSizes → List ℕ → ℕ → List ℕ
@@ -25,10 +23,6 @@ fronts-same c d e (suc i) h =
 pub parts-same : (c : BlockSizes) (d e : List ℕ) → length d ≡ codeword_count c → length e ≡ codeword_count c
     → ((j : ℕ) → j < block_count c → part c d j ≡ part c e j) → d ≡ e
 parts-same c d e n m h = cc (take-length d, fronts-same c d e _ h, take-length e)
-
--- block i has the same length in two lists of the same length
-part-length : (c : BlockSizes) (d e : List ℕ) (i : ℕ) → length d ≡ length e → length (part c d i) ≡ length (part c e i)
-part-length c d e i h = search (arith, length-take, length-drop)
 
 -- a block has at most 255 codewords
 part-short : (v : ℕ) (l : Level) (d : List ℕ) (i : ℕ) → 1 ≤ v → v ≤ 40 →
@@ -58,7 +52,7 @@ blocks-same v l m n h k f =
 -- two blocks of one index have equally many data codewords
 blocks-long : (v : ℕ) (l : Level) (m n : HeldMessage v l) (i : ℕ)
     → length (block_of (blocks_of v l) m.message i) ≡ length (block_of (blocks_of v l) n.message i)
-blocks-long v l m n i = part-length (data_sizes (blocks_of v l)) m.message n.message i (m.is.many ∙ sym n.is.many)
+blocks-long v l m n i = search (arith, length-take, length-drop)
 
 -- the law of distance
 pub messages-apart : (v : ℕ) (l : Level) → 1 ≤ v → v ≤ 40 → MessagesLieApart v l

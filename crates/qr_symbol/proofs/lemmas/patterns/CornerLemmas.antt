@@ -3,11 +3,9 @@ use Rattle.std.proofs.Common.{◌≡◌, ℕ, ◌+◌, ◌-◌, ◌<◌, ◌≤�
 use Rattle.std.proofs.lemmas.Bool.{cases_eq, cases_lt, Decides.nat_tests}
 use Rattle.qr_layout.proofs.Facts.{dark-module, format-first, format-only, format-second}
 use Rattle.qr_layout.specs.{Format.version_word_of, Region.is_corner, Role.role_of, Format.first_place, Format.second_place}
-use Rattle.qr_layout.specs.{Version.side_of, declared.region.Place.Place, declared.role.Role.Role}
-use Rattle.qr_layout.specs.declared.role.Role.TheVariants.{Fixed, FormatBit, VersionBit, Region}
-use Rattle.qr_symbol.specs.Steps.Patterns.{fixed_colour, format_or, is_dark_in_six, is_in_finder_area, paint_of}
-use Rattle.qr_symbol.proofs.lemmas.placement.PlacementLemmas.{at, by_test}
-use Rattle.qr_symbol.proofs.lemmas.patterns.TimingLemmas.{paint-column_six, paint-fixed, paint-row_six}
+use Rattle.qr_layout.specs.{Version.side_of, declared.{region.Place.Place, role.Role.{Role, TheVariants.{Fixed, FormatBit, VersionBit, Region}}}}
+use Rattle.qr_symbol.specs.Steps.Patterns.{fixed_colour, format_or, is_in_finder_area, paint_of}
+use Rattle.qr_symbol.proofs.lemmas.{placement.PlacementLemmas.{at, by_test}, patterns.TimingLemmas.{paint-column_six, paint-fixed, paint-row_six}}
 
 -- the tests that a place is in one of the first one, two and three areas
 abbrev pub two_areas : ℕ → ℕ → ℕ → Bool
@@ -26,15 +24,11 @@ with_second s r c = with_first s r c || (eqb r 6 && eqb c 8)
 abbrev pub begun : ℕ → ℕ → ℕ → Bool
 begun s r c = with_second s r c || (eqb r (s - 8) && eqb c 8)
 
--- the two timing modules beside the finder patterns are dark
-timing-dark : (s : ℕ) → 21 ≤ s → is_dark_in_six s 8 ≡ true
-timing-dark s h = grind (arith, nat_tests)
-
 pub timing-left : (v format : ℕ) → 1 ≤ v → true ≡ paint_of v format 8 6
-timing-left v format l = search (arith, timing-dark, paint-column_six)
+timing-left v format l = search (arith, paint-column_six, nat_tests)
 
 pub timing-top : (v format : ℕ) → 1 ≤ v → true ≡ paint_of v format 6 8
-timing-top v format l = search (arith, timing-dark, paint-row_six)
+timing-top v format l = search (arith, paint-row_six, nat_tests)
 
 -- the dark module is dark
 pub dark-painted : (v format : ℕ) → 1 ≤ v → v ≤ 40 → true ≡ paint_of v format (side_of v - 8) 8

@@ -4,10 +4,6 @@ use Rattle.{qr_layout.specs.declared.role.Role.TheVariants.Fixed, std.proofs.lem
 use Rattle.qr_symbol.{proofs.lemmas.patterns.TimingLemmas.paint-fixed, specs.Steps.Patterns.{is_in_finder_area, paint_of}}
 use Rattle.std.proofs.Common.{◌≡◌, ℕ, ◌+◌, ◌-◌, ◌≤◌, Bool, true, false, not, cond, eqb, ltb, leb, ◌&&◌, sym, ◌∙◌, arith}
 
--- three squares, painted one inside the other, leave only ring 2 light
-pub three-squares : (n : ℕ) (w x y z : Bool) → x ≡ cond (leb n 3) true w → y ≡ cond (leb n 2) false x → z ≡ cond (leb n 1) true y → z ≡ cond (ltb n 4) (not (eqb n 2)) w
-three-squares n w x y z d e f = grind (arith, nat_tests)
-
 -- a finder pattern, painted in its area, hides what was there before
 area-tests : (b f q w : Bool) → (f ≡ true → b ≡ true) → cond f q (cond b false w) ≡ cond b (f && q) w
 area-tests b f q w h = grind (arith, nat_tests)
@@ -35,10 +31,6 @@ area-paint v r c a b top left format w x y h i j k near d e =
   where
     in-its-area : (t x y w : Bool) → (t ≡ true → x ≡ y) → cond t x w ≡ cond t y w
     in-its-area t x y w e = grind (arith, nat_tests)
-
--- a place within ring 4 of one finder pattern is nearest to it
-pub near-corner : (s r c : ℕ) → 21 ≤ s → ring_of 3 3 r c ≤ 4 → finder_ring s r c ≡ ring_of 3 3 r c
-near-corner s r c l n = omega arith
 
 pub near-right : (s r c : ℕ) → 21 ≤ s → ring_of 3 (s - 4) r c ≤ 4 → finder_ring s r c ≡ ring_of 3 (s - 4) r c
 near-right s r c l n = omega arith

@@ -4,32 +4,46 @@ use Rattle.qr_layout.specs.{Role.role_of, Format.first_place, Format.second_plac
 use Rattle.qr_layout.specs.declared.{region.Place.Place, role.Role.Role, role.Role.TheVariants.FormatBit}
 use Rattle.qr_matrix.proofs.Facts.{same-place, square-same, colour-painted-here, colour-painted-there, colour-square}
 use Rattle.qr_matrix.specs.{BitRow.has_bit, Grid.Grid, Grid.square, Grid.colour, Grid.painted, Grid.with_row, Grid.IsSquare}
-use Rattle.qr_symbol.specs.Steps.Patterns.{format_bits_or, format_or}
-use Rattle.std.proofs.Common.{◌≡◌, ◌≢◌, ◌⊎◌, ℕ, ◌+◌, ◌-◌, ◌<◌, ◌≤◌, Bool, true, false, cond, ltb, leb, eqb, ◌&&◌, ◌||◌, refl, sym, ◌∙◌, ap, inl, inr, arith}
+use Rattle.qr_symbol.specs.{Mask.{inverts, inverted}, Steps.Patterns.format_or}
+use Rattle.std.proofs.Common.{◌≡◌, ◌≢◌, ◌⊎◌, ℕ, ◌+◌, ◌-◌, ◌<◌, ◌≤◌, Bool, true, false, cond, ltb, leb, eqb, ◌&&◌, refl, sym, ◌∙◌, ap, inl, inr, arith}
 
--- the bits from first to n - 1 are drawn, and no other module is changed
-abbrev pub FormatDone : ℕ → ℕ → ℕ → ℕ → Grid → Grid → Type 0
-FormatDone v format first n g0 g = (r c : ℕ) → r < side_of v → c < side_of v → colour g r c ≡ format_bits_or first n format (role_of v r c) (colour g0 r c)
+-- the colour of a module with the role q after the bits before bit n are drawn; `other` is its colour before
+unfoldable pub format_bits_or : ℕ → ℕ → Role → Bool → Bool
+format_bits_or n format (FormatBit i) other = cond (ltb i n) (has_bit format i) other
+format_bits_or n format _ other = other
 
--- at first no bit is drawn, and the square is unchanged
-pub format-start : (v format first : ℕ) (g : Grid) → FormatDone v format first first g g
+none-drawn : (format : ℕ) (q : Role) (other : Bool) → other ≡ format_bits_or 0 format q other
 unfolding format_bits_or
-format-start v format first g r c l m = none _
-  where
-    none : (q : Role) → colour g r c ≡ format_bits_or first first format q (colour g r c)
-    none (FormatBit i) = let e : (leb first i && ltb i first) ≡ false = grind (arith, nat_tests) in ap (λ z. cond z (has_bit format i) (colour g r c)) (sym e)
-    none _ = refl
+none-drawn format (FormatBit i) other = grind (arith, nat_tests)
+none-drawn format _ other = refl
 
 -- once bit n is drawn, a module that holds it has its colour
-bit-drawn : (first n format : ℕ) (q : Role) (other d : Bool) → first ≤ n → q ≡ FormatBit n → d ≡ has_bit format n → d ≡ format_bits_or first (n + 1) format q other
+bit-drawn : (n format : ℕ) (q : Role) (other d : Bool) → q ≡ FormatBit n → d ≡ has_bit format n → d ≡ format_bits_or (n + 1) format q other
 unfolding format_bits_or
-bit-drawn first n format q other d k e f = search arith
+bit-drawn n format q other d e f = search arith
 
 -- drawing bit n does not change a module that does not hold it
-bit-kept : (first n format : ℕ) (q : Role) (other : Bool) → (q ≡ FormatBit n → ⊥) → format_bits_or first n format q other ≡ format_bits_or first (n + 1) format q other
+bit-kept : (n format : ℕ) (q : Role) (other : Bool) → (q ≡ FormatBit n → ⊥) → format_bits_or n format q other ≡ format_bits_or (n + 1) format q other
 unfolding format_bits_or
-bit-kept first n format (FormatBit i) other o = search arith
-bit-kept first n format q other o = refl
+bit-kept n format (FormatBit i) other o = search arith
+bit-kept n format _ other o = refl
+
+-- all fifteen bits are the format information
+all-bits : (v format r c : ℕ) (other : Bool) → format_bits_or 15 format (role_of v r c) other ≡ format_or format (role_of v r c) other
+unfolding format_bits_or format_or
+all-bits v format r c other = parts _ (λ i q. (format-only v _ i q).0)
+  where
+    parts : (q : Role) → ((i : ℕ) → q ≡ FormatBit i → i < 15) → format_bits_or 15 format q other ≡ format_or format q other
+    parts (FormatBit i) f = let l = f i refl in grind (arith, nat_tests)
+    parts _ f = refl
+
+-- the bits before bit n are drawn, and no other module is changed
+abbrev pub FormatDone : ℕ → ℕ → ℕ → Grid → Grid → Type 0
+FormatDone v format n g0 g = (r c : ℕ) → r < side_of v → c < side_of v → colour g r c ≡ format_bits_or n format (role_of v r c) (colour g0 r c)
+
+-- at first no bit is drawn, and the square is unchanged
+pub format-start : (v format : ℕ) (g : Grid) → FormatDone v format 0 g g
+format-start v format g r c l m = none-drawn format _ _
 
 -- `at` is the place p, which is in a square of side n
 pub record IsPlaceIn (n : ℕ) (p at : Place) : Type 0 where
@@ -38,18 +52,18 @@ pub record IsPlaceIn (n : ℕ) (p at : Place) : Type 0 where
   pub col : at.col < n
 
 -- one bit is drawn at its two places
-pub format-step : (v format first i : ℕ) (g0 g : Grid) (a b : Place) (d : Bool) → 1 ≤ v → v ≤ 40
-    → first ≤ i → i < 15 → g.side ≡ side_of v → IsPlaceIn (side_of v) (first_place i) a → IsPlaceIn (side_of v) (second_place (side_of v) i) b
-    → d ≡ has_bit format i → FormatDone v format first i g0 g
-    → FormatDone v format first (i + 1) g0 (painted (painted g a.row a.col d) b.row b.col d)
-format-step v format first i g0 g a b d k1 k2 k l s at bt ed h r c m n = let ea = at.same in let eb = bt.same in elim (same-place b.row b.col r c) [
+pub format-step : (v format i : ℕ) (g0 g : Grid) (a b : Place) (d : Bool) → 1 ≤ v → v ≤ 40
+    → i < 15 → g.side ≡ side_of v → IsPlaceIn (side_of v) (first_place i) a → IsPlaceIn (side_of v) (second_place (side_of v) i) b
+    → d ≡ has_bit format i → FormatDone v format i g0 g
+    → FormatDone v format (i + 1) g0 (painted (painted g a.row a.col d) b.row b.col d)
+format-step v format i g0 g a b d k1 k2 l s at bt ed h r c m n = let ea = at.same in let eb = bt.same in elim (same-place b.row b.col r c) [
   | inl w ↦
       let q : role_of v b.row b.col ≡ FormatBit i = rw eb (format-second v i k1 k2 l) in
-      rw (w.0.0, w.0.1) (colour-painted-here _ _ _ d (omega arith) (omega arith) ∙ bit-drawn _ i _ _ _ d k q ed)
+      rw (w.0.0, w.0.1) (colour-painted-here _ _ _ d (omega arith) (omega arith) ∙ bit-drawn i _ _ _ d q ed)
   | inr w ↦ colour-painted-there _ _ _ r c d (omega arith) (omega arith) w.0 ∙ elim (same-place a.row a.col r c) [
     | inl u ↦ search (arith, format-first, colour-painted-here, bit-drawn)
     | inr u ↦ colour-painted-there g _ _ r c d (omega arith) (omega arith) u.0
-        ∙ (h r c m n ∙ bit-kept _ i _ _ _ (λ q. elim (format-only v _ i q).1 [
+        ∙ (h r c m n ∙ bit-kept i _ _ _ (λ q. elim (format-only v _ i q).1 [
           | inl f ↦ let e = f ∙ sym ea in u.0 (ap (λ (z : Place). z.row) e, ap (λ (z : Place). z.col) e)
           | inr f ↦ search arith
         ]))
@@ -57,99 +71,70 @@ format-step v format first i g0 g a b d k1 k2 k l s at bt ed h r c m n = let ea 
 ]
 
 -- the drawn bits, as a square
-pub format-end : (v format first n : ℕ) (g0 g : Grid) → IsSquare (side_of v) g → FormatDone v format first n g0 g → g ≡ square (side_of v) (λ r c. format_bits_or first n format (role_of v r c) (colour g0 r c))
-format-end v format first n g0 g e h = search (arith, square-same)
-
--- all fifteen bits, drawn in three parts, are the format information
-pub three-parts : (v format r c : ℕ) (other : Bool) → format_bits_or 9 15 format (role_of v r c) (format_bits_or 6 9 format (role_of v r c) (format_bits_or 0 6 format (role_of v r c) other)) ≡ format_or format (role_of v r c) other
-unfolding format_bits_or format_or
-three-parts v format r c other = parts _ (λ i q. (format-only v _ i q).0)
-  where
-    one : (t u w x y : Bool) → ((t || u) || w) ≡ true → cond w x (cond u x (cond t x y)) ≡ x
-    one t u true x y e = refl
-    one t true _ x y e = refl
-    one true _ _ x y e = refl
-    one _ _ _ x y e = cc
-
-    parts : (q : Role) → ((i : ℕ) → q ≡ FormatBit i → i < 15) → format_bits_or 9 15 format q (format_bits_or 6 9 format q (format_bits_or 0 6 format q other)) ≡ format_or format q other
-    parts (FormatBit i) f =
-        let l = f i refl in
-        let t : (((leb 0 i && ltb i 6) || (leb 6 i && ltb i 9)) || (leb 9 i && ltb i 15)) ≡ true = grind (arith, nat_tests) in
-        one (leb 0 i && ltb i 6) _ _ _ _ t
-    parts _ f = refl
+pub format-end : (v format : ℕ) (g0 g : Grid) → IsSquare (side_of v) g → FormatDone v format 15 g0 g → g ≡ square (side_of v) (λ r c. format_or format (role_of v r c) (colour g0 r c))
+format-end v format g0 g e h = search (arith, square-same, all-bits)
 
 -- ---- in two squares: column 8, and then row 8
 
--- the bits before bit n are drawn in all rows but row 8, and no other module is changed
+-- the bits before bit n are drawn in all rows but row 8. In row 8 a module may have its colour of the format information
 abbrev pub FormatDown : ℕ → ℕ → ℕ → Grid → Grid → Type 0
-FormatDown v format n g0 g = (r c : ℕ) → r < side_of v → c < side_of v → colour g r c ≡ cond (eqb r 8) (colour g0 r c) (format_bits_or 0 n format (role_of v r c) (colour g0 r c))
+FormatDown v format n g0 g = (r c : ℕ) → r < side_of v → c < side_of v
+    → (r ≢ 8 → colour g r c ≡ format_bits_or n format (role_of v r c) (colour g0 r c)) × (format_or format (role_of v r c) (colour g r c) ≡ format_or format (role_of v r c) (colour g0 r c))
 
--- two colours that are the same, but for row 8
-but-in-eight : (r : ℕ) (x y z : Bool) → (r ≢ 8 → y ≡ z) → cond (eqb r 8) x y ≡ cond (eqb r 8) x z
-but-in-eight r x y z h = search arith
+-- the square `plain` under a mask, without the format information
+abbrev pub masked_square : ℕ → ℕ → Grid → Grid → Grid
+masked_square v mask region plain = square (side_of v) (λ r c. inverted (colour region r c && inverts mask r c) (colour plain r c))
 
 -- at first no bit is drawn
 pub down-start : (v format : ℕ) (g : Grid) → FormatDown v format 0 g g
-down-start v format g r c l m = same (eqb r 8) _ _ (format-start v format 0 g r c l m)
+down-start v format g r c l m = (λ _. none-drawn format _ _, refl)
+
+-- a module of the format information gets its colour, whatever it was
+bit-same : (format i : ℕ) (q : Role) (x y : Bool) → q ≡ FormatBit i → format_or format q x ≡ format_or format q y
+unfolding format_or
+bit-same format i q x y e = rw e refl
+
+-- of the places of bit i, a is the one in column 8
+abbrev pub IsInEight : ℕ → ℕ → Place → Type 0
+IsInEight n i a = ((i < 8) × (a ≡ first_place i)) ⊎ ((8 ≤ i) × (a ≡ second_place n i))
+
+eight-role : (v i : ℕ) (a : Place) → 1 ≤ v → v ≤ 40 → i < 15 → IsInEight (side_of v) i a → role_of v a.row a.col ≡ FormatBit i
+eight-role v i a k l m (inl e) = rw e.1 (format-first v i k l m)
+eight-role v i a k l m (inr e) = rw e.1 (format-second v i k l m)
+
+-- the other place of a bit is in row 8
+eight-only : (v i : ℕ) (a m : Place) → 1 ≤ v → IsInEight (side_of v) i a → role_of v m.row m.col ≡ FormatBit i → m.row ≢ 8 → m ≡ a
+eight-only v i a m k at q o = by-place (format-only v m i q).1 at
   where
-    same : (t x y : Bool) → x ≡ y → x ≡ cond t x y
-    same true x y e = refl
-    same false x y e = e
+    by-place : (m ≡ first_place i) ⊎ (m ≡ second_place (side_of v) i) → IsInEight (side_of v) i a → m ≡ a
+    by-place (inl f) (inl e) = f ∙ sym e.1
+    by-place (inr f) (inr e) = f ∙ sym e.1
+    by-place (inl f) (inr e) = absurd (o (ap (λ (z : Place). z.row) f ∙ grind (arith, nat_tests)))
+    by-place (inr f) (inl e) = absurd (o (ap (λ (z : Place). z.row) f ∙ grind (arith, nat_tests)))
 
--- of the places of bit i, only the place `at` is outside row 8
-abbrev IsOnlyOutside : ℕ → ℕ → Place → Type 0
-IsOnlyOutside v i at = (m : Place) → (m ≡ first_place i) ⊎ (m ≡ second_place (side_of v) i) → m.row ≢ 8 → m ≡ at
+-- a colour after a row was written
+row-written : (n row : ℕ) (g h : Grid) (line : ℕ → Bool) → g.side ≡ n → h ≡ with_row g row line → (r c : ℕ) → r < n → c < n → colour h r c ≡ cond (eqb r row) (line c) (colour g r c)
+row-written n row g h line s e r c l m = search (arith, colour-square)
 
--- a bit is drawn at the one of its places that is not in row 8
-down-step : (v format i : ℕ) (g0 g : Grid) (a : Place) (d : Bool) → g.side ≡ side_of v → a.row ≢ 8 → a.row < side_of v → a.col < side_of v
-    → role_of v a.row a.col ≡ FormatBit i → IsOnlyOutside v i a
-    → d ≡ has_bit format i → FormatDown v format i g0 g → FormatDown v format (i + 1) g0 (painted g a.row a.col d)
-down-step v format i g0 g a d s o ar ac q only ed h r c m n = elim (same-place a.row a.col r c) [
-  | inl w ↦ search (arith, colour-painted-here, bit-drawn)
-  | inr w ↦ colour-painted-there _ _ _ r c d (omega arith) (omega arith) w.0 ∙ (h r c m n ∙ but-in-eight r _ _ _ (λ p. bit-kept 0 i format _ _ (λ k.
-      let e = only (record { row = r; col = c }) (format-only v (record { row = r; col = c }) i k).1 p in search arith)))
-]
+-- a colour after one bit was written into a row
+one-written : (row col r c n : ℕ) (f : ℕ → ℕ → Bool) → cond (eqb r row) (cond (leb col c && ltb c (col + 1)) (has_bit n (c - col)) (f row c)) (f r c) ≡ cond (eqb r row && eqb c col) (has_bit n 0) (f r c)
+one-written row col r c n f = search (arith, nat_tests)
 
--- the rows of the places of a bit
-first-row : (i : ℕ) → i < 7 → cond (ltb i 6) i (cond (eqb i 6) 7 8) ≡ 8 → ⊥
-first-row i l e = grind (arith, nat_tests)
-
-second-row : (n i : ℕ) → 21 ≤ n → 8 ≤ i → cond (ltb i 8) 8 (n - 15 + i) ≡ 8 → ⊥
-second-row n i k l e = grind (arith, nat_tests)
-
--- the bits before bit 7 have the first of their places outside row 8
-pub first-step : (v format i : ℕ) (g0 g : Grid) (a : Place) (d : Bool) → 1 ≤ v → v ≤ 40 → i < 7 → g.side ≡ side_of v → IsPlaceIn (side_of v) (first_place i) a
-    → d ≡ has_bit format i → FormatDown v format i g0 g → FormatDown v format (i + 1) g0 (painted g a.row a.col d)
-first-step v format i g0 g a d k1 k2 l s at ed h = grind (arith, down-step, first-row, format-first, nat_tests)
-
--- the bits after bit 7 have the second of their places outside row 8
-pub second-step : (v format i : ℕ) (g0 g : Grid) (a : Place) (d : Bool) → 1 ≤ v → v ≤ 40 → 8 ≤ i → i < 15 → g.side ≡ side_of v → IsPlaceIn (side_of v) (second_place (side_of v) i) a
-    → d ≡ has_bit format i → FormatDown v format i g0 g → FormatDown v format (i + 1) g0 (painted g a.row a.col d)
-second-step v format i g0 g a d k1 k2 k l s at ed h =
-    grind (arith, down-step, second-row, format-second, nat_tests)
-
--- bit 7 has both its places in row 8
-pub down-seven : (v format : ℕ) (g0 g : Grid) → FormatDown v format 7 g0 g → FormatDown v format 8 g0 g
-down-seven v format g0 g h r c m n = h r c m n ∙ but-in-eight r _ _ _ (λ o. bit-kept 0 7 format _ _ (λ q. elim (format-only v (record { row = r; col = c }) 7 q).1 [
-  | inl f ↦ o (ap (λ (z : Place). z.row) f)
-  | inr f ↦ o (ap (λ (z : Place). z.row) f)
-]))
-
--- all fifteen bits are the format information
-all-bits : (v format r c : ℕ) (other : Bool) → format_bits_or 0 15 format (role_of v r c) other ≡ format_or format (role_of v r c) other
-unfolding format_bits_or format_or
-all-bits v format r c other = parts _ (λ i q. (format-only v _ i q).0)
-  where
-    parts : (q : Role) → ((i : ℕ) → q ≡ FormatBit i → i < 15) → format_bits_or 0 15 format q other ≡ format_or format q other
-    parts (FormatBit i) f =
-        let l = f i refl in
-        let t : (leb 0 i && ltb i 15) ≡ true = grind (arith, nat_tests) in
-        rw t refl
-    parts _ f = refl
-
-pub down-end : (v format : ℕ) (g0 g : Grid) → IsSquare (side_of v) g → FormatDown v format 15 g0 g
-    → g ≡ square (side_of v) (λ r c. cond (eqb r 8) (colour g0 r c) (format_or format (role_of v r c) (colour g0 r c)))
-down-end v format g0 g e h = search (arith, square-same, all-bits)
+-- a bit is drawn in column 8
+pub down-step : (v format i n : ℕ) (g0 g h : Grid) (a : Place) → 1 ≤ v → v ≤ 40 → i < 15 → g.side ≡ side_of v → IsInEight (side_of v) i a → has_bit n 0 ≡ has_bit format i
+    → h ≡ with_row g a.row (λ c. cond (leb a.col c && ltb c (a.col + 1)) (has_bit n (c - a.col)) (colour g a.row c))
+    → FormatDown v format i g0 g → FormatDown v format (i + 1) g0 h
+down-step v format i n g0 g h a k1 k2 l s at bit e before r c m o =
+    let new = row-written (side_of v) a.row g h _ s e r c m o ∙ one-written a.row a.col r c n (colour g) in
+    let old = before r c m o in
+    elim (same-place a.row a.col r c) [
+      | inl w ↦
+          let role : role_of v r c ≡ FormatBit i = rw (w.0.0, w.0.1) (eight-role v i a k1 k2 l at) in
+          (λ _. bit-drawn i format _ _ _ role (new ∙ (rw w.1 bit)), bit-same format i _ _ _ role)
+      | inr w ↦
+          let same : colour h r c ≡ colour g r c = rw w.1 at new in
+          (λ b. same ∙ (old.0 b ∙ bit-kept i format _ _ (λ q. let p = eight-only v i a (record { row = r; col = c }) k1 at q b in w.0 (ap (λ (z : Place). z.row) p, ap (λ (z : Place). z.col) p))), ap (format_or format (role_of v r c)) same ∙ old.1)
+    ]
 
 -- a colour by the role of the module
 is-bit : (format i : ℕ) (q : Role) (x y : Bool) → q ≡ FormatBit i → x ≡ has_bit format i → x ≡ format_or format q y
@@ -220,10 +205,6 @@ module _ (v : ℕ) (least : 1 ≤ v) (most : v ≤ 40) (c : ℕ) (inside : c < s
           let e : 7 - (c - far) ≡ side_of v - 1 - c = omega arith in
           rw t (is-bit format (side_of v - 1 - c) _ _ old (in-second (side_of v - 1 - c) (omega arith) (omega arith)) (words.third (c - far) (omega arith) ∙ ap (has_bit format) e))
 
--- a colour after a row was written
-row-written : (n row : ℕ) (g h : Grid) (line : ℕ → Bool) → g.side ≡ n → h ≡ with_row g row line → (r c : ℕ) → r < n → c < n → colour h r c ≡ cond (eqb r row) (line c) (colour g r c)
-row-written n row g h line s e r c l m = search (arith, colour-square)
-
 -- three words that are written into row 8 are its format information, and no other row is changed
 pub across-end : (v format far x y z : ℕ) (g0 g1 g2 g3 : Grid) → 1 ≤ v → v ≤ 40 → g0.side ≡ side_of v → far ≡ side_of v - 8 → AreInRow8 format x y z
     → g1 ≡ with_row g0 8 (λ c. cond (leb 0 c && ltb c 6) (has_bit x (c - 0)) (colour g0 8 c))
@@ -244,9 +225,11 @@ across-end v format far x y z g0 g1 g2 g3 k l s ef words e1 e2 e3 =
           cc (row-written n 8 g1 g2 line2 s1 e2 r c i j, row-written n 8 g0 g1 line1 s e1 r c i j)
     ])
 
--- what is drawn in all other rows, and then in row 8, is the format information
-pub both-parts : (v format : ℕ) (g0 g1 g2 : Grid)
-    → g1 ≡ square (side_of v) (λ r c. cond (eqb r 8) (colour g0 r c) (format_or format (role_of v r c) (colour g0 r c)))
-    → g2 ≡ square (side_of v) (λ r c. cond (eqb r 8) (format_or format (role_of v r c) (colour g1 r c)) (colour g1 r c))
-    → g2 ≡ square (side_of v) (λ r c. format_or format (role_of v r c) (colour g0 r c))
-both-parts v format g0 g1 g2 e f = search (arith, square-same, colour-square)
+-- what is drawn in column 8, and then in row 8, is the format information
+pub both-parts : (v format : ℕ) (g0 g h : Grid) → FormatDown v format 15 g0 g
+    → h ≡ square (side_of v) (λ r c. cond (eqb r 8) (format_or format (role_of v r c) (colour g r c)) (colour g r c))
+    → h ≡ square (side_of v) (λ r c. format_or format (role_of v r c) (colour g0 r c))
+both-parts v format g0 g h down e = e ∙ square-same (side_of v) _ _ (λ r c l m. elim (cases_eq r 8) [
+  | inl p ↦ (let t : eqb r 8 ≡ true = grind (arith, nat_tests) in rw t (down r c l m).1)
+  | inr o ↦ (let t : eqb r 8 ≡ false = grind (arith, nat_tests) in rw t ((down r c l m).0 o ∙ all-bits v format r c _))
+])

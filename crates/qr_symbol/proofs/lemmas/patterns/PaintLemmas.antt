@@ -1,8 +1,6 @@
 -- Squares that are painted at the places that pass a test.
-use Rattle.qr_layout.specs.{Region.{is_alignment, ring_of}, Role.is_alignment_light}
-use Rattle.qr_layout.specs.declared.{region.Rectangle.Rectangle, region.Place.Place}
-use Rattle.qr_matrix.proofs.Facts.{same-place, square-same, colour-square}
-use Rattle.qr_matrix.specs.Grid.{Grid, square, colour, painted, with_rectangle, IsSquare}
+use Rattle.qr_layout.specs.{Region.{is_alignment, ring_of}, Role.is_alignment_light, declared.region.{Rectangle.Rectangle, Place.Place}}
+use Rattle.qr_matrix.{proofs.Facts.{same-place, square-same, colour-square}, specs.Grid.{Grid, square, colour, painted, with_rectangle, IsSquare}}
 use Rattle.qr_symbol.{proofs.lemmas.placement.PlacementLemmas.square-is, specs.Steps.Patterns.IsOver}
 use Rattle.std.proofs.Common.{◌≡◌, ℕ, ◌+◌, ◌-◌, ◌<◌, Bool, true, false, not, cond, eqb, ltb, leb, ◌&&◌, ◌||◌, List, [], ◌∷◌, length, take, get_or, refl, ◌∙◌, ap, arith}
 use Rattle.std.{proofs.lemmas.{Bool.Decides.nat_tests, List.{take_more, Folds.list_any-append}}, specs.List.list_any}

@@ -1,9 +1,14 @@
 -- The colours of row 6 and column 6.
 use Rattle.qr_layout.specs.{Format.version_word_of, Region.is_timing, Role.{finder_ring, pattern_colour, role_of}}
 use Rattle.qr_layout.specs.{Version.side_of, declared.role.Role.TheVariants.Fixed}
-use Rattle.qr_symbol.specs.Steps.Patterns.{fixed_colour, is_dark_in_six, paint_of}
-use Rattle.std.proofs.Common.{◌≡◌, ℕ, ◌+◌, ◌-◌, ◌%◌, ◌<◌, ◌≤◌, Bool, true, false, eqb, ltb, ◌&&◌, ◌||◌, refl, ap, arith}
-use Rattle.std.proofs.lemmas.Bool.{Decides.nat_tests}
+use Rattle.qr_symbol.specs.Steps.Patterns.{fixed_colour, paint_of}
+use Rattle.std.proofs.{Common.{◌≡◌, ℕ, ◌+◌, ◌-◌, ◌%◌, ◌<◌, ◌≤◌, Bool, true, false, eqb, leb, ltb, ◌&&◌, ◌||◌, refl, ap, arith}, lemmas.Bool.Decides.nat_tests}
+
+-- the module with the index `at` in row 6, or in column 6, is dark; `s` is the side. The seven modules at each end of
+-- this row or column belong to finder patterns, and are dark. Of the modules between them, those with an even index are
+-- dark
+abbrev pub is_dark_in_six : ℕ → ℕ → Bool
+is_dark_in_six s at = ltb at 7 || leb (s - 7) at || eqb (at % 2) 0
 
 -- a place in ring 3 of a finder pattern is dark
 ring-three : (v r c : ℕ) → finder_ring (side_of v) r c ≡ 3 → role_of v r c ≡ Fixed true
@@ -27,32 +32,15 @@ six : (v r c at : ℕ) → 21 ≤ side_of v → at < side_of v → AreRingsOfSix
     → (7 < at → at < side_of v - 8 → role_of v r c ≡ Fixed (eqb (at % 2) 0)) → role_of v r c ≡ Fixed (is_dark_in_six (side_of v) at)
 six v r c at least inside rings off = search (arith, ring-three, ring-four)
 
--- a place beyond ring 4 is in no finder pattern
-five-on : (n : ℕ) → 5 ≤ n → (ltb n 4 ≡ false) × (eqb n 4 ≡ false)
-five-on n h = (grind (arith, nat_tests), grind (arith, nat_tests))
-
 -- between the finder patterns row 6 is a timing pattern
 row-off : (v at : ℕ) → 5 ≤ finder_ring (side_of v) 6 at → role_of v 6 at ≡ Fixed (eqb (at % 2) 0)
 unfolding role_of pattern_colour
-row-off v at h = search (arith, five-on)
+row-off v at h = search (arith, nat_tests)
 
 -- between the finder patterns column 6 is a timing pattern
 column-off : (v at : ℕ) → 5 ≤ finder_ring (side_of v) at 6 → 7 < at → role_of v at 6 ≡ Fixed (eqb (at % 2) 0)
 unfolding role_of pattern_colour
-column-off v at h k = rw ((five-on _ h).0, (five-on _ h).1, other at k) refl
-  where
-    other : (n : ℕ) → 7 < n → eqb n 6 ≡ false
-    other n h = grind (arith, nat_tests)
-
--- the roles of the modules of row 6
-row-six : (v at : ℕ) → 1 ≤ v → at < side_of v → role_of v 6 at ≡ Fixed (is_dark_in_six (side_of v) at)
-row-six v at l h =
-    six v 6 at at (omega arith) h (record { near = λ k. omega arith; far = λ k. omega arith; seven = λ k. omega arith; eight = λ k. omega arith }) (λ k m. row-off v at (omega arith))
-
--- the roles of the modules of column 6
-column-six : (v at : ℕ) → 1 ≤ v → at < side_of v → role_of v at 6 ≡ Fixed (is_dark_in_six (side_of v) at)
-column-six v at l h =
-    six v at 6 at (omega arith) h (record { near = λ k. omega arith; far = λ k. omega arith; seven = λ k. omega arith; eight = λ k. omega arith }) (λ k m. column-off v at (omega arith) k)
+column-off v at h k = search (arith, nat_tests)
 
 -- a module with a fixed colour is painted with this colour
 pub paint-fixed : (v r c format : ℕ) (dark : Bool) → role_of v r c ≡ Fixed dark → paint_of v format r c ≡ dark
@@ -61,11 +49,11 @@ paint-fixed v r c format dark e = ap (fixed_colour format (version_word_of v)) e
 
 -- the colour that a module of row 6 is painted with
 pub paint-row_six : (v at format : ℕ) → 1 ≤ v → at < side_of v → is_dark_in_six (side_of v) at ≡ paint_of v format 6 at
-paint-row_six v at format l h = search (arith, paint-fixed, row-six)
+paint-row_six v at format l h = search (arith, paint-fixed, six, row-off)
 
 -- the colour that a module of column 6 is painted with
 pub paint-column_six : (v at format : ℕ) → 1 ≤ v → at < side_of v → is_dark_in_six (side_of v) at ≡ paint_of v format at 6
-paint-column_six v at format l h = search (arith, paint-fixed, column-six)
+paint-column_six v at format l h = search (arith, paint-fixed, six, column-off)
 
 -- the painted modules of row 6 and column 6, with one module more of each
 pub six-more : (at r c : ℕ) → ((eqb r 6 && ltb c (at + 1)) || (eqb c 6 && ltb r (at + 1)))

@@ -1,14 +1,9 @@
 -- Drawing in the transposed square, where the two columns of a strip are rows.
-use Rattle.qr_layout.proofs.Facts.{region-symmetric}
-use Rattle.qr_layout.specs.{Region.is_in_region, Version.side_of, declared.strips.Strip.Strip}
+use Rattle.qr_layout.{proofs.Facts.region-symmetric, specs.{Region.is_in_region, Version.side_of, declared.strips.Strip.Strip}}
 use Rattle.qr_matrix.{proofs.Facts.colour-square, specs.{BitRow.has, Grid.{Grid, colour, with_row, IsSquare}}}
-use Rattle.qr_symbol.proofs.lemmas.placement.PlacementLemmas.{square-is}
-use Rattle.qr_symbol.proofs.lemmas.placement.ColumnLemmas.{row-small}
-use Rattle.qr_symbol.specs.Steps.Placement.{number_at, region_grid, AreDrawn, IsStripDrawn}
-use Rattle.qr_symbol.specs.Steps.Spans.{row_of}
-use Rattle.std.proofs.lemmas.Bool.Decides.{nat_tests}
-use Rattle.qr_symbol.specs.declared.spans.Columns.{Columns}
-use Rattle.std.proofs.Common.{◌≡◌, ℕ, ◌-◌, ◌<◌, ◌≤◌, Bool, not, cond, ◌&&◌, List, refl, ◌∙◌, ap, arith}
+use Rattle.qr_symbol.proofs.lemmas.placement.{PlacementLemmas.{square-is, IsStripDrawn}, ColumnLemmas.row-small}
+use Rattle.qr_symbol.specs.{Steps.{Placement.{number_at, region_grid, AreDrawn}, Spans.row_of}, declared.spans.Columns.Columns}
+use Rattle.std.proofs.{lemmas.Bool.Decides.nat_tests, Common.{◌≡◌, ℕ, ◌-◌, ◌<◌, ◌≤◌, Bool, not, cond, ◌&&◌, List, refl, ◌∙◌, ap, arith}}
 
 -- the square of the encoding region, read with row and column exchanged, says whether a place is in the region
 pub region-across : (v : ℕ) (g : Grid) (row col : ℕ) → g ≡ region_grid v → row < side_of v → col < side_of v → colour g col row ≡ is_in_region v row col

@@ -1,21 +1,11 @@
 -- The rows of a strip and their indices, its two columns, and rows that are drawn at once.
 use Rattle.std.proofs.Common.{◌≡◌, ℕ, zero, suc, ◌+◌, ◌-◌, ◌*◌, ◌<◌, ◌≤◌, Bool, true, cond, eqb, ◌&&◌, List, inl, inr, add-one, arith, false, not, leb, ltb, ◌||◌, sym, ◌∙◌, ap}
-use Rattle.std.proofs.lemmas.Bool.{cases_lt}
-use Rattle.std.proofs.lemmas.Bool.Decides.{nat_tests}
-use Rattle.qr_symbol.specs.declared.spans.Columns.{Columns}
-use Rattle.qr_layout.specs.Region.{is_in_region}
-use Rattle.qr_layout.specs.Version.{side_of}
-use Rattle.qr_layout.specs.declared.strips.Strip.{Strip}
-use Rattle.qr_matrix.specs.BitRow.{has, has_bit}
-use Rattle.qr_symbol.specs.Steps.Placement.{number_after, number_at, AreDrawn, AreLightRows, AreWhole}
-use Rattle.qr_symbol.specs.Steps.Spans.{row_of, top_row}
-use Rattle.qr_symbol.specs.Steps.Words.{AreNext, rank_in}
+use Rattle.std.proofs.lemmas.Bool.{cases_lt, Decides.nat_tests}
+use Rattle.qr_symbol.specs.{declared.spans.Columns.Columns, Steps.Placement.{number_after, number_at, AreDrawn, AreLightRows, AreWhole}}
+use Rattle.qr_layout.specs.{Region.is_in_region, Version.side_of, declared.strips.Strip.Strip}
+use Rattle.qr_matrix.specs.{BitRow.{has, has_bit}, Grid.is_same}
+use Rattle.qr_symbol.specs.Steps.{Spans.{row_of, top_row}, Words.{AreNext, rank_in}}
 use Rattle.qr_bits.specs.Bits.{codeword_bit}
-use Rattle.qr_matrix.specs.Grid.{is_same}
-
--- two different indices are two different rows
-pub rows-apart : (x : Strip) (s j k : ℕ) → j < s → k < j → row_of s x j ≡ row_of s x k → ⊥
-rows-apart x s j k l m e = grind (arith, nat_tests)
 
 -- a row of the strip is a row of the symbol, and has its own index as the row of that index
 pub row-small : (x : Strip) (s k : ℕ) → k < s → (row_of s x k < s) × (row_of s x (row_of s x k) ≡ k)
@@ -35,16 +25,12 @@ run-from x s k n i room l m =
 
 -- ---- rows and their numbers
 
--- the number of the next bit after a module that may or may not be in the encoding region
-after-plus : (t : Bool) (n k m : ℕ) → m ≡ number_after t k → n + m ≡ number_after t (n + k)
-after-plus t n k m e = grind (arith, nat_tests)
-
 -- one more row takes the bits of its two modules
 pub row-number : (v : ℕ) (x : Strip) (first k n taken one two row : ℕ) (t u : Bool)
     → row ≡ row_of (side_of v) x k → t ≡ is_in_region v row x.right → u ≡ is_in_region v row (x.right - 1)
     → number_at v x first k ≡ n + taken → one ≡ number_after t taken → two ≡ number_after u one
     → number_at v x first (k + 1) ≡ n + two
-row-number v x first k n taken one two row t u r p q m e f = search (arith, add-one, after-plus)
+row-number v x first k n taken one two row t u r p q m e f = search (arith, add-one, nat_tests)
 
 -- if all modules of m rows are in the region, these rows take 2 m bits
 pub number-whole : (v : ℕ) (x : Strip) (first k m : ℕ) → ((j : ℕ) → k ≤ j → j < k + m → (is_in_region v
@@ -69,10 +55,6 @@ rows-drawn {v} {x = x} {i = i} d e f g room = record {
   kept = search arith;
 }
 
--- another module keeps its colour
-there-kept : (t d p z : Bool) (i row : ℕ) → z ≡ cond (t && eqb i row) d p → (row ≡ i → ⊥) → z ≡ p
-there-kept t d p z i row e n = grind (arith, nat_tests)
-
 -- one row is drawn, module by module
 pub row-drawn : {v : ℕ} {cw : List ℕ} {x : Strip} {first k : ℕ} {old new : Columns} (row n taken one bits : ℕ)
     (t u : Bool) → row ≡ row_of (side_of v) x k → t ≡ is_in_region v row x.right →
@@ -81,17 +63,13 @@ pub row-drawn : {v : ℕ} {cw : List ℕ} {x : Strip} {first k : ℕ} {old new :
     ((i : ℕ) → has new.right i ≡ cond (t && eqb i row) (has_bit bits (63 - taken)) (has old.right i)) →
     ((i : ℕ) → has new.left i ≡ cond (u && eqb i row) (has_bit bits (63 - one)) (has old.left i)) →
     AreDrawn v cw x first k 1 old new
-row-drawn {x = x} {k = k} row n taken one bits t u r p q m o l1 l2 next right left = search (arith, nat_tests, after-plus, there-kept)
+row-drawn {x = x} {k = k} row n taken one bits t u r p q m o l1 l2 next right left = search (arith, nat_tests)
 
 -- a bit that is unset where another bit is set
 pub cleared : (p q : Bool) → not (is_same p (p && q)) ≡ (p && not q)
 cleared p q = grind (arith, nat_tests)
 
 -- ---- rows that are drawn at once
-
--- another row keeps its colour
-run-kept : (top i n : ℕ) (old new bit set : Bool) → new ≡ (old || leb top i && set) → set ≡ (ltb (i - top) n && bit) → (top ≤ i → i < top + n → ⊥) → new ≡ old
-run-kept top i n old new bit set e f out = grind (arith, nat_tests)
 
 -- rows of a strip are drawn at once, if all their modules are in the region and light
 pub run-drawn : {v : ℕ} {cw : List ℕ} {x : Strip} {first : ℕ} {old new : Columns} (k n bits : ℕ)
@@ -111,7 +89,7 @@ run-drawn {v} {cw} {x} {first} {old} {new} k n bits room few whole light right l
   kept = λ i apart.
       let s = side_of v in let top = top_row s x k n in
       let out : top ≤ i → i < top + n → ⊥ = λ c d. let w = run-from x s k n i room c d in search arith in
-      search (arith, run-kept);
+      search (arith, nat_tests);
 }
 
 -- if no module of m rows is in the region, these rows take no bits

@@ -2,34 +2,27 @@
 use Rattle.qr_bits.specs.Bits.{codeword_bit}
 use Rattle.qr_matrix.specs.Grid.{Grid, square, colour, painted, transposed, IsSquare}
 use Rattle.qr_layout.proofs.Facts.{Mem, order-has, order-mem, order-small, index-at, row-in, col-in, region-role, role-region}
-use Rattle.qr_layout.specs.Format.{format_word_of, version_word_of}
+use Rattle.qr_layout.specs.{Format.{format_word_of, version_word_of}, Order.{IsOrder, in_region_of, index_of}, Region.is_in_region, Version.side_of}
 use Rattle.std.proofs.lemmas.Bool.{cases_eq, false≢true}
-use Rattle.qr_layout.specs.Order.{IsOrder, in_region_of, index_of}
-use Rattle.qr_layout.specs.Region.{is_in_region}
-use Rattle.qr_layout.specs.Role.{role_of}
-use Rattle.qr_layout.specs.Strips.{both_of, rows_from, places_of}
-use Rattle.qr_layout.specs.Version.{side_of}
-use Rattle.qr_layout.specs.declared.level.Level.{Level}
-use Rattle.qr_layout.specs.declared.region.Place.{Place}
-use Rattle.qr_layout.specs.declared.role.Role.{Role}
-use Rattle.qr_layout.specs.declared.role.Role.TheVariants.{Region}
+use Rattle.qr_layout.specs.{Strips.{both_of, rows_from, places_of}, declared.{level.Level.Level, region.Place.Place, role.Role.{Role, TheVariants.Region}}}
 use Rattle.qr_layout.specs.declared.strips.Strip.{Strip}
 use Rattle.qr_matrix.proofs.Facts.{same-place, square-same, colour-square, colour-painted-here, colour-painted-there, colour-transposed}
-use Rattle.qr_symbol.proofs.lemmas.placement.ColumnLemmas.{row-small}
-use Rattle.qr_symbol.specs.Mask.{inverts, inverted}
-use Rattle.qr_symbol.specs.Symbol.{colour_by, colour_of, grid_of}
-use Rattle.qr_symbol.specs.Steps.Patterns.{fixed_colour, format_or, paint_of, symmetric_format}
-use Rattle.qr_symbol.specs.Steps.Placement.{placed_colour, number_after, number_at, IsStripDrawn, masked_colour, masked_grid, region_grid, plain_grid}
-use Rattle.qr_symbol.specs.Steps.Spans.{row_of}
-use Rattle.std.proofs.Common.{◌≡◌, ℕ, zero, suc, ◌+◌, ◌-◌, ◌⊎◌, ◌<◌, ◌≤◌, Bool, true, false, cond, ◌&&◌, List, [], ◌∷◌, ◌++◌, length, length-append, refl, sym, ◌∙◌, ap, inl, inr, subst, append_assoc, append-nil, arith}
+use Rattle.qr_symbol.{proofs.lemmas.placement.ColumnLemmas.row-small, specs.Steps.Spans.row_of}
+use Rattle.qr_symbol.specs.{Symbol.{colour_by, colour_of, grid_of}, Steps.Patterns.{fixed_colour, format_or, symmetric_format}}
+use Rattle.qr_symbol.specs.Steps.Placement.{placed_colour, number_after, number_at, IsRowDrawn, masked_colour, masked_grid, region_grid, plain_grid}
+use Rattle.std.proofs.Common.{◌≡◌, ℕ, zero, suc, ◌+◌, ◌-◌, ◌⊎◌, ◌<◌, ◌≤◌, Bool, true, false, cond, List, [], ◌∷◌, ◌++◌, length, length-append, refl, sym, ◌∙◌, ap, inl, inr, subst, append_assoc, append-nil, arith}
+
+-- drawing the strip x changes the transposed square from `before` to `after`; the strip has the bits from `first` to before `next`
+pub record IsStripDrawn (v : ℕ) (cw : List ℕ) (x : Strip) (first : ℕ) (before : Grid) (next : ℕ) (after : Grid) : Type 0 where
+  pub number : next ≡ number_at v x first (side_of v)
+  pub square : IsSquare (side_of v) after
+  pub drawn : (j : ℕ) → j < side_of v
+      → IsRowDrawn v cw x first j (colour before x.right (row_of (side_of v) x j)) (colour before (x.right - 1) (row_of (side_of v) x j)) (colour after x.right (row_of (side_of v) x j)) (colour after (x.right - 1) (row_of (side_of v) x j))
+  pub kept : (row col : ℕ) → row < side_of v → col < side_of v → (col ≡ x.right → ⊥) → (col ≡ x.right - 1 → ⊥) → colour after col row ≡ colour before col row
 
 -- a place in the region is kept
 pub kept-in : (v : ℕ) (m : Place) (ms : List Place) → is_in_region v m.row m.col ≡ true → in_region_of v (m ∷ ms) ≡ m ∷ in_region_of v ms
 kept-in v m ms e = ap (λ z. cond z (m ∷ in_region_of v ms) (in_region_of v ms)) e
-
--- a place outside the region is not kept
-pub kept-out : (v : ℕ) (m : Place) (ms : List Place) → is_in_region v m.row m.col ≡ false → in_region_of v (m ∷ ms) ≡ in_region_of v ms
-kept-out v m ms e = ap (λ z. cond z (m ∷ in_region_of v ms) (in_region_of v ms)) e
 
 -- the kept places of two joined lists are those of the first list, followed by those of the second
 pub kept-append : (v : ℕ) (xs ys : List Place) → in_region_of v (xs ++ ys) ≡ in_region_of v xs ++ in_region_of v ys
@@ -86,17 +79,9 @@ pub done-step : (s : ℕ) (want : ℕ → ℕ → Bool) (g : Grid) (later : List
     → g.side ≡ s → d ≡ want x.row x.col → Done s want (x ∷ later) g → Done s want later (painted g x.row x.col d)
 done-step s want g later x d k e h r c l m n = search (arith, same-place, colour-painted-here, colour-painted-there)
 
--- after the walk, every place has its final colour
-pub done-end : (s : ℕ) (want : ℕ → ℕ → Bool) (g : Grid) → IsSquare s g → Done s want [] g → g ≡ square s want
-done-end s want g e h = search (arith, square-same)
-
--- a square is equal to the square of its own colours
-square-again : (k : ℕ) (f : ℕ → ℕ → Bool) → square k f ≡ square k (colour (square k f))
-square-again k f = search (arith, square-same, colour-square)
-
 -- a grid that equals a square of colours is a square
 pub square-is : (s : ℕ) (f : ℕ → ℕ → Bool) (g : Grid) → g ≡ square s f → IsSquare s g
-square-is s f g e = rw e (square-again s f)
+square-is s f g e = search (arith, square-same, colour-square)
 
 -- the transposed square of a square is a square
 pub square-transposed : (s : ℕ) (g : Grid) → IsSquare s g → IsSquare s (transposed g)
@@ -104,7 +89,7 @@ square-transposed s g e = search (arith, square-is)
 
 -- a square with one place changed is a square
 pub painted-square : (s : ℕ) (g : Grid) (row col : ℕ) (d : Bool) → g.side ≡ s → IsSquare s (painted g row col d)
-painted-square s g row col d e = search (arith, square-again)
+painted-square s g row col d e = search (arith, square-same, colour-square)
 
 -- the list of all modules, seen at the next module
 pub whole-next : (v : ℕ) (front now later : List Place) (x : Place) → IsOrder v (front ++ now) → now ≡ x ∷ later → IsOrder v (front ++ x ∷ later)
@@ -126,28 +111,10 @@ unfolding format_or fixed_colour
 role-masked v l mask cw r c Region n = absurd (n refl)
 role-masked v l mask cw r c q n = refl
 
--- the colours of a symbol without mask and format information
-abbrev plain_colours : ℕ → List ℕ → ℕ → ℕ → Bool
-plain_colours v cw = placed_colour v cw (paint_of v symmetric_format)
-
--- the masked colour of a module in the region
-masked-inside : (v : ℕ) (l : Level) (mask : ℕ) (cw : List ℕ) (r c : ℕ) → is_in_region v r c ≡ true →
-    role_of v r c ≡ Region → format_or (format_word_of l mask) (role_of v r c) (inverted (is_in_region v r c &&
-    inverts mask r c) (plain_colours v cw r c)) ≡ colour_of v l mask cw r c
-unfolding colour_of format_or
-masked-inside v l mask cw r c t e = search (arith, inside)
-
--- the masked colour of a module outside the region
-masked-outside : (v : ℕ) (l : Level) (mask : ℕ) (cw : List ℕ) (r c : ℕ) → is_in_region v r c ≡ false →
-    (role_of v r c ≡ Region → ⊥) → format_or (format_word_of l mask) (role_of v r c) (inverted (is_in_region v r
-    c && inverts mask r c) (plain_colours v cw r c)) ≡ colour_of v l mask cw r c
-unfolding colour_of
-masked-outside v l mask cw r c t n = search (arith, outside, role-masked)
-
 -- with mask and format information, the result is the symbol of its codewords under this mask
 pub masked-all : (v : ℕ) (l : Level) (mask : ℕ) (cw : List ℕ) (region plain : Grid) → 1 ≤ v → region ≡ region_grid v → plain ≡ plain_grid v cw → masked_grid v l mask region plain ≡ grid_of v l mask cw
-unfolding masked_colour
-masked-all v l mask cw region plain k e f = search (arith, square-same, colour-square, by_test, masked-inside, region-role, masked-outside, role-region)
+unfolding masked_colour colour_of format_or
+masked-all v l mask cw region plain k e f = search (arith, square-same, colour-square, region-role, role-region, inside, outside, role-masked)
 
 -- ---- strips whose modules are drawn
 
@@ -201,7 +168,7 @@ number-rows v x before (suc j) =
 -- a kept module of a list is its first module, or kept after it
 mem-kept : (v : ℕ) (p m : Place) (ms : List Place) → Mem m (in_region_of v (p ∷ ms))
     → ((p ≡ m) × (is_in_region v m.row m.col ≡ true)) ⊎ Mem m (in_region_of v ms)
-mem-kept v p m ms q = search (arith, by_test, kept-in, kept-out)
+mem-kept v p m ms q = search (arith, kept-in)
 
 -- a kept module of a strip and further places is one of the strip's columns, or one of the further places
 strip-mem : (v s : ℕ) (x : Strip) (k n : ℕ) (m : Place) (later : List Place) → Mem m (in_region_of v (both_of
@@ -258,4 +225,4 @@ placed-small v cw g0 g before later number k l p =
 
 -- after all places, the square has the placed colours
 pub placed-end : (v : ℕ) (cw : List ℕ) (g0 g : Grid) (before : List Place) (number : ℕ) → IsPlaced v cw g0 before [] number g → g ≡ square (side_of v) (placed_colour v cw (colour g0))
-placed-end v cw g0 g before number p = search (arith, done-end)
+placed-end v cw g0 g before number p = search (arith, square-same)

@@ -1,14 +1,11 @@
 -- Spans of a strip that are drawn one after the other.
+use Rattle.std.proofs.lemmas.Bool.Decides.{nat_tests}
 use Rattle.std.proofs.Common.{◌≡◌, ℕ, ◌+◌, ◌-◌, ◌*◌, ◌/◌, ◌^◌, ◌<◌, ◌≤◌, true, false, leb, ltb, ◌&&◌, ◌||◌, List, refl, sym, ◌∙◌, ap, arith}
 use Rattle.qr_layout.specs.{Version.side_of, declared.strips.Strip.Strip}
 use Rattle.qr_matrix.specs.BitRow.{has, has_bit}
-use Rattle.qr_symbol.proofs.lemmas.placement.ColumnLemmas.{number-whole, row-drawn, row-number, rows-drawn, number-none, run-drawn}
-use Rattle.qr_symbol.proofs.lemmas.placement.ColumnLemmas.{row-small, rows-apart}
-use Rattle.qr_symbol.proofs.lemmas.words.BitLemmas.{highest-set}
-use Rattle.qr_symbol.specs.declared.spans.Columns.{Columns}
-use Rattle.qr_symbol.specs.Steps.Placement.{number_at, AreDrawn, AreLight, AreLightRows, AreWhole, IsRegion}
-use Rattle.qr_symbol.specs.Steps.Spans.{row_of, top_row, AreOutside, AreWholeRows}
-use Rattle.qr_symbol.specs.Steps.Words.{rank_in, AreNext}
+use Rattle.qr_symbol.proofs.lemmas.placement.ColumnLemmas.{number-whole, row-drawn, row-number, rows-drawn, number-none, run-drawn, row-small}
+use Rattle.qr_symbol.{proofs.lemmas.words.BitLemmas.highest-set, specs.Steps.{Spans.{row_of, top_row, AreOutside, AreWholeRows}, Words.{rank_in, AreNext}}}
+use Rattle.qr_symbol.specs.{declared.spans.Columns.Columns, Steps.Placement.{number_at, AreDrawn, AreLight, AreLightRows, AreWhole, IsRegion}}
 
 -- drawing the `n` rows from row `k` on changes the columns from `old` to `new`, and the bits from `number` on are drawn, to
 -- before `after`
@@ -40,7 +37,7 @@ light-rows v x k n region y room light w j l m = search arith
 
 -- after the first k rows were drawn, the rows from there on are as light as before
 pub light-later : {v : ℕ} {cw : List ℕ} {x : Strip} {first k : ℕ} {p q : Columns} (region : Columns) → AreLight (side_of v) x 0 region p → AreDrawn v cw x first 0 k p q → AreLight (side_of v) x k region q
-light-later {v} {x = x} region l d = search (arith, rows-apart)
+light-later {v} {x = x} region l d = search (arith, nat_tests)
 
 -- ---- the four spans
 

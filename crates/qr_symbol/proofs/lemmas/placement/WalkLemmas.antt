@@ -1,26 +1,18 @@
 -- Drawing along the walk, where each bit is masked as it is placed.
+use Rattle.std.proofs.lemmas.Bool.Decides.{nat_tests}
 use mathlib.Core.Bool.{beq}
 use Rattle.{qr_bits.specs.Bits.codeword_bit, qr_layout.proofs.Facts.{order-small, region-role, role-region}}
-use Rattle.qr_layout.specs.Format.{format_word_of, version_word_of}
-use Rattle.qr_layout.specs.{Order.{IsOrder, index_of}, Region.is_in_region, Role.role_of, Version.side_of}
+use Rattle.qr_layout.specs.{Format.{format_word_of, version_word_of}, Order.IsOrder, Region.is_in_region, Role.role_of, Version.side_of}
 use Rattle.qr_layout.specs.declared.{level.Level.Level, region.Place.Place, role.Role.{Role, TheVariants.Region}}
-use Rattle.qr_matrix.proofs.Facts.{square-same, colour-square}
-use Rattle.qr_matrix.specs.Grid.{Grid, square, colour, light, painted, IsSquare}
-use Rattle.qr_symbol.specs.Symbol.{colour_by, colour_of, grid_of}
-use Rattle.qr_symbol.proofs.lemmas.words.BitLemmas.{differs-inverted}
-use Rattle.qr_symbol.proofs.lemmas.placement.PlacementLemmas.{at, by_test, Done, done-start, done-step, done-end, next-number, painted-square, whole-next, whole-push, in-square}
-use Rattle.qr_symbol.specs.{Mask.{inverts, inverted}, Steps.{Patterns.fixed_colour, Placement.walked_colour}}
-use Rattle.std.proofs.Common.{◌≡◌, ℕ, ◌+◌, ◌<◌, ◌≤◌, Bool, true, false, cond, not, List, [], ◌∷◌, ◌++◌, length, length-append, refl, ◌∙◌, ap, sym, subst, arith}
+use Rattle.qr_matrix.{proofs.Facts.{square-same, colour-square}, specs.Grid.{Grid, square, colour, light, painted, IsSquare}}
+use Rattle.qr_symbol.specs.{Symbol.{colour_by, colour_of, grid_of}, Mask.{inverts, inverted}, Steps.{Patterns.fixed_colour, Placement.walked_colour}}
+use Rattle.qr_symbol.proofs.lemmas.placement.PlacementLemmas.{by_test, Done, done-start, done-step, next-number, painted-square, whole-next, whole-push, in-square}
+use Rattle.std.proofs.Common.{◌≡◌, ℕ, ◌+◌, ◌<◌, ◌≤◌, Bool, false, cond, not, List, [], ◌∷◌, ◌++◌, length, length-append, refl, ap, subst, arith}
 
 -- outside the encoding region the colour stays
 walked-outside : (v : ℕ) (cw : List ℕ) (mask : ℕ) (f : ℕ → ℕ → Bool) (r c : ℕ) → is_in_region v r c ≡ false → f r c ≡ walked_colour v cw mask f r c
 unfolding walked_colour
 walked-outside v cw mask f r c e = rw e refl
-
--- inside the encoding region the bit with the place's number is placed, inverted if the mask inverts there
-walked-inside : (v : ℕ) (cw : List ℕ) (mask : ℕ) (f : ℕ → ℕ → Bool) (r c : ℕ) → is_in_region v r c ≡ true → walked_colour v cw mask f r c ≡ inverted (inverts mask r c) (codeword_bit cw (index_of v (at r c)))
-unfolding walked_colour
-walked-inside v cw mask f r c e = rw e refl
 
 -- the modules of the walk in `front` have been drawn, and those in `later` are still to come
 pub record IsWalked (v : ℕ) (cw : List ℕ) (mask : ℕ) (g0 : Grid) (front later : List Place) (number : ℕ) (g : Grid) : Type 0 where
@@ -43,14 +35,15 @@ pub walked-step : (v : ℕ) (cw : List ℕ) (mask : ℕ) (g0 g : Grid) (front no
     (number : ℕ) (bit turned : Bool) → bit ≡ codeword_bit cw number → turned ≡ inverts mask x.row x.col →
     now ≡ x ∷ later → IsWalked v cw mask g0 front now number g → IsWalked v cw mask g0 (front ++ x ∷ []) later
     (number + 1) (painted g x.row x.col (not (beq bit turned)))
+unfolding walked_colour
 walked-step v cw mask g0 g front now later x number bit turned b t e w =
     let o = whole-next v _ now _ x w.whole e in let s = ap (λ (h : Grid). h.side) w.square in
     let n = next-number v _ _ x _ o w.next in
-    let d : not (beq bit turned) ≡ inverted (inverts mask x.row x.col) (codeword_bit cw number) = rw (b, t) (differs-inverted _ _) in record {
+    let d : not (beq bit turned) ≡ inverted (inverts mask x.row x.col) (codeword_bit cw number) = search (arith, nat_tests) in record {
       whole = whole-push v _ _ x o;
       next = cc (length-append _ _);
       square = painted-square (side_of v) g x.row x.col _ s;
-      done = done-step _ _ g _ x _ s (d ∙ (ap (λ k. inverted (inverts mask x.row x.col) (codeword_bit cw k)) (sym n.1) ∙ sym (walked-inside v cw mask (colour g0) x.row x.col n.0)))
+      done = done-step _ _ g _ x _ s (search (arith, codeword_bit))
           (subst (λ (ms : List Place). Done (side_of v) (walked_colour v cw mask (colour g0)) ms g) e w.done);
     }
 
@@ -58,10 +51,6 @@ walked-step v cw mask g0 g front now later x number bit turned b t e w =
 pub walked-small : (v : ℕ) (cw : List ℕ) (mask : ℕ) (g0 g : Grid) (front later : List Place) (number : ℕ) → 1 ≤ v → v ≤ 40 → IsWalked v cw mask g0 front later number g → number ≤ 29648
 walked-small v cw mask g0 g front later number k l w =
     let m = order-small v _ k l w.whole in search (arith, length-append)
-
--- after the last module, the square has the walked colours
-pub walked-end : (v : ℕ) (cw : List ℕ) (mask : ℕ) (g0 g : Grid) (front later : List Place) (number : ℕ) → later ≡ [] → IsWalked v cw mask g0 front later number g → g ≡ square (side_of v) (walked_colour v cw mask (colour g0))
-walked-end v cw mask g0 g front later number e w = search (arith, done-end)
 
 -- a module that is not in the region has the fixed colour of its role
 role-fixed : (v : ℕ) (l : Level) (mask : ℕ) (cw : List ℕ) (r c : ℕ) (q : Role) → (q ≡ Region → ⊥) → fixed_colour (format_word_of l mask) (version_word_of v) q ≡ colour_by v l mask cw r c q
@@ -78,6 +67,6 @@ fixed-alone v format g h k e f = search (arith, square-same, by_test, colour-squ
 -- what is drawn along the walk over the fixed patterns is the symbol of the codewords
 pub walked-all : (v : ℕ) (l : Level) (mask : ℕ) (cw : List ℕ) (g h : Grid) → 1 ≤ v → g ≡ square (side_of v) (λ r c. fixed_colour (format_word_of l mask) (version_word_of v) (role_of v r c))
     → h ≡ square (side_of v) (walked_colour v cw mask (colour g)) → h ≡ grid_of v l mask cw
-unfolding colour_of
+unfolding colour_of walked_colour
 walked-all v l mask cw g h k e f =
-    f ∙ square-same _ _ _ (search (arith, by_test, walked-inside, region-role, walked-outside, colour-square, role-fixed, role-region))
+    search (arith, square-same, by_test, region-role, walked-outside, colour-square, role-fixed, role-region)

@@ -3,9 +3,9 @@ use Rattle.qr_bits.specs.{Bits.bits_of, Parsing.Content, declared.fault.ParseFau
 use Rattle.{qr_layout.specs.declared.level.Level.Level, qr_matrix.specs.Grid.Grid}
 use Rattle.qr_symbol.proofs.lemmas.reading.{FormatLemmas.format-one, ReadLemmas.message-one}
 use Rattle.qr_symbol.specs.Reading.{IsFormat, IsMessage, IsReading, IsOfVersion, IsParsedAs, IsUnread}
+use Rattle.qr_symbol.specs.declared.fault.ReadFault.TheVariants as fault
 use Rattle.{qr_symbol.specs.declared.fault.ReadFault.ReadFault, std.specs.Prelude.{◌↔◌, MatchResult, Result, Ok, Err}}
 use Rattle.std.proofs.Common.{◌≡◌, ℕ, List, refl, inl, inr, sym, ◌⊎◌, arith}
-use Rattle.qr_symbol.specs.declared.fault.ReadFault.TheVariants as fault
 
 -- two faults are equal, or one of them is lack of memory
 abbrev pub IsOneFault : ReadFault → ReadFault → Type 0

@@ -2,20 +2,18 @@
 use borrow.Author.Tests.{ltb-true}
 use Rattle.qr_bits.proofs.Facts.{fault-read, length-field, length-bits_of}
 use Rattle.qr_bits.specs.{Bits.{field, bits_of}, Parsing.{parse, Content, IsResultOf}, declared.fault.ParseFault.ParseFault}
+use Rattle.qr_bits.specs.declared.fault.ParseFault.TheVariants as unparsed
 use Rattle.qr_layout.proofs.Facts.{Mem, col-in, order-length, order-mem, row-in, below, below-at}
-use Rattle.qr_layout.specs.{Blocks.data_codewords_of, Order.IsOrder, Region.is_in_region}
-use Rattle.qr_layout.specs.Version.{side_of, total_codewords_of, remainder_bits_of}
+use Rattle.qr_layout.specs.{Blocks.data_codewords_of, Order.IsOrder, Region.is_in_region, Version.{side_of, total_codewords_of, remainder_bits_of}}
 use Rattle.{qr_layout.specs.declared.{level.Level.Level, region.Place.Place}, std.specs.{List.All, Prelude.{Err, Ok}}}
 use Rattle.qr_matrix.{proofs.Facts.{colour-square, colour-transposed}, specs.Grid.{Grid, colour, square, transposed}}
-use Rattle.qr_symbol.proofs.lemmas.{interleaving.MessageLemmas.append-front, placement.PlacementLemmas.at}
-use Rattle.qr_symbol.proofs.lemmas.reading.ReadLemmas.{read-one}
+use Rattle.qr_symbol.proofs.lemmas.{interleaving.MessageLemmas.append-front, placement.PlacementLemmas.at, reading.ReadLemmas.read-one}
 use Rattle.qr_symbol.specs.{Fault.unread_for, Interleaving.IsInterleaved, Mask.{inverts, inverted}}
+use Rattle.qr_symbol.specs.declared.fault.ReadFault.TheVariants as fault
 use Rattle.qr_symbol.specs.Reading.{unmasked, IsRead, IsReadUnmasked, IsMessage, IsFormat, IsOfVersion, IsReading, IsUnread}
 use Rattle.qr_symbol.specs.{Steps.{Collecting.colour_across, Placement.region_grid}, declared.fault.ReadFault.ReadFault}
 use Rattle.std.proofs.Common.{◌≡◌, ℕ, suc, ◌+◌, ◌-◌, ◌*◌, ◌<◌, ◌≤◌, Bool, true, ◌&&◌, ltb, List, ◌∷◌, ◌++◌, map, take, length, sym, ◌∙◌, ap, refl, subst, length-append, inl, inr, ◌⊎◌, arith}
 use Rattle.std.proofs.lemmas.List.{append-nil, length-map, length-take, map-append, take-append-drop}
-use Rattle.qr_bits.specs.declared.fault.ParseFault.TheVariants as unparsed
-use Rattle.qr_symbol.specs.declared.fault.ReadFault.TheVariants as fault
 
 -- each of the forty versions has fewer than eight remainder bits, computed
 remainder-small : below 40 (λ i. ltb (remainder_bits_of (i + 1)) 8) ≡ true
@@ -68,10 +66,6 @@ read-same v g h cw e w = record {
   order = w.order;
   bits = w.bits ∙ order-same v (λ m. colour g m.row m.col) (λ m. colour h m.row m.col) _ _ w.order e;
 }
-
--- a square that is transposed twice contains the same codewords
-pub read-twice : (v : ℕ) (g : Grid) (cw : List ℕ) → g.side ≡ side_of v → IsReadUnmasked v (transposed (transposed g)) cw → IsReadUnmasked v g cw
-read-twice v g cw s w = read-same v _ g cw (λ r c l m t. colour-transposed (transposed g) r c (omega arith) (omega arith) ∙ colour-transposed g c r (omega arith) (omega arith)) w
 
 -- the codewords of the square without its mask pattern are those of the square
 pub read-masked : (v mask n : ℕ) (g region plain : Grid) (cw : List ℕ) → 1 ≤ v → v ≤ 40 → region ≡

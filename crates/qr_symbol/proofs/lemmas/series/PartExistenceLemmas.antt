@@ -1,21 +1,13 @@
 -- Every input has parts: it is decidable whether a prefix fits, so there is a longest one. Inputs that are too long have no series.
 use Rattle.qr_bits.proofs.Facts.{CoversInTurn, assignment-length, empty-fits, from-turn, in-turn}
-use Rattle.qr_bits.specs.Padding.{room_of}
-use Rattle.qr_symbol.proofs.lemmas.series.PartLemmas.{one-fits, needs-parts, parts-long}
+use Rattle.qr_bits.specs.{Padding.room_of, Segmentation.{bits, runs_of, Covers, IsAssignment, HasFit, IsLongestFit}, declared.modes.{Mode.Mode, Rule.Rule}}
+use Rattle.qr_symbol.proofs.lemmas.{series.PartLemmas.{one-fits, needs-parts, parts-long}, version_choice.FitLemmas.version-short}
 use Rattle.qr_symbol.specs.Series.{AreParts, HasNoSeries, NeedsParts}
-use Rattle.qr_bits.specs.Segmentation.{bits, runs_of, Covers, IsAssignment, HasFit, IsLongestFit}
-use Rattle.qr_bits.specs.declared.modes.Mode.{Mode}
-use Rattle.qr_bits.specs.declared.modes.Mode.TheVariants.{Numeric, Alphanumeric, Byte, Kanji}
-use Rattle.qr_bits.specs.declared.modes.Rule.{Rule}
-use Rattle.qr_bits.specs.declared.interpretation.Interpretation.{Interpretation}
-use Rattle.qr_bits.specs.Interpretation.{characters_in, doubled, MayWrite}
-use Rattle.qr_bits.specs.declared.segmentation.Segment.{Segment}
+use Rattle.qr_bits.specs.{declared.{modes.Mode.TheVariants.{Numeric, Alphanumeric, Byte, Kanji}, interpretation.Interpretation.Interpretation}, Modes.may_use}
+use Rattle.qr_bits.specs.{Interpretation.{characters_in, doubled, MayWrite}, declared.segmentation.Segment.Segment}
 use Rattle.qr_layout.specs.declared.level.Level.{Level}
 use Rattle.std.proofs.Common.{◌≡◌, ℕ, zero, suc, ◌<◌, ◌≤◌, ◌⊎◌, Bool, true, false, List, [], ◌∷◌, length, take, drop, refl, subst, inl, inr, length-drop, arith, ◌*◌}
-use Rattle.std.proofs.lemmas.Bool.{cases_lt}
-use Rattle.std.specs.Prelude.{IsTrue}
-use Rattle.qr_bits.specs.Modes.{may_use}
-use Rattle.qr_symbol.proofs.lemmas.version_choice.FitLemmas.{version-short}
+use Rattle.std.{proofs.lemmas.Bool.cases_lt, specs.Prelude.IsTrue}
 
 -- a fact is decided if it holds or does not hold
 abbrev Decided : Type 0 → Type 0

@@ -1,20 +1,16 @@
 -- The parts of an input: how long a prefix fits, and the lengths of the parts, which are found one after another.
 use borrow.Author.Tests.{leb-true}
 use Rattle.qr_bits.proofs.Facts.{bytes-fit, fitting-short, piece-fits}
-use Rattle.qr_bits.specs.{Modes.{may_use, count_width}, Padding.{capacity_of, room_of}, Segmentation.{HasFit, IsLongestFit}}
-use Rattle.qr_bits.specs.Interpretation.{interpretation_bits}
-use Rattle.qr_bits.specs.declared.interpretation.Interpretation.{Interpretation, TheVariants.Default}
-use Rattle.qr_symbol.proofs.lemmas.version_choice.FitLemmas.{interpretation-most}
-use Rattle.qr_bits.specs.declared.modes.{Mode.TheVariants.{Byte, Kanji}, Rule.Rule}
+use Rattle.qr_bits.specs.{Modes.{may_use, count_width}, Padding.{capacity_of, room_of}, Segmentation.{HasFit, IsLongestFit}, Interpretation.interpretation_bits}
+use Rattle.qr_bits.specs.declared.{interpretation.Interpretation.{Interpretation, TheVariants.Default}, modes.{Mode.TheVariants.{Byte, Kanji}, Rule.Rule}}
+use Rattle.qr_symbol.{proofs.lemmas.version_choice.FitLemmas.interpretation-most, specs.Series.{AreParts, FitParts, NeedsParts, IsSymbolOf, AreSymbolsFrom}}
 use Rattle.qr_layout.{proofs.Facts.{every, every-at}, specs.{Version.total_codewords_of, declared.level.Level.Level}}
 use Rattle.qr_layout.specs.Blocks.{block_count_of, correction_len_of, data_codewords_of}
-use Rattle.qr_symbol.specs.Series.{AreParts, FitParts, NeedsParts, IsSymbolOf, AreSymbolsFrom}
 use Rattle.qr_symbol.specs.{Steps.Series.{AreLengths, parts_of}, declared.symbol.Symbol.Symbol}
 use Rattle.std.proofs.Common.{◌≡◌, ℕ, suc, ◌+◌, ◌-◌, ◌*◌, ◌<◌, ◌≤◌, min, true, false, leb, ◌⊎◌, All, List, [], ◌∷◌, ◌++◌, take, drop, length, get_or, Some, refl, sym, ◌∙◌, ap, subst, append_assoc, inl, inr, arith}
-use Rattle.std.proofs.Math.Seq.{drop-cons, drop-nil, drop-append-add, take-append_seam, take-length}
+use Rattle.std.{proofs.Math.Seq.{drop-cons, drop-nil, drop-append-add, take-append_seam, take-length}, specs.List.concat}
 use Rattle.std.proofs.lemmas.{Bool.{cases_lt}, List.Elements.{All-nil, All-cons, All-head, All-tail}}
 use Rattle.std.proofs.lemmas.List.{length-take, length-drop, append-nil, take-append-drop, drop-append-le, length-append}
-use Rattle.std.specs.{List.{concat}}
 
 -- ---- how long a prefix fits
 
@@ -43,14 +39,13 @@ longest-some v l b how xs n p q some h =
 pub part-least : (v : ℕ) (l : Level) (b : Rule) (x p : List ℕ) (ps : List (List ℕ)) → 1 ≤ v → v ≤ 40 → AreParts v l b Default x (p ∷ ps) → (5 ≤ length p) ⊎ (p ≡ x)
 unfolding AreParts
 part-least v l b x p ps i j h =
-    let n = h.0 in
     let cut = h.2 in elim (cases_lt (length x) 5) [
       | inl short ↦
           let whole = cut.longest (length x) (omega arith) (subst (λ ys. HasFit Default v b ys (room_of v l Default)) (sym (take-length x)) (few-fit v l b Default x i j (omega arith))) in
           inr (h.3 ∙ (ap (λ k. take k x) (omega arith) ∙ take-length x))
       | inr long ↦
           let front = length-take 5 x in
-          inl (omega (arith, (length-take n x), (ap length h.3), (cut.longest 5 (omega arith) (few-fit v l b Default _ i j (omega (arith, front))))))
+          inl (omega (arith, (length-take h.0 x), (ap length h.3), (cut.longest 5 (omega arith) (few-fit v l b Default _ i j (omega (arith, front))))))
     ]
 
 -- bytes that fit after a header are at most 7,089
@@ -87,11 +82,6 @@ pub length-parts : (x ns : List ℕ) → length (parts_of x ns) ≡ length ns
 unfolding parts_of
 length-parts x [] = refl
 length-parts x (n ∷ ns) = ap suc (length-parts (drop n x) ns)
-
--- an empty input has no parts
-pub lengths-none : (v : ℕ) (l : Level) (b : Rule) (how : Interpretation) → AreLengths v l b how [] []
-unfolding AreLengths
-lengths-none v l b how = refl
 
 -- an input with a byte has at least one length
 pub lengths-some : (v : ℕ) (l : Level) (b : Rule) (how : Interpretation) (x ns : List ℕ) → AreLengths v l b how x ns → 0 < length x → 0 < length ns
@@ -133,8 +123,7 @@ pub parts-long : (v : ℕ) (l : Level) (b : Rule) (how : Interpretation) (x : Li
 unfolding AreParts
 parts-long v l b how x [] i j h = omega (arith, ap length h)
 parts-long v l b how x (p ∷ ps) i j h =
-    let short = part-short v l b how (take h.0 x) i j h.2.fits in
-    search (arith, length-take, length-drop, parts-long v l b how (drop h.0 x) ps i j h.4)
+    search (arith, length-take, length-drop, parts-long v l b how (drop h.0 x) ps i j h.4, part-short v l b how (take h.0 x) i j h.2.fits)
 
 -- ---- no fewer parts
 
@@ -217,8 +206,3 @@ pub symbols-more : (v : ℕ) (l : Level) (b : Rule) (how : Interpretation) (last
     AreSymbolsFrom v l b how last parity 0 whole ((found ++ s ∷ []) ++ ss)
 unfolding AreSymbolsFrom parts_of
 symbols-more v l b how last parity k rest ns whole found s some is all ss h = search (arith, append_assoc, drop-cons)
-
--- if there is no part left, there is no symbol left
-pub symbols-none : (v : ℕ) (l : Level) (b : Rule) (how : Interpretation) (last parity k : ℕ) (rest : List ℕ) → AreSymbolsFrom v l b how last parity k (parts_of rest []) []
-unfolding AreSymbolsFrom parts_of
-symbols-none v l b how last parity k rest = tt

@@ -1,25 +1,17 @@
 -- An input has only one series, which is read as the input; long inputs have no series.
-use Rattle.qr_bits.specs.declared.interpretation.Interpretation.{Interpretation}
-use Rattle.qr_bits.specs.Interpretation.{MayWrite}
-use Rattle.qr_symbol.proofs.lemmas.version_choice.FitLemmas.{version-short}
+use Rattle.qr_bits.specs.{declared.interpretation.Interpretation.Interpretation, Interpretation.MayWrite}
+use Rattle.qr_symbol.proofs.lemmas.{version_choice.FitLemmas.version-short, encoding.SymbolMakingLemmas.symbol-at-one, reading.RoundTripLemmas.symbol-read}
 use Rattle.qr_bits.{proofs.Facts.{empty-fits, least-meant, may_write-drop, may_write-take}, specs.{Header.parity_of, Parsing.Content}}
 use Rattle.{qr_bits.specs.declared.{stream.Header.Header, modes.Rule.Rule}, qr_layout.specs.declared.level.Level.Level}
 use Rattle.qr_matrix.specs.Grid.{Grid}
-use Rattle.qr_symbol.proofs.lemmas.encoding.SymbolMakingLemmas.{symbol-at-one}
-use Rattle.qr_symbol.proofs.lemmas.{encoding.SymbolMakingLemmas.symbol-fits, reading.RoundTripLemmas.symbol-read}
 use Rattle.qr_symbol.proofs.lemmas.series.PartLemmas.{parts-are, length-parts, parts-one, parts-some, parts-long}
 use Rattle.qr_symbol.specs.{Joining.{AreInterpreted, AreReadBy, bytes_of_all, HaveHeaders, IsJoined}, Reading.{interpreted_content, IsInterpreted, IsReading}}
-use Rattle.qr_symbol.specs.Series.{squares_of, AreParts, IsSymbolOf, AreSymbolsFrom, IsSplit, IsPlainSymbol, IsSeries}
+use Rattle.qr_symbol.specs.{Series.{squares_of, AreParts, IsSymbolOf, AreSymbolsFrom, IsSplit, IsPlainSymbol, IsSeries}, Encoding.IsSymbolAt}
 use Rattle.{qr_symbol.specs.Steps.Series.{AreLengths, parts_of}, std.proofs.lemmas.List.{Elements.{All-cons, All-nil}, append-nil, take-append-drop}}
-use Rattle.qr_symbol.specs.Encoding.{IsSymbolAt}
 use Rattle.qr_symbol.specs.{VersionChoice.{FitsVersion, HasNoVersion}, declared.symbol.Symbol.Symbol}
 use Rattle.std.proofs.Common.{◌≡◌, ℕ, suc, ◌+◌, ◌-◌, ◌*◌, ◌<◌, ◌≤◌, List, [], ◌∷◌, length, drop, None, Some, Option, refl, sym, ap, subst, arith, inl, inr}
 
 -- ---- what makes a series
-
--- a plain symbol is a series
-pub lone-series : (x : List ℕ) (l : Level) (b : Rule) (how : Interpretation) (v : ℕ) (s : Symbol) (ss : List Symbol) → 1 ≤ v → v ≤ 40 → IsSymbolOf v l b how x None s → ss ≡ s ∷ [] → IsSeries v l b how x ss
-lone-series x l b how v s ss p q made alone = inl (search (arith, symbol-fits))
 
 -- the symbols of parts are a series
 pub split-series : (x : List ℕ) (l : Level) (b : Rule) (how : Interpretation) (v : ℕ) (ns : List ℕ) (ss : List Symbol) → (FitsVersion v l b how x → ⊥) → AreLengths v l b how x ns → length ns ≤ 16

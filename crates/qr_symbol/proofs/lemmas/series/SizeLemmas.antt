@@ -3,12 +3,9 @@ use Rattle.std.proofs.Common.{◌≡◌, ℕ, ◌+◌, ◌<◌, ◌≤◌, inl, 
 use Rattle.std.{proofs.lemmas.List.Elements.All-nil, specs.List.All}
 use Rattle.qr_layout.specs.{Version.side_of, declared.level.Level.Level}
 use Rattle.qr_bits.{proofs.Facts.empty-fits, specs.Modes.may_use}
-use Rattle.qr_bits.specs.declared.interpretation.Interpretation.{Interpretation}
-use Rattle.qr_bits.specs.Interpretation.{MayWrite}
-use Rattle.qr_bits.specs.declared.modes.{Mode.TheVariants.Kanji, Rule.Rule}
+use Rattle.qr_bits.specs.{declared.{interpretation.Interpretation.Interpretation, modes.{Mode.TheVariants.Kanji, Rule.Rule}}, Interpretation.MayWrite}
 use Rattle.qr_symbol.proofs.lemmas.series.PartLemmas.{needs-some, needs-parts}
-use Rattle.qr_symbol.specs.Series.{squares_of, AreParts, NeedsParts, AreSymbolsFrom, IsSeries}
-use Rattle.qr_symbol.specs.{VersionChoice.FitsVersion, declared.symbol.Symbol.Symbol}
+use Rattle.qr_symbol.specs.{Series.{squares_of, AreParts, NeedsParts, AreSymbolsFrom, IsSeries}, VersionChoice.FitsVersion, declared.symbol.Symbol.Symbol}
 
 -- there are as many symbols as parts
 pub symbols-many : (v : ℕ) (l : Level) (b : Rule) (how : Interpretation) (last parity k : ℕ) (ps : List (List ℕ)) (ss : List Symbol) → AreSymbolsFrom v l b how last parity k ps ss → length ss ≡ length ps

@@ -1,9 +1,7 @@
 -- The least version that an input fits, found with the segments of the first version of each range of equal widths.
 use Rattle.qr_bits.proofs.Facts.{capacity-least, fitting-short, least_fits}
-use Rattle.qr_bits.specs.{Interpretation.interpretation_bits, Modes.count_width, Padding.capacity_of}
-use Rattle.qr_bits.specs.Segmentation.{bits, IsLeastSegmentation}
-use Rattle.qr_bits.specs.declared.interpretation.Interpretation.{Interpretation}
-use Rattle.qr_bits.specs.declared.{modes.{Mode.Mode, Rule.Rule}, segmentation.Segment.Segment}
+use Rattle.qr_bits.specs.{Interpretation.interpretation_bits, Modes.count_width, Padding.capacity_of, Segmentation.{bits, IsLeastSegmentation}}
+use Rattle.qr_bits.specs.declared.{interpretation.Interpretation.Interpretation, modes.{Mode.Mode, Rule.Rule}, segmentation.Segment.Segment}
 use Rattle.{qr_layout.specs.declared.level.Level.Level, qr_symbol.specs.VersionChoice.{FitsVersion, IsVersion}}
 use Rattle.std.proofs.{Common.{◌≡◌, ℕ, ◌+◌, ◌<◌, ◌≤◌, inl, inr, List, [], ◌∷◌, length, refl, arith}, lemmas.Bool.cases_lt}
 

@@ -1,19 +1,13 @@
 -- Bits of codewords, and of words that hold several codewords.
-use mathlib.Core.Bool.{beq}
 use Rattle.{qr_bits.specs.Bits.codeword_bit, qr_matrix.proofs.Facts.{has_bit-or, has_bit-shr, low-bits, shl-bit, unset-above}}
-use Rattle.{qr_matrix.specs.BitRow.has_bit, qr_symbol.specs.Mask.inverted}
-use Rattle.std.proofs.Common.{◌≡◌, ℕ, zero, suc, ◌+◌, ◌-◌, ◌*◌, ◌/◌, ◌%◌, ◌^◌, ◌<◌, ◌≤◌, Bool, true, false, not, cond, nat_eq, leb, ◌&&◌, ◌||◌, List, get_or, ap, ◌∙◌, inl, inr, bit_or, arith}
-use Rattle.std.proofs.{Math.Pow.pow_mono, lemmas.Bool.{cases_lt, Decides.nat_tests}}
-use Rattle.std.proofs.lemmas.Nat.{pow-add, Bits.{bit_at_above, bit_at_cat_low, bit_at_cat_high}}
+use Rattle.qr_matrix.specs.BitRow.{has_bit}
+use Rattle.std.proofs.Common.{◌≡◌, ℕ, zero, suc, ◌+◌, ◌-◌, ◌*◌, ◌/◌, ◌%◌, ◌^◌, ◌<◌, ◌≤◌, Bool, true, false, cond, nat_eq, bit_and, eqb, leb, ◌&&◌, ◌||◌, List, get_or, ap, ◌∙◌, inl, inr, bit_or, arith}
+use Rattle.std.proofs.{Math.Pow.pow_mono, lemmas.{Bool.{cases_lt, Decides.nat_tests}, Nat.{pow-add, Bits.{bit_at_cat_low, bit_at_cat_high, shr_and_one}}}}
 
--- a word of 32 bits has no bit from 32 on
-pub word-past : (word i : ℕ) → word < 2 ^ 32 → 32 ≤ i → false ≡ has_bit word i
+-- a bit of a word is tested by a shift
+pub set-bit : (word i : ℕ) → eqb (bit_and (word / 2 ^ i) 1) 1 ≡ has_bit word i
 unfolding has_bit
-word-past word i l h = cc (bit_at_above word 32 i l h)
-
--- testing whether a bit differs from `is_to_be` inverts the bit if `is_to_be` is true
-pub differs-inverted : (bit is_to_be : Bool) → not (beq bit is_to_be) ≡ inverted is_to_be bit
-differs-inverted bit is_to_be = grind (arith, nat_tests)
+set-bit word i = ap (λ z. eqb z 1) (shr_and_one word i)
 
 -- ---- bits of codewords
 
@@ -61,15 +55,11 @@ codewords-fits n w b l m = let e : 8 * (n + 1) ≡ 8 * n + 8 = omega arith in se
 pub codewords-room : (n w : ℕ) → n < 8 → w < 2 ^ (8 * n) → w < 2 ^ 56
 codewords-room n w l m = let h : 8 * n ≤ 56 = omega arith in let k : 2 ^ (8 * n) ≤ 2 ^ 56 = pow_mono h in omega arith
 
--- a bit of one codeword
-codeword-at : (cw : List ℕ) (p b d : ℕ) → b ≡ get_or cw p 0 → d < 8 → has_bit b (7 - d) ≡ codeword_bit cw (8 * p + d)
-unfolding has_bit
-codeword-at cw p b d is l = search arith
-
 -- the bits from bit s on of a word of codewords and of the codeword after it
 pub next-bit : (cw : List ℕ) (p s w b k : ℕ) → s < 8 → k < 64 → b ≡ get_or cw (p + 8) 0 → b < 256
     → ((j : ℕ) → j < 64 → has_bit w (63 - j) ≡ codeword_bit cw (8 * p + j))
     → has_bit (bit_or (w * 2 ^ s % 2 ^ 64) (b / 2 ^ (8 - s))) (63 - k) ≡ codeword_bit cw (8 * p + s + k)
+unfolding has_bit
 next-bit cw p s w b k few l is small held =
     let i = 63 - k in
     let high : has_bit (w * 2 ^ s % 2 ^ 64) i ≡ (leb s i && has_bit w (i - s)) = low-bits 64 (w * 2 ^ s) i (omega arith) ∙ shl-bit w s i in
@@ -80,10 +70,5 @@ next-bit cw p s w b k few l is small held =
           let e : i - s ≡ 63 - (k + s) = omega arith in
           let none = unset-above b 8 (i + (8 - s)) small (omega arith) in
           search (arith, codeword_bit)
-      | inr m ↦
-          let t : leb s i ≡ false = grind (arith, nat_tests) in
-          let d = k + s - 64 in
-          let e : i + (8 - s) ≡ 7 - d = omega arith in
-          let f : 8 * (p + 8) + d ≡ 8 * p + s + k = omega arith in
-          search (arith, codeword-at, codeword_bit)
+      | inr m ↦ search (arith, nat_tests, codeword_bit)
     ]))

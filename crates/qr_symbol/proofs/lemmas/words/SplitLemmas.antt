@@ -1,15 +1,11 @@
 -- Bits that are exchanged, reversed and divided between the two columns of a strip.
-use Rattle.std.proofs.Common.{◌≡◌, ℕ, ◌+◌, ◌-◌, ◌*◌, ◌/◌, ◌%◌, ◌^◌, ◌<◌, ◌≤◌, Bool, true, false, not, cond, ◌&&◌, eqb, leb, ltb, ◌||◌, bit_and, bit_or, bit_xor, refl, sym, ◌∙◌, ap, inl, inr, arith}
+use Rattle.std.proofs.Common.{◌≡◌, ℕ, ◌+◌, ◌-◌, ◌*◌, ◌/◌, ◌%◌, ◌^◌, ◌<◌, ◌≤◌, Bool, true, false, not, cond, ◌&&◌, eqb, leb, ltb, ◌||◌, bit_and, bit_or, bit_xor, refl, ◌∙◌, ap, inl, inr, arith}
 use Rattle.std.proofs.lemmas.{Bool.{cases_lt, Decides.nat_tests}}
 use Rattle.qr_matrix.proofs.Facts.{below-at, has_bit-and, has_bit-ones, has_bit-or, has_bit-shr, has_bit-xor, low-bits, shl-bit, unset-above, &&-left, &&-right}
 use Rattle.qr_matrix.specs.{BitRow.has_bit, Grid.is_same, Sums.all_below}
 use Rattle.qr_symbol.specs.Steps.Words.{are_halves, are_pairs, partner, rank_in}
 
 -- ---- bits that are exchanged
-
--- a bit of the number that has the bits of a mask in which a number differs from itself, s bits further up
-difference-bit : (n s m i : ℕ) → has_bit (bit_and (bit_xor n (n / 2 ^ s)) m) i ≡ (not (is_same (has_bit n i) (has_bit n (i + s))) && has_bit m i)
-difference-bit n s m i = cc (has_bit-and (bit_xor n (n / 2 ^ s)) m i, has_bit-xor n (n / 2 ^ s) i, has_bit-shr n s i)
 
 -- two bits of the mask that are s apart are not both set
 pairs-at : (s m i : ℕ) → are_pairs s m ≡ true → i < 64 → (has_bit m i && has_bit m (i + s)) ≡ false
@@ -32,9 +28,6 @@ swapped a up down t u e = grind (arith, nat_tests)
 from : (s i : ℕ) → leb s i ≡ true → i - s + s ≡ i
 from s i e = let l : s ≤ i = grind (arith, nat_tests) in omega arith
 
-moved-in : (t a b u : Bool) → (t ≡ true → a ≡ b) → (t && (a && u)) ≡ (b && (t && u))
-moved-in t a b u e = grind (arith, nat_tests)
-
 never-both : (t l u : Bool) → (l ≡ true → (u && t) ≡ false) → (t && (l && u)) ≡ false
 never-both t l u e = grind (arith, nat_tests)
 
@@ -44,15 +37,7 @@ pub exchanged-bit : (n s m i : ℕ) → are_pairs s m ≡ true → i < 64
 exchanged-bit n s m i e l =
     let d = bit_and (bit_xor n (n / 2 ^ s)) m in let u = leb s i && has_bit m (i - s) in
     let low : has_bit (d * 2 ^ s % 2 ^ 64) i ≡ (leb s i && has_bit d (i - s)) = low-bits 64 (d * 2 ^ s) i l ∙ shl-bit d s i in
-    let down : (leb s i && has_bit d (i - s)) ≡ (not (is_same (has_bit n (i - s)) (has_bit n i)) && u) =
-    ap (λ z. leb s i && z) (difference-bit n s m (i - s))
-    ∙ moved-in (leb s i) (not (is_same (has_bit n (i - s)) (has_bit n (i - s + s)))) (not (is_same (has_bit n (i - s)) (has_bit n i))) (has_bit m (i - s)) (λ t. ap (λ z. not (is_same (has_bit n (i - s)) (has_bit n z))) (from s i t)) in
-    let apart : (has_bit m i && u) ≡ false = never-both (has_bit m i) (leb s i) (has_bit m (i - s)) (λ t. ap (λ z. has_bit m (i - s) && has_bit m z) (sym (from s i t)) ∙ pairs-at s m (i - s) e (omega arith)) in
-    let upper = has_bit-xor n d i ∙ ap (λ z. not (is_same (has_bit n i) z)) (difference-bit n s m i) in
-    has_bit-xor (bit_xor n d) (d * 2 ^ s % 2 ^ 64) i
-    ∙ (ap (λ z. not (is_same z (has_bit (d * 2 ^ s % 2 ^ 64) i))) upper
-    ∙ (ap (λ z. not (is_same (not (is_same (has_bit n i) (not (is_same (has_bit n i) (has_bit n (i + s))) && has_bit m i))) z)) (low ∙ down)
-    ∙ (swapped (has_bit n i) (has_bit n (i + s)) (has_bit n (i - s)) (has_bit m i) u apart ∙ sym (at-place n (i + s) (i - s) i (has_bit m i) u))))
+    search (arith, from, nat_tests, never-both, pairs-at, has_bit-xor, swapped, at-place, has_bit-and, has_bit-shr)
 
 -- ---- the two halves
 
@@ -126,15 +111,11 @@ all-exchanged-bit n s m i e l =
       at-place n (i + s) (i - s) i (has_bit m i) (leb s i && has_bit m (i - s)),
     )
 
--- each bit passes the test, computed
-all-reversed : all_below 64 (is-moved (partner 1 0x5555555555555555) (partner 2 0x3333333333333333) (partner 4 0xF0F0F0F0F0F0F0F) (partner 8 0xFF00FF00FF00FF) (partner 16 0xFFFF0000FFFF) (partner 32 0xFFFFFFFF) (λ i. 63 - i)) ≡ true
-unfolding is-moved has_bit
-all-reversed = refl
-
 -- six exchanges reverse the order of the bits
 pub reversed-bit : (a b c d e f g : ℕ)
     → AreMoved (partner 1 0x5555555555555555) a b → AreMoved (partner 2 0x3333333333333333) b c → AreMoved (partner 4 0xF0F0F0F0F0F0F0F) c d → AreMoved (partner 8 0xFF00FF00FF00FF) d e → AreMoved (partner 16 0xFFFF0000FFFF) e f → AreMoved (partner 32 0xFFFFFFFF) f g → AreMoved (λ i. 63 - i) a g
-reversed-bit a b c d e f g = moved-bit _ _ _ _ _ _ _ a b c d e f g all-reversed
+unfolding is-moved has_bit
+reversed-bit a b c d e f g = search (arith, moved-bit)
 
 -- ---- the bits of some rows
 

@@ -1,7 +1,6 @@
-use Rattle.std.proofs.Common.{rules, ◌≡◌, ℕ, ◌+◌, ◌*◌, ◌<◌, ◌≤◌, ◌⊎◌, false, true, ◌∙◌, ap, subst, inl, inr, arith}
+use Rattle.std.proofs.Common.{rules, ◌≡◌, ℕ, ◌+◌, ◌*◌, ◌<◌, ◌≤◌, ◌⊎◌, false, true, ◌∙◌, ap, inl, inr, arith}
 use Rattle.{std.proofs.lemmas.Bool.cases_lt, qr_matrix.specs.{Grid.{Grid, colour}, Penalty.penalty_of}}
-use Rattle.qr_symbol.proofs.lemmas.placement.PlacementLemmas.{square-is}
-use Rattle.qr_symbol.specs.{Choice.IsFirstLeast, Steps.Placement.{masked_colour, masked_penalty}}
+use Rattle.qr_symbol.{proofs.lemmas.placement.PlacementLemmas.square-is, specs.{Choice.IsFirstLeast, Steps.Placement.masked_penalty}}
 use Rattle.qr_symbol.proofs.mask.best_mask.Goals.{then-penalties-least, else-penalties-least, then-penalties-least-2, else-penalties-least-2}
 use Rattle.qr_symbol.proofs.mask.best_mask.Goals as goal
 
@@ -34,6 +33,6 @@ loop-half-preserved c =
       | else-penalties-least-2 w ↦ inr (w.if-penalties-least-2.false, w.best-is, w.least-is)
     ]) in
     let last : 2 * h + 1 + 1 ≡ 2 * (h + 1) = omega arith in record {
-      squares = λ s. square-is _ (masked_colour _ _ _ _ _) _ (c.draw_both_masked.ensures s);
-      best = inr (subst (λ (n : ℕ). IsFirstLeast n f c.if-penalties-least-2.best) last two.0, two.1);
+      squares = search (rules, square-is);
+      best = search rules;
     }

@@ -1,4 +1,4 @@
-use Rattle.qr_matrix.{proofs.Facts.{filled, fill-none, fill-line, fill-all}, specs.Grid.{colour}}
+use Rattle.qr_matrix.{proofs.Facts.{filled, fill-none, fill-line, fill-all, masked-bit, masked-past}, specs.Grid.colour}
 use Rattle.{qr_symbol.specs.Mask.{inverts, inverted}, std.proofs.Common.{rules, ℕ, ◌&&◌, ◌∙◌, ap, arith}}
 use Rattle.qr_symbol.proofs.mask.set_masked.Goals as goal
 
@@ -6,7 +6,10 @@ pub loop-row-init : goal.loop-row-init
 loop-row-init c = search (rules, fill-none)
 
 pub loop-row-preserved : goal.loop-row-preserved
-loop-row-preserved c = search (rules, fill-line)
+loop-row-preserved c = search (rules, fill-line, masked-bit)
+
+pub set_bit_row-requires : goal.set_bit_row-requires
+set_bit_row-requires c = search (rules, masked-past)
 
 pub returns : goal.returns
 returns c =

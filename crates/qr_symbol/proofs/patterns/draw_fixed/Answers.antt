@@ -1,13 +1,12 @@
-use Rattle.qr_layout.proofs.Facts.{centres-inside, off-role, region-parts}
+use Rattle.qr_layout.proofs.Facts.{version-second, centres-inside, off-role, region-parts}
 use Rattle.qr_layout.specs.{Format.version_word_of, Region.{is_in_region, is_timing, is_version_information, ring_of}, Role.is_alignment_light, Version.side_of}
 use Rattle.{qr_layout.specs.declared.role.Role.TheVariants.{Fixed, Region}, qr_matrix.proofs.Facts.square-same}
 use Rattle.qr_matrix.specs.{BitRow.has_bit, Grid.{Grid, colour, square}}
 use Rattle.qr_symbol.proofs.lemmas.patterns.PaintLemmas.{fixed-tests, light-inside, over-item, over-none, over-place, over-ring, over-same, over-side, over-sized, over-twice}
-use Rattle.qr_symbol.proofs.lemmas.patterns.TimingLemmas.{paint-row_six, paint-column_six, six-more, six-all}
-use Rattle.qr_symbol.proofs.lemmas.patterns.VersionLemmas.{version_drawn, version-all, version-here, version-more, version-none, version-there}
-use Rattle.qr_symbol.specs.Steps.Patterns.{fixed_colour, is_dark_in_six, paint_of, IsOver}
-use Rattle.std.{proofs.{Common.{rules, ◌≡◌, ℕ, Bool, true, cond, eqb, ltb, ◌&&◌, ◌||◌, ap, ◌∙◌, refl, arith}, lemmas.{Bool.Decides.nat_tests, List.{take_all}}}, specs.List.list_any}
-use Rattle.qr_symbol.proofs.patterns.draw_fixed.Goals.{After-version_word}
+use Rattle.qr_symbol.proofs.lemmas.patterns.TimingLemmas.{is_dark_in_six, paint-row_six, paint-column_six, six-more, six-all}
+use Rattle.qr_symbol.proofs.{lemmas.patterns.VersionLemmas.{version_drawn, version-all, version-here}, patterns.draw_fixed.Goals.After-version_word}
+use Rattle.qr_symbol.{proofs.lemmas.words.BitLemmas.set-bit, specs.Steps.Patterns.{fixed_colour, paint_of, IsOver}}
+use Rattle.std.{proofs.{Common.{rules, ◌≡◌, ℕ, ◌/◌, ◌^◌, bit_and, Bool, true, cond, eqb, ltb, ◌&&◌, ◌||◌, ap, ◌∙◌, refl, arith}, lemmas.{Bool.Decides.nat_tests, List.{take_all}}}, specs.List.list_any}
 use Rattle.qr_symbol.proofs.patterns.draw_fixed.Goals as goal
 
 -- a module whose role is a fixed colour has this colour
@@ -44,23 +43,24 @@ loop-at-preserved c =
     (λ r k _ _. six-more at r k) in record { matrix_side = over-side both; painted = both }
 
 pub loop-bit-init : goal.loop-bit-init
-loop-bit-init c = search (rules, over-none, version-none)
+loop-bit-init c = search (rules, over-none, nat_tests)
 
 pub loop-bit-preserved : goal.loop-bit-preserved
+unfolding fixed_colour
 loop-bit-preserved c =
     let v = c.args.version in let s = side_of v in let f = c.args.format in
     let n = c.loop-bit.bit in let i = c.loop-bit.invariant in
-    let g = c.loop-bit.matrix in let d = c.is_bit_set-dark.result in
-    let bit : d ≡ has_bit (version_word_of v) n = c.is_bit_set-dark.ensures ∙ ap (λ (z : ℕ). has_bit z n) c.in-Some.ensures.1 in
+    let g = c.loop-bit.matrix in let d = eqb (bit_and (c.in-Some.word / 2 ^ n) 1) 1 in
+    let bit : d ≡ has_bit (version_word_of v) n = search (rules, set-bit) in
     let set1 = rw c.side-side.ensures.value at c.set-in-loop-bit.ensures in
     let set2 = rw c.side-side.ensures.value at c.set-in-loop-bit-2.ensures in
     let first = over-twice (λ r k. version_drawn s n r k || (eqb r _ && eqb k _)) i.painted
     (over-place _ g c.set-in-loop-bit.new.self _ _ d i.side (bit ∙ version-here v f n (omega arith) (omega arith) (omega arith)) set1) (λ _ _ _ _. refl) in
     record {
-      side = ap (λ (g : Grid). g.side) set2 ∙ (ap (λ (g : Grid). g.side) set1 ∙ i.side);
+      side = search rules;
       painted = over-twice (version_drawn s _) first
-          (over-place _ c.set-in-loop-bit.new.self c.set-in-loop-bit-2.new.self _ _ d (over-side first) (bit ∙ version-there v f n (omega arith) (omega arith) (omega arith)) set2)
-          (λ r k _ _. version-more s n r k (omega arith));
+          (over-place _ c.set-in-loop-bit.new.self c.set-in-loop-bit-2.new.self _ _ d (over-side first) (search (rules, version-second)) set2)
+          (search (arith, nat_tests));
     }
 
 -- with the version information all that is outside the region is drawn

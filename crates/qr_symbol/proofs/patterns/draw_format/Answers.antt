@@ -1,13 +1,14 @@
-use Rattle.qr_matrix.{proofs.Facts.{square-same, colour-square}}
-use Rattle.qr_symbol.proofs.lemmas.{patterns.FormatDrawingLemmas.three-parts, placement.PlacementLemmas.square-is}
-use Rattle.{std.proofs.Common.{rules}}
+use Rattle.qr_symbol.proofs.lemmas.patterns.FormatDrawingLemmas.{FormatDone, format-start, format-step, format-end}
+use Rattle.qr_symbol.proofs.lemmas.{placement.PlacementLemmas.painted-square, words.BitLemmas.set-bit}
+use Rattle.std.proofs.Common.{rules, subst, ℕ, arith}
 use Rattle.qr_symbol.proofs.patterns.draw_format.Goals as goal
 
-pub draw_format_bits-requires-2-clause-square : goal.draw_format_bits-requires-2-clause-square
-draw_format_bits-requires-2-clause-square c = search (rules, square-is)
+pub loop-bit-init : goal.loop-bit-init
+loop-bit-init c = search (rules, format-start)
 
-pub draw_format_bits-requires-3-clause-square : goal.draw_format_bits-requires-3-clause-square
-draw_format_bits-requires-3-clause-square c = search (rules, square-is)
+pub loop-bit-preserved : goal.loop-bit-preserved
+loop-bit-preserved c = search (rules, format-step, painted-square, set-bit)
 
 pub returns : goal.returns
-returns c = search (rules, square-same, colour-square, three-parts)
+returns c = let i = c.loop-bit.invariant in
+    format-end _ _ _ _ i.square (subst (λ (z : ℕ). FormatDone c.args.version c.args.format z c.args.matrix.now c.loop-bit.matrix) (omega arith) i.done)

@@ -1,6 +1,5 @@
-use Rattle.std.proofs.lemmas.Grind.{common_steps}
+use Rattle.std.proofs.{lemmas.{Grind.common_steps, List.take_all}, Common.{rules, arith}}
 use Rattle.qr_symbol.proofs.lemmas.patterns.PaintLemmas.{over-item, over-same, over-side, over-sized}
-use Rattle.std.{proofs.{Common.{rules, arith}, lemmas.List.take_all}}
 use Rattle.qr_symbol.proofs.patterns.fill_alignment.Goals as goal
 
 pub loop-centre-preserved : goal.loop-centre-preserved

@@ -1,10 +1,8 @@
 use Rattle.std.proofs.Common.{rules, ◌≡◌, ℕ, ◌-◌, cond, ap, sym, ◌∙◌, refl, arith}
 use Rattle.qr_layout.specs.{Region.is_corner, Role.role_of, Version.side_of}
 use Rattle.qr_matrix.{proofs.Facts.square-same, specs.Grid.Grid, specs.Grid.colour}
-use Rattle.qr_symbol.specs.Steps.Patterns.{format_or, paint_of, IsOver}
-use Rattle.qr_symbol.proofs.lemmas.patterns.CornerLemmas.{begun, corners-done, dark-painted, timing-left, timing-top}
-use Rattle.qr_symbol.proofs.lemmas.patterns.FinderLemmas.{near-corner, near-right, near-below}
-use Rattle.qr_symbol.proofs.lemmas.patterns.PaintLemmas.{over-is, over-place, over-side, over-twice}
+use Rattle.qr_symbol.{specs.Steps.Patterns.{format_or, paint_of, IsOver}, proofs.lemmas.patterns.PaintLemmas.{over-is, over-place, over-side, over-twice}}
+use Rattle.qr_symbol.proofs.lemmas.patterns.{CornerLemmas.{begun, corners-done, dark-painted, timing-left, timing-top}, FinderLemmas.{near-right, near-below}}
 use Rattle.qr_symbol.proofs.patterns.paint_corners.Goals.{After-paint_finder-3, After-set-3}
 use Rattle.qr_symbol.proofs.patterns.paint_corners.Goals as goal
 
@@ -16,7 +14,7 @@ abbrev side : Grid → ℕ
 side g = g.side
 
 pub paint_finder-requires-clause-nearest : goal.paint_finder-requires-clause-nearest
-paint_finder-requires-clause-nearest c = λ r k. near-corner _ r k (omega arith)
+paint_finder-requires-clause-nearest c = search arith
 
 pub paint_finder-requires-2-clause-nearest : goal.paint_finder-requires-2-clause-nearest
 paint_finder-requires-2-clause-nearest c = rw c.side-side.ensures.value (λ r k. near-right _ r k (omega arith))

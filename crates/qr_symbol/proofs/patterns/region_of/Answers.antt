@@ -1,6 +1,5 @@
 use Rattle.qr_layout.proofs.Facts.{centres-inside, fixed-inside, region_outside}
-use Rattle.qr_layout.specs.{Rectangles.is_in_rectangle}
-use Rattle.qr_layout.specs.{Region.{is_alignment, is_in_region}, Version.side_of}
+use Rattle.qr_layout.specs.{Rectangles.is_in_rectangle, Region.{is_alignment, is_in_region}, Version.side_of}
 use Rattle.qr_matrix.{proofs.Facts.square-same, specs.Grid.{Grid, colour}}
 use Rattle.qr_symbol.proofs.lemmas.patterns.PaintLemmas.{no_rectangle, over-item, over-none, over-rectangle, over-side, region-tests}
 use Rattle.qr_symbol.{proofs.patterns.region_of.Goals.After-fill, specs.Steps.Patterns.IsOver}

@@ -1,6 +1,7 @@
+use Rattle.qr_matrix.proofs.Facts.{square-same}
 use Rattle.std.proofs.Common.{rules}
 use Rattle.{std.proofs.Common.{sym, subst, arith}, qr_layout.specs.Order.IsOrder}
-use Rattle.qr_symbol.proofs.lemmas.placement.WalkLemmas.{walked-start, walked-in, walked-step, walked-small, walked-end}
+use Rattle.qr_symbol.proofs.lemmas.placement.WalkLemmas.{walked-start, walked-in, walked-step, walked-small}
 use Rattle.qr_symbol.proofs.placement.draw_along_walk.Goals as goal
 
 pub loop-module-init : goal.loop-module-init
@@ -26,4 +27,4 @@ loop-module-preserved c = record {
 }
 
 pub returns : goal.returns
-returns c = search (rules, walked-end)
+returns c = search (rules, square-same)

@@ -1,9 +1,6 @@
-use Rattle.qr_layout.{proofs.Facts.Inside, specs.Order.{IsOrder, in_region_of}}
-use Rattle.qr_layout.specs.{Strips.places_of, Version.side_of, declared.strips.Strip.Strip}
+use Rattle.qr_layout.{proofs.Facts.Inside, specs.{Order.{IsOrder, in_region_of}, Strips.places_of, Version.side_of, declared.strips.Strip.Strip}}
 use Rattle.qr_matrix.specs.{BitRow.has, Grid.{Grid, transposed, with_row}}
-use Rattle.qr_symbol.proofs.lemmas.placement.AcrossLemmas.{region-across, strip-drawn}
-use Rattle.qr_symbol.proofs.lemmas.placement.PlacementLemmas.{places-push}
-use Rattle.qr_symbol.proofs.lemmas.placement.ColumnLemmas.{cleared}
+use Rattle.qr_symbol.proofs.lemmas.placement.{AcrossLemmas.{region-across, strip-drawn}, PlacementLemmas.places-push, ColumnLemmas.cleared}
 use Rattle.qr_symbol.proofs.placement.draw_codewords.Goals.{then-upward, else-upward, After-columns_of-columns}
 use Rattle.qr_symbol.specs.{Steps.Placement.{number_at, AreDrawn, IsRegion}, declared.spans.Columns.Columns}
 use Rattle.qr_symbol.proofs.lemmas.placement.PlacementLemmas.{placed-start, placed-strip, placed-small, placed-end, square-transposed}
@@ -16,7 +13,7 @@ loop-strip-init c =
     let e = sym c.into_iter-strip-iterator.ensures.into_iter_gives in record {
       can_next = tt;
       is_finite = tt;
-      inside = subst (All (Inside v)) e c.all_strips-strip-items.ensures.inside;
+      inside = search rules;
       square = c.requires.square;
       placed = placed-start v _ _ _ (square-transposed _ _ c.requires.square) (subst (λ (xs : List Strip). IsOrder v (in_region_of v (places_of (side_of v) xs))) e c.all_strips-strip-items.ensures.order);
     }
@@ -27,10 +24,7 @@ inside c = All-head (Inside c.args.version) _ _ (rw c.in-Some.ensures.steps at c
 
 -- exactly the bits of the region are set in the columns of its square
 is-region : (c : After-columns_of-columns) → IsRegion c.args.version c.in-Some.strip.right c.columns_of-within.result
-is-region c row l = let i = inside c in (
-  c.columns_of-within.ensures.right row ∙ region-across _ _ row _ c.requires.region l i.1,
-  c.columns_of-within.ensures.left row ∙ region-across _ _ row _ c.requires.region l (omega (arith, i.1)),
-)
+is-region c row l = let i = inside c in search (rules, region-across)
 
 pub draw_columns-number-requires-clause-region : goal.draw_columns-number-requires-clause-region
 draw_columns-number-requires-clause-region c = is-region (goal.at.draw_columns-number-requires-clause-region c).After-columns_of-columns

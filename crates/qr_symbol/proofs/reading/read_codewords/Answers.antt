@@ -1,18 +1,13 @@
 use Rattle.qr_matrix.specs.Grid.{Grid, colour, square}
 use Rattle.qr_symbol.proofs.lemmas.{placement.PlacementLemmas.square-is, reading.SymbolReadLemmas.read-masked}
 use Rattle.qr_symbol.specs.{Mask.inverts, Mask.inverted, Reading.IsRead}
-use Rattle.std.proofs.Common.{rules, ◌≡◌, ℕ, ◌≤◌, min, ◌&&◌, ap, ◌∙◌, arith}
-use Rattle.std.proofs.lemmas.{Result.{IfOk-from_err, IfOk-weaker}}
+use Rattle.std.proofs.{Common.{rules, ◌≡◌, ℕ, ◌≤◌, ◌&&◌, ap, ◌∙◌, arith}, lemmas.Result.{IfOk-from_err, IfOk-weaker}}
 use Rattle.qr_symbol.proofs.reading.read_codewords.Goals as goal
 
 -- each number from 7 on is the mask pattern 7
 seven-on : (mask r c : ℕ) → 7 ≤ mask → inverts 7 r c ≡ inverts mask r c
 unfolding inverts
 seven-on mask r c l = search rules
-
--- so a mask above 7 can be taken as 7
-capped : (mask r c : ℕ) → inverts (min mask 7) r c ≡ inverts mask r c
-capped mask r c = search (rules, seven-on)
 
 pub set_masked-requires-clause-square : goal.set_masked-requires-clause-square
 set_masked-requires-clause-square c = search (rules, square-is)
@@ -25,7 +20,7 @@ returns-clause-read c =
     (ap (λ (g : Grid). g.side) c.in_ok-plain.ensures ∙ c.side.ensures.value) in
     IfOk-weaker c.read_plain.result _ (λ cw. IsRead c.args.version c.args.mask g cw.items)
     (λ cw h. read-masked _ _ n g region c.set_masked.new.matrix cw.items (omega arith) (omega arith) c.in_ok-region.ensures
-    (λ i k. ap (λ m. inverts m i k) c.min-mask.ensures ∙ capped c.args.mask i k) drawn h) c.read_plain.ensures.read
+    (search (rules, seven-on)) drawn h) c.read_plain.ensures.read
 
 pub returns-in_err-region : goal.returns-in_err-region
 returns-in_err-region c = search (rules, IfOk-from_err)

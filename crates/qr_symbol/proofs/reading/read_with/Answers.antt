@@ -1,8 +1,6 @@
-use Rattle.std.proofs.Common.{rules}
+use Rattle.std.proofs.{Common.{rules, Err, sym, ap, subst, arith}, lemmas.Result.err_from_is_err_and}
 use Rattle.{qr_layout.proofs.Facts.laws-of, qr_symbol.proofs.lemmas.reading.SymbolReadLemmas.{is-parsed, not-checked, not-parsed}}
-use Rattle.qr_symbol.specs.{Reading.{IsRead, IsMessage}, declared.fault.ReadFault.ReadFault}
-use Rattle.std.proofs.{Common.{length, Err, sym, ◌∙◌, ap, subst, arith}, lemmas.Result.err_from_is_err_and}
-use Rattle.qr_symbol.proofs.reading.read_with.Goals.{After-deref-2}
+use Rattle.qr_symbol.{specs.{Reading.{IsRead, IsMessage}, declared.fault.ReadFault.ReadFault}, proofs.reading.read_with.Goals.After-deref-2}
 use Rattle.qr_symbol.proofs.reading.read_with.Goals as goal
 
 pub returns-in_err-message : goal.returns-in_err-message
@@ -15,7 +13,7 @@ returns-in_err-message c =
 
 pub parse-requires : goal.parse-requires
 parse-requires c = let most = (laws-of c.args.level c.args.version (omega arith) (omega arith)).most in
-    let many = ap length c.deref-2.ensures.value ∙ c.in_ok-message.ensures.many in omega arith
+    search rules
 
 -- the message that was deinterleaved is that of the square
 held : (c : After-deref-2) → IsMessage c.args.version c.args.level c.args.mask c.args.matrix.now c.deref-2.result.now

@@ -1,15 +1,13 @@
-use Rattle.std.proofs.lemmas.Grind.{common_steps}
-use Rattle.std.proofs.Common.{◌≡◌, ◌≢◌, ◌≤◌, ◌↔◌, ◌⊎◌, ◌∷◌, ◌++◌, [], inl, inr, false, ℕ, List, length, Result, Err, Vec, Global, sym, ap, ◌∙◌, arith, rules}
+use Rattle.qr_bits.proofs.Facts.{length-stream}
+use Rattle.qr_symbol.proofs.lemmas.{version_choice.FitLemmas.fits-bits, fault.ExactLemmas.{empty-has-series, empty-many, not-empty, too-many-exactly}}
+use Rattle.std.proofs.lemmas.{Grind.common_steps, Result.{err_from_is_err_and, IfOk-weaker, MatchResult-at_err, MatchResult-weaker}}
+use Rattle.std.proofs.Common.{◌≡◌, ◌≢◌, ◌≤◌, ◌↔◌, ◌⊎◌, [], inl, inr, false, ℕ, List, length, Result, Err, Vec, Global, sym, ap, ◌∙◌, arith, rules}
 use Rattle.std.proofs.{Math.Nat.pos_of_ne-zero, lemmas.{Bool.{eqb-false, eqb-true}, List.nil_from_length, Option.{MatchOption-at_none, MatchOption-at_some}}}
-use Rattle.std.proofs.lemmas.Result.{err_from_is_err_and, IfOk-weaker, MatchResult-at_err, MatchResult-weaker}
 use Rattle.std.specs.Prelude.{IfOk, IfErr, MatchResult}
 use Rattle.qr_bits.specs.{Interpretation.MayWrite, Modes.may_use, declared.interpretation.Interpretation.Interpretation, declared.modes.{Mode.TheVariants.Kanji, Rule.Rule}}
 use Rattle.qr_layout.specs.declared.level.Level.{Level}
-use Rattle.qr_symbol.proofs.lemmas.fault.ExactLemmas.{empty-has-series, empty-many, not-empty, too-many-exactly}
-use Rattle.qr_symbol.proofs.lemmas.series.PartExistenceLemmas.{none-shorter}
-use Rattle.qr_symbol.proofs.lemmas.series.PartLemmas.{lengths-some}
-use Rattle.qr_symbol.proofs.lemmas.series.SeriesLemmas.{lone-series, series-interpreted, series-joined, split-series}
-use Rattle.qr_symbol.proofs.lemmas.series.SizeLemmas.{series-shortest}
+use Rattle.qr_symbol.proofs.lemmas.series.{PartExistenceLemmas.none-shorter, PartLemmas.lengths-some, SizeLemmas.series-shortest}
+use Rattle.qr_symbol.proofs.lemmas.series.SeriesLemmas.{series-interpreted, series-joined, split-series}
 use Rattle.qr_symbol.specs.{Joining.{AreInterpreted, IsJoined}, Series.{squares_of, HasNoSeries, IsSeries, NeedsParts}}
 use Rattle.qr_symbol.specs.declared.{fault.EncodeFault.EncodeFault, symbol.Symbol.Symbol}
 use Rattle.qr_symbol.specs.declared.fault.EncodeFault.TheVariants as fault
@@ -55,9 +53,7 @@ pub returns-in_err-push : goal.returns-in_err-push
 returns-in_err-push c = told _ _ _ _ _ c.from_residual-in_err-push.result (omega arith) (omega arith) c.requires.written (eqb-false _ 0 (sym c.is_empty.ensures ∙ c.if-is_empty.false)) (search rules)
 
 pub returns-in-Some : goal.returns-in-Some
-returns-in-Some c = told _ _ _ _ _ _ (omega arith) (omega arith) c.requires.written (eqb-false _ 0 (sym c.is_empty.ensures ∙ c.if-is_empty.false)) (lone-series _ _ _ _ _ _ _ (omega arith) (omega arith)
-    (MatchOption-at_some _ _ c.in-Some.symbol c.in-Some.is c.in_ok-symbol.ensures)
-    (c.in_ok-push.ensures.items ∙ ap (λ (ss : List Symbol). ss ++ c.in-Some.symbol ∷ []) c.new-symbols.ensures.items))
+returns-in-Some c = told _ _ _ _ _ _ (omega arith) (omega arith) c.requires.written (eqb-false _ 0 (sym c.is_empty.ensures ∙ c.if-is_empty.false)) (search (arith, MatchOption-at_some, fits-bits, length-stream))
 
 pub symbols_on-requires-clause-some : goal.symbols_on-requires-clause-some
 symbols_on-requires-clause-some c = search (rules, pos_of_ne-zero, eqb-false, lengths-some)

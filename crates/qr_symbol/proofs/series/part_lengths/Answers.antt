@@ -1,8 +1,8 @@
+use Rattle.qr_symbol.specs.Steps.Series.{AreLengths}
 use Rattle.qr_bits.{proofs.Facts.{may_write-drop, may_write-take}, specs.{Padding.room_of, Segmentation.IsLongestFit}}
-use Rattle.qr_symbol.proofs.lemmas.series.PartLemmas.{lengths-none, lengths-more, longest-cut, longest-some, parts-some, prefixes-more}
+use Rattle.qr_symbol.proofs.{lemmas.series.PartLemmas.{lengths-more, longest-cut, longest-some, parts-some, prefixes-more}, series.part_lengths.Goals.In_ok-len}
 use Rattle.std.proofs.Common.{rules, ◌+◌, ◌<◌, [], ◌∷◌, inr, length, refl, sym, ◌∙◌, length-append, arith}
 use Rattle.std.proofs.lemmas.{Bool.{eqb-true, Decides.nat_tests}, List.{append-nil, nil_from_length, length-drop}}
-use Rattle.qr_symbol.proofs.series.part_lengths.Goals.{In_ok-len}
 use Rattle.qr_symbol.proofs.series.part_lengths.Goals as goal
 
 -- the length that was found is that of the longest part of the whole rest, and the part is not empty
@@ -10,7 +10,7 @@ next : (c : In_ok-len) → (0 < c.in_ok-len.len) × IsLongestFit c.args.interpre
 next c =
     let some : 0 < length c.loop-rest.rest.now = grind (arith, nat_tests) in
     let short = c.loop-rest.invariant.short in
-    let cut = longest-cut _ _ _ _ _ _ _ (omega arith) (omega arith) (omega arith) c.in_ok-len.ensures in (longest-some _ _ _ _ _ _ (omega arith) (omega arith) some cut, cut)
+    let cut = longest-cut _ _ _ _ _ _ _ (omega arith) (omega arith) (omega arith) c.in_ok-len.ensures in search (rules, longest-some)
 
 pub longest_fit-requires-clause-written : goal.longest_fit-requires-clause-written
 longest_fit-requires-clause-written c = search (rules, may_write-take)
@@ -47,5 +47,6 @@ loop-rest-preserved c =
     })
 
 pub returns : goal.returns
+unfolding AreLengths
 returns c =
-    rw append-nil at (c.loop-rest.invariant.lengths [] (rw (nil_from_length _ (eqb-true _ 0 (sym c.is_empty.ensures ∙ c.loop-rest-test.false))) (lengths-none c.args.version c.args.level c.args.rule c.args.interpretation)))
+    rw append-nil at (c.loop-rest.invariant.lengths [] (search (rules, nil_from_length, eqb-true)))

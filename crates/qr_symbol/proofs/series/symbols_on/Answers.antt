@@ -1,9 +1,8 @@
-use Rattle.std.proofs.lemmas.Grind.{common_steps}
-use Rattle.std.proofs.Common.{◌≡◌, get_or, [], ◌∷◌, drop, length, ◌∙◌, ap, length-append, arith}
+use Rattle.qr_symbol.specs.{Steps.Series.parts_of, Series.AreSymbolsFrom}
+use Rattle.std.proofs.{lemmas.Grind.common_steps, Common.{rules, ◌≡◌, get_or, [], ◌∷◌, drop, length, ◌∙◌, ap, length-append, arith}}
 use Rattle.std.proofs.lemmas.{List.{append-nil, drop_all, length-drop}, Result.err_from_is_err_and}
 use Rattle.qr_bits.proofs.Facts.{may_write-drop, may_write-take}
-use Rattle.qr_symbol.proofs.lemmas.encoding.SymbolMakingLemmas.{behind-header}
-use Rattle.qr_symbol.proofs.lemmas.series.PartLemmas.{lengths-at, symbols-more, symbols-none}
+use Rattle.qr_symbol.proofs.lemmas.{encoding.SymbolMakingLemmas.behind-header, series.PartLemmas.{lengths-at, symbols-more}}
 use Rattle.qr_symbol.proofs.series.symbols_on.Goals as goal
 
 pub split_at-requires : goal.split_at-requires
@@ -23,7 +22,6 @@ loop-len-preserved c =
     let l = c.args.canvas.now.level in let rest = c.loop-len.rest.now in
     let ns = c.args.lengths.now in let i = c.loop-len.len-index in
     let inv = c.loop-len.invariant in
-    let next = lengths-at c.args.canvas.now.version l c.args.rule c.args.interpretation _ ns i c.loop-len-test.true inv.rest in
     let s = c.in_ok-symbol.symbol in
     let of-segments = rw (inv.version, inv.level, c.len.ensures, inv.count, c.parity-parity.ensures) at c.in_ok-symbol.ensures.made in
     let made = rw c.split_at.ensures.front at (of-segments c.args.rule c.split_at.result.0.now c.in_ok-segmented.ensures.ok) in
@@ -31,17 +29,18 @@ loop-len-preserved c =
       version = c.symbol_on.ensures.kept_version ∙ inv.version;
       level = c.symbol_on.ensures.kept_level ∙ inv.level;
       short = omega (arith, inv.short);
-      may = may_write-drop c.args.interpretation (get_or ns i 0) rest inv.may;
+      may = search (rules, may_write-drop);
       count = omega (arith, ap length c.in_ok-push.ensures.items, length-append c.loop-len.symbols.items (s ∷ []));
-      rest = next.1;
+      rest = (lengths-at c.args.canvas.now.version l c.args.rule c.args.interpretation _ ns i c.loop-len-test.true inv.rest).1;
       made = symbols-more c.args.canvas.now.version l c.args.rule c.args.interpretation _ _ i _ ns _ _ s c.loop-len-test.true made inv.made;
     })
 
 pub returns : goal.returns
+unfolding AreSymbolsFrom parts_of
 returns c =
     let ns = c.args.lengths.now in
     let none : drop c.loop-len.len-index ns ≡ [] = drop_all _ ns c.loop-len-test.false in
-    let all = c.loop-len.invariant.made [] (rw none (symbols-none _ _ _ _ _ _ _ _)) in rw append-nil at all
+    let all = c.loop-len.invariant.made [] (search arith) in rw append-nil at all
 
 pub returns-in_err-symbol : goal.returns-in_err-symbol
 returns-in_err-symbol c = grind (arith, common_steps, err_from_is_err_and)

@@ -1,12 +1,12 @@
-use Rattle.std.proofs.lemmas.Grind.{common_steps}
-use Rattle.std.proofs.Common.{rules, ◌≡◌, ◌≤◌, Option, Some, ℕ, inl, inr, length, refl, sym, ap, ◌∙◌, ◌+◌, arith}
+use Rattle.std.proofs.{lemmas.Grind.common_steps, Common.{rules, ◌≡◌, ◌≤◌, Option, Some, ℕ, inl, inr, length, refl, sym, ap, ◌∙◌, ◌+◌, ◌-◌, ◌<◌, arith}}
 use Rattle.{std.{proofs.lemmas.{Bool.{cases_lt, eqb-false, eqb-true}, List.nil_from_length, Result.err_from_is_err_and}, specs.Option.SomeIff}, qr_layout.specs.declared.version.Version.Version}
 use Rattle.qr_symbol.proofs.lemmas.fault.ExactLemmas.{empty-has-version, empty-long, empty-short, exactly, long-has-no-version, refused-some}
-use Rattle.qr_bits.{proofs.Facts.{least-most, least_fits}, specs.{Interpretation.interpretation_bits, Padding.capacity_of, Segmentation.bits}}
-use Rattle.qr_symbol.proofs.lemmas.version_choice.FitLemmas.{FitNone, HaveSameWidths, LackRoom, segmentation-same, version-found, none-fits}
+use Rattle.qr_bits.{proofs.Facts.{capacity-26, capacity-least, capacity-nine, fitting-medium, least-most, least_fits}, specs.{Interpretation.interpretation_bits, Padding.capacity_of, Segmentation.bits}}
+use Rattle.qr_symbol.proofs.lemmas.version_choice.FitLemmas.{FitNone, HaveSameWidths, LackRoom, interpretation-most, segmentation-same, version-found, none-fits}
 use Rattle.qr_symbol.specs.VersionChoice.{IsVersion}
 use Rattle.qr_symbol.proofs.version_choice.least_fit.Goals as goal
-use Rattle.qr_symbol.proofs.version_choice.least_fit.Goals.{in-1-to-9, in-10-to-26, in_default, in_default-2, else-loop-number-test, then-loop-number-test+else-bits-capacity+else-number-last, After-segments, After-new-in-loop-last, Then-bits-capacity}
+use Rattle.qr_symbol.proofs.version_choice.least_fit.Goals.{then-input-gt-MEDIUM_BYTES, else-input-gt-MEDIUM_BYTES+then-matches, else-input-gt-MEDIUM_BYTES+else-matches+then-bits-capacity_at, else-input-gt-MEDIUM_BYTES+else-matches+else-bits-capacity_at+then-bits-capacity_at-2, else-input-gt-MEDIUM_BYTES+else-matches+else-bits-capacity_at+else-bits-capacity_at-2}
+use Rattle.qr_symbol.proofs.version_choice.least_fit.Goals.{in-1-to-9, in-10-to-26, in_default-number, in_default-number-2, else-loop-number-test, then-loop-number-test+else-bits-capacity+else-number-last, After-segments, After-new-in-loop-last, Then-bits-capacity}
 
 -- a version that is made of a number has this number
 is-number : {o : Option Version} {v n : ℕ} → o ≡ Some v → SomeIff o ((1 ≤ n) × (n ≤ 40)) n → v ≡ n
@@ -17,7 +17,19 @@ loop-last-init c =
     let e = is-number c.unwrap-first.ensures c.new.ensures in
     let least = c.number.ensures.least in record {
       from = omega arith;
-      none = λ v a b fits. c.first_for-start.ensures.none v (omega arith) (omega arith) fits;
+      none = λ v a b fits.
+          let l = c.args.level in let i = c.args.interpretation in
+          let one : 1 ≤ v = omega arith in
+          let below : v < c.if-input-gt-MEDIUM_BYTES.start = omega arith in
+          elim c.if-input-gt-MEDIUM_BYTES.branch [
+            | then-input-gt-MEDIUM_BYTES w ↦ (let few = fits.2 in omega (arith, w.start-is, w.if-input-gt-MEDIUM_BYTES.true, fitting-medium i v l _ _ one (omega (arith, w.start-is)) (fits.0, fits.1, omega arith)))
+            | else-input-gt-MEDIUM_BYTES+then-matches w ↦ omega (arith, w.start-is)
+            | else-input-gt-MEDIUM_BYTES+else-matches+then-bits-capacity_at w ↦
+                omega (arith, w.start-is, w.if-bits-capacity_at.true, w.from.ensures, w.interpretation_bits.ensures.value, w.capacity_at.ensures, capacity-26 v l one (omega (arith, w.start-is)), capacity-least v l one (omega (arith, w.start-is)), interpretation-most i, w.least_bits.ensures.least i v (capacity_of v l - interpretation_bits i) c.args.rule fits)
+            | else-input-gt-MEDIUM_BYTES+else-matches+else-bits-capacity_at+then-bits-capacity_at-2 w ↦
+                omega (arith, w.start-is, w.if-bits-capacity_at-2.true, w.from.ensures, w.interpretation_bits.ensures.value, w.capacity_at-else-bits-capacity_at.ensures, capacity-nine v l one (omega (arith, w.start-is)), capacity-least v l one (omega (arith, w.start-is)), interpretation-most i, w.least_bits.ensures.least i v (capacity_of v l - interpretation_bits i) c.args.rule fits)
+            | else-input-gt-MEDIUM_BYTES+else-matches+else-bits-capacity_at+else-bits-capacity_at-2 w ↦ omega (arith, w.start-is)
+          ];
     }
 
 pub needed_bits-bits-requires : goal.needed_bits-bits-requires
@@ -34,7 +46,7 @@ pub returns-then-input-gt-SYMBOL_BYTES_MAX : goal.returns-then-input-gt-SYMBOL_B
 returns-then-input-gt-SYMBOL_BYTES_MAX c = let long = c.if-input-gt-SYMBOL_BYTES_MAX.true in record {
   fit = tt;
   refused = record {
-    empty = (λ e. absurd (empty-long (sym e)), λ none. absurd (empty-short _ none long));
+    empty = search (rules, empty-long, empty-short);
     too_long = exactly _ _ _ _ (λ e. cc) (λ _. long-has-no-version _ _ _ _ c.args.smallest (omega arith) long) tt (inl (λ _. refl));
     long = λ _. refl;
     fault = inr (inl refl);
@@ -49,8 +61,8 @@ ranged : (c : After-segments) → (c.loop-last.first ≤ c.if-number-lt1.last) �
 ranged c = let e = c.number-in-loop-last.ensures in elim c.if-number-lt1.branch [
   | in-1-to-9 w ↦ rw w.last-is (omega (arith, w.in-1-to-9, e.value), omega arith, λ v k l m. search rules)
   | in-10-to-26 w ↦ rw w.last-is (omega (arith, w.in-10-to-26, e.value), omega arith, λ v k l m. search rules)
-  | in_default w ↦ rw w.last-is (omega (arith, e.most, e.value), omega arith, λ v k l m. search rules)
-  | in_default-2 w ↦ rw w.last-is (omega (arith, e.most, e.value), omega arith, λ v k l m. search rules)
+  | in_default-number w ↦ search rules
+  | in_default-number-2 w ↦ rw w.last-is (omega (arith, e.most, e.value), omega arith, λ v k l m. search rules)
 ]
 
 -- all versions of the range have too little room
@@ -108,12 +120,12 @@ returns-in-None-clause-refused c =
 
 pub loop-last-preserved : goal.loop-last-preserved
 loop-last-preserved c = record {
-  from = let start = c.loop-last.invariant.from in omega (arith, (ranged (goal.at.loop-last-preserved c).After-segments).0);
-  none = λ v a b. none (goal.at.loop-last-preserved c).After-new-in-loop-last v a (omega arith);
+  from = let start = c.loop-last.invariant.from in omega (arith, is-number c.in-Some.is c.new-in-loop-last.ensures, (ranged (goal.at.loop-last-preserved c).After-segments).0);
+  none = λ v a b. none (goal.at.loop-last-preserved c).After-new-in-loop-last v a (omega (arith, is-number c.in-Some.is c.new-in-loop-last.ensures));
 }
 
 pub loop-last-preserved-in-Some : goal.loop-last-preserved-in-Some
 loop-last-preserved-in-Some c = record {
-  from = let start = c.loop-last.invariant.from in omega (arith, (ranged (goal.at.loop-last-preserved-in-Some c).After-segments).0);
-  none = λ v a b. none (goal.at.loop-last-preserved-in-Some c).After-new-in-loop-last v a (omega arith);
+  from = let start = c.loop-last.invariant.from in omega (arith, is-number c.in-Some.is c.new-in-loop-last.ensures, (ranged (goal.at.loop-last-preserved-in-Some c).After-segments).0);
+  none = λ v a b. none (goal.at.loop-last-preserved-in-Some c).After-new-in-loop-last v a (omega (arith, is-number c.in-Some.is c.new-in-loop-last.ensures));
 }

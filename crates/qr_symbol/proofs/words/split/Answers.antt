@@ -1,4 +1,4 @@
-use Rattle.std.proofs.Common.{◌/◌, ◌-◌, ◌*◌, ◌^◌, true, false, arith}
+use Rattle.std.proofs.Common.{rules, ◌/◌, ◌-◌, ◌*◌, ◌^◌, true, false, arith}
 use Rattle.qr_symbol.proofs.lemmas.words.SplitLemmas.{columns-bits, downward-bit, halves, upward-bit}
 use Rattle.qr_symbol.proofs.words.split.Goals as goal
 
@@ -17,6 +17,6 @@ returns-else-upward c =
     let both = halves n c.unshuffled-halves-else-upward.result (c.reversed.result / 2 ^ (64 - 2 * k)) k false c.requires.few (omega arith) c.unshuffled-halves-else-upward.ensures
     (λ i. downward-bit n c.reversed.result k i (omega (arith, c.ranges.bits.fits)) c.requires.few (omega arith) c.reversed.ensures) in
     rw c.if-upward.false (record {
-      right = λ i. (columns-bits n k i false _ _ c.requires.few (both i).0 (both i).1).0;
-      left = λ i. (columns-bits n k i false _ _ c.requires.few (both i).0 (both i).1).1;
+      right = search (rules, columns-bits);
+      left = search (rules, columns-bits);
     })

@@ -1,5 +1,4 @@
-use Rattle.std.proofs.Common.{rules}
-use Rattle.std.proofs.Common.{get_or}
+use Rattle.std.proofs.Common.{rules, get_or}
 use Rattle.qr_matrix.proofs.lemmas.bit_row.PlaceLemmas.{has-place, has_bit-shr, words-small}
 use Rattle.qr_matrix.proofs.bit_row.BitRow.bits_from.Goals as goal
 

@@ -1,5 +1,4 @@
-use Rattle.std.proofs.Common.{rules}
-use Rattle.std.proofs.{Common.{ℕ, ◌%◌, ap, eqb, false, get_or, w64, arith}, lemmas.Nat.Bits.{bit_at_clear_same, bit_at_clear_other}}
+use Rattle.std.proofs.{Common.{rules, ℕ, ◌%◌, ap, eqb, false, get_or, w64, arith}, lemmas.Nat.Bits.{bit_at_clear_same, bit_at_clear_other}}
 use Rattle.qr_matrix.proofs.lemmas.bit_row.PlaceLemmas.{and-small, put-step, set-words, words-small}
 use Rattle.qr_matrix.proofs.bit_row.BitRow.clear_in.Goals as goal
 

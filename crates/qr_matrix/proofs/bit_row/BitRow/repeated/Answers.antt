@@ -1,11 +1,10 @@
-use Rattle.std.proofs.{Common.{ap, ◌∙◌, ◌*◌, ◌/◌, ◌%◌, ◌^◌, refl, arith}, lemmas.Nat.or_lt}
-use Rattle.qr_matrix.specs.BitRow.{has, has_bit, bit_row_number}
-use Rattle.qr_matrix.proofs.lemmas.bit_row.RepeatLemmas.{repeats, repeated-bit}
+use Rattle.std.proofs.{Common.{rules, ◌*◌, ◌/◌, ◌%◌, ◌^◌, refl, arith}, lemmas.Nat.or_lt}
+use Rattle.qr_matrix.{specs.BitRow.{has, bit_row_number}, proofs.lemmas.bit_row.RepeatLemmas.{repeats, repeated-bit}}
 use Rattle.qr_matrix.proofs.bit_row.BitRow.repeated.Goals as goal
 
 pub returns : goal.returns
 unfolding has bit_row_number
-returns c = λ k l. ap (λ z. has_bit (repeats z) k) c.from-pattern.ensures ∙ repeated-bit c.args.pattern k c.requires l
+returns c = search (rules, repeats, repeated-bit)
 
 pub invariant_of-result : goal.invariant_of-result
 invariant_of-result c =

@@ -1,8 +1,5 @@
-use Rattle.std.proofs.Common.{rules}
-use Rattle.std.proofs.Common.{◌≡◌, ◌+◌, ◌-◌, ◌<◌, ℕ, Bool, true, false, ◌&&◌, leb, ltb, inl, inr, arith}
-use Rattle.std.proofs.lemmas.{Bool.cases_lt, Bool.Decides.nat_tests}
-use Rattle.qr_matrix.specs.BitRow.{has_bit}
-use Rattle.qr_matrix.proofs.lemmas.bit_row.SetLemmas.{unset-above}
+use Rattle.std.proofs.{Common.{rules, ◌≡◌, ◌+◌, ◌-◌, ◌<◌, ℕ, Bool, true, false, ◌&&◌, leb, ltb, inl, inr, arith}, lemmas.Bool.{cases_lt, Decides.nat_tests}}
+use Rattle.qr_matrix.{specs.BitRow.has_bit, proofs.lemmas.bit_row.SetLemmas.unset-above}
 use Rattle.qr_matrix.proofs.bit_row.BitRow.set_four.Goals as goal
 
 pub set_bits-requires-clause-fits : goal.set_bits-requires-clause-fits
@@ -11,13 +8,10 @@ set_bits-requires-clause-fits c = λ k l. unset-above c.from.result 4 k (omega (
 -- the bits of a number below 16 are the first four
 four : (n i b : ℕ) → n < 16 → (leb i b && has_bit n (b - i)) ≡ (leb i b && ltb b (i + 4) && has_bit n (b - i))
 four n i b l = elim (cases_lt (b - i) 4) [
-  | inl k ↦ kept (leb i b) (ltb b (i + 4)) (has_bit n (b - i)) (grind (arith, nat_tests))
+  | inl k ↦ search (rules, nat_tests)
   | inr k ↦ (let e = unset-above n 4 (b - i) l k in none (leb i b) (ltb b (i + 4)) (has_bit n (b - i)) e)
 ]
   where
-    kept : (a d e : Bool) → d ≡ true → (a && e) ≡ (a && d && e)
-    kept a d e h = grind (arith, nat_tests)
-
     none : (a d e : Bool) → e ≡ false → (a && e) ≡ (a && d && e)
     none a d e h = grind (arith, nat_tests)
 

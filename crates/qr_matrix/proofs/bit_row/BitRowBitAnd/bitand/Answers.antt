@@ -1,4 +1,5 @@
-use Rattle.{std.proofs.Common.{get_or, ap, ◌∙◌, arith}, qr_matrix.specs.BitRow.{has, has_bit, bit_row_number}}
+use Rattle.std.proofs.Common.{rules}
+use Rattle.{std.proofs.Common.{get_or, arith}, qr_matrix.specs.BitRow.{has, bit_row_number}}
 use Rattle.qr_matrix.proofs.lemmas.bit_row.{WordLemmas.three-and, PlaceLemmas.has_bit-and}
 use Rattle.qr_matrix.proofs.bit_row.BitRowBitAnd.bitand.Goals as goal
 
@@ -8,4 +9,4 @@ returns c =
     let a = c.self.inside.0 in
     let b = c.rhs.inside.0 in
     let e = three-and (get_or a 0 0) (get_or a 1 0) (get_or a 2 0) (get_or b 0 0) (get_or b 1 0) (get_or b 2 0) (omega arith) (omega arith) (omega arith) (omega arith) in
-    rw (← c.self.view_is, ← c.rhs.view_is) (λ k. ap (λ z. has_bit z k) e ∙ has_bit-and (bit_row_number a) (bit_row_number b) k)
+    search (rules, has_bit-and)

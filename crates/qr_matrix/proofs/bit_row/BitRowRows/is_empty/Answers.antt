@@ -1,7 +1,5 @@
-use Rattle.std.proofs.Common.{◌+◌, ◌*◌, ◌^◌, bit_or, get_or, ◌∙◌, arith}
-use Rattle.std.proofs.lemmas.Bool.Decides.{nat_tests}
-use Rattle.qr_matrix.specs.BitRow.{has, has_bit, bit_row_number}
-use Rattle.qr_matrix.proofs.lemmas.{runs.ColumnLemmas.has-nothing, matrix_pair.PairLemmas.or-zero}
+use Rattle.std.proofs.{Common.{◌+◌, ◌*◌, ◌^◌, bit_or, get_or, ◌∙◌, arith}, lemmas.Bool.Decides.nat_tests}
+use Rattle.qr_matrix.{specs.BitRow.{has, has_bit, bit_row_number}, proofs.lemmas.{runs.ColumnLemmas.has-nothing, matrix_pair.PairLemmas.or-zero}}
 use Rattle.qr_matrix.proofs.bit_row.BitRowRows.is_empty.Goals as goal
 
 pub returns : goal.returns

@@ -1,5 +1,5 @@
-use Rattle.std.proofs.Common.{◌-◌, ◌*◌, ◌/◌, ◌%◌, ◌^◌, get_or, refl, ap, ◌∙◌, arith}
-use Rattle.{std.proofs.lemmas.Nat.or_lt, qr_matrix.specs.BitRow.{has, has_bit, bit_row_number}}
+use Rattle.std.proofs.Common.{rules, ◌-◌, ◌*◌, ◌/◌, ◌%◌, ◌^◌, get_or, refl, arith}
+use Rattle.{std.proofs.lemmas.Nat.or_lt, qr_matrix.specs.BitRow.{has, bit_row_number}}
 use Rattle.qr_matrix.proofs.lemmas.bit_row.{WordLemmas.three-down, PlaceLemmas.has_bit-shr}
 use Rattle.qr_matrix.proofs.bit_row.BitRowRows.shifted_left.Goals as goal
 
@@ -9,7 +9,7 @@ returns c =
     let a = c.self.inside.0 in
     let k = c.args.steps in
     let e = three-down (get_or a 0 0) (get_or a 1 0) (get_or a 2 0) k (omega arith) (omega arith) (omega arith) in
-    rw (← c.self.view_is) (λ _ i. ap (λ z. has_bit z i) e ∙ has_bit-shr (bit_row_number a) k i)
+    search (rules, has_bit-shr)
 
 pub invariant_of-result : goal.invariant_of-result
 invariant_of-result c =

@@ -1,5 +1,5 @@
-use Rattle.std.proofs.Common.{◌*◌, ◌/◌, ◌%◌, ◌^◌, get_or, refl, ap, ◌∙◌, arith}
-use Rattle.{std.proofs.lemmas.Nat.or_lt, qr_matrix.specs.BitRow.{has, has_bit, bit_row_number}}
+use Rattle.std.proofs.Common.{rules, ◌*◌, ◌/◌, ◌%◌, ◌^◌, get_or, refl, arith}
+use Rattle.{std.proofs.lemmas.Nat.or_lt, qr_matrix.specs.BitRow.{has, bit_row_number}}
 use Rattle.qr_matrix.proofs.lemmas.bit_row.{WordLemmas.three-up, PlaceLemmas.has_bit-up}
 use Rattle.qr_matrix.proofs.bit_row.BitRowRows.shifted_right.Goals as goal
 
@@ -8,7 +8,7 @@ unfolding has bit_row_number
 returns c =
     let a = c.self.inside.0 in
     let e = three-up (get_or a 0 0) (get_or a 1 0) (get_or a 2 0) (omega arith) (omega arith) (omega arith) in
-    rw (← c.self.view_is) (λ _ k h. ap (λ z. has_bit z k) e ∙ has_bit-up (bit_row_number a) k h)
+    search (rules, has_bit-up)
 
 pub invariant_of-result : goal.invariant_of-result
 invariant_of-result c =

@@ -1,23 +1,14 @@
-use Rattle.std.proofs.Common.{rules}
-use Rattle.std.proofs.{Common.{◌≡◌, ◌≤◌, ℕ, Bool, false, ◌&&◌, cond, leb, ltb, ap, ◌∙◌, arith}, lemmas.Bool.Decides.nat_tests}
-use Rattle.qr_matrix.specs.{Grid.{colour}, BitRow.has}
-use Rattle.qr_matrix.proofs.lemmas.matrix.MatrixLemmas.{columns-are, filled-dark, filled-light, rectangle-none, rectangle-row, view-square, with_row-same}
+use Rattle.qr_matrix.proofs.lemmas.matrix.{GridLemmas.{colour-square, square-same}, MatrixLemmas.{rectangle-row, with_row-same}}
+use Rattle.std.proofs.{Common.{rules, ◌≡◌, ◌≤◌, ℕ, Bool, false, ◌&&◌, cond, leb, ltb, ap, ◌∙◌, arith}, lemmas.Bool.Decides.nat_tests}
+use Rattle.qr_matrix.specs.{Grid.colour, BitRow.has}
 use Rattle.qr_matrix.proofs.matrix.Matrix.fill.Goals as goal
-use Rattle.qr_matrix.proofs.matrix.Matrix.fill.Goals.{then-dark, else-dark}
 
 pub loop-row-init : goal.loop-row-init
-loop-row-init c = search (rules, nat_tests, rectangle-none, view-square)
+loop-row-init c = search (rules, nat_tests, square-same, colour-square)
 
 -- bit k of the row that is written
 row-filled : (c : goal.After-set_bit_row-arg-1) (k : ℕ) → has c.if-dark.filled k ≡ cond (leb c.args.left k && ltb k c.args.right) c.args.dark (has c.bit_row-bits.result k)
-row-filled c k =
-    let bit = has c.bit_row-bits.result k in
-    let columns = has c.and_not-columns.result k in
-    let e = columns-are c.args.left c.args.right k columns (has c.below.result k) (has c.below-2.result k) (c.and_not-columns.ensures false k) (c.below.ensures k) (c.below-2.ensures k) in
-    elim c.if-dark.branch [
-      | then-dark w ↦ cc (filled-dark bit columns, w.bitor-filled.ensures k, w.filled-is, w.if-dark.true, e)
-      | else-dark w ↦ cc (filled-light bit columns, w.and_not-filled.ensures false k, w.filled-is, w.if-dark.false, e)
-    ]
+row-filled c k = search (arith, nat_tests)
 
 -- a bit that is outside the square before and after
 outside : (n l r k : ℕ) (d x : Bool) → r ≤ n → n ≤ k → x ≡ false → cond (leb l k && ltb k r) d x ≡ false

@@ -1,7 +1,5 @@
-use Rattle.std.proofs.Common.{rules}
-use Rattle.std.proofs.{Common.{set, refl, ap, arith}, Math.ListN.length-set}
-use Rattle.qr_matrix.specs.{Grid.Grid, BitRow.has}
-use Rattle.qr_matrix.proofs.lemmas.matrix.MatrixLemmas.{line-set, line-inside, line-write}
+use Rattle.std.proofs.{Common.{rules, set, refl, ap, arith}, Math.ListN.length-set}
+use Rattle.qr_matrix.{specs.{Grid.Grid, BitRow.has}, proofs.lemmas.matrix.MatrixLemmas.{line-set, line-inside, line-write}}
 use Rattle.qr_matrix.proofs.matrix.Matrix.set_bit_row.Goals as goal
 
 pub index_mut-requires : goal.index_mut-requires

@@ -1,7 +1,8 @@
-use Rattle.std.proofs.{Common.{◌≡◌, ◌<◌, ℕ, Bool, false, true, ◌+◌, ◌*◌, ◌/◌, ◌%◌, ◌&&◌, ◌||◌, ◌∙◌, cond, eqb, ltb, get_or, [], length, sym, ap, inl, inr, refl, arith}, lemmas.Bool.{cases_lt, Decides.nat_tests}, Math.ListN.length-set, lemmas.List.get_or_read}
-use Rattle.qr_matrix.specs.{Grid.{Grid}, BitRow.{dark_in, has, has_bit}, Steps.bit_in}
-use Rattle.qr_matrix.proofs.lemmas.{matrix.{GridLemmas.square-same, MatrixLemmas.line-set}}
-use Rattle.qr_matrix.proofs.lemmas.matrix.TranspositionLemmas.{all-stages, mask-at, row-more, tile-bit, tile-past, tile-read, zero-at}
+use Rattle.std.proofs.Common.{rules}
+use Rattle.std.proofs.{Common.{◌≡◌, ◌<◌, ℕ, Bool, false, true, ◌+◌, ◌*◌, ◌/◌, ◌%◌, ◌&&◌, ◌||◌, ◌∙◌, cond, eqb, ltb, get_or, [], length, sym, ap, refl, arith}, lemmas.{Bool.Decides.nat_tests, List.{get_or_read, get_or-set_other, get_or-set_same}}, Math.ListN.length-set}
+use Rattle.qr_matrix.specs.{Grid.{Grid, colour}, BitRow.{dark_in, has, has_bit}, Steps.bit_in}
+use Rattle.qr_matrix.proofs.lemmas.{matrix.{GridLemmas.square-same, MatrixLemmas.{line-set, row-read}}, bit_row.PlaceLemmas.words-small}
+use Rattle.qr_matrix.proofs.lemmas.matrix.TranspositionLemmas.{all-stages, mask-at, row-more, tile-read, word-read, zero-at}
 use Rattle.qr_matrix.proofs.matrix.Matrix.set_transposed.Goals as goal
 
 pub loop-line-init : goal.loop-line-init
@@ -39,6 +40,13 @@ exchange-requires-in-loop-word-5-clause-masks c = mask-at 0x5555555555555555 1 r
 one-more : (e p n q x b d y : Bool) → ((e && q) || (p && q)) ≡ (n && q) → (e ≡ true → x ≡ b) → (e ≡ true → d ≡ cond (p && q) b y) → cond e (cond q x d) (cond (p && q) b y) ≡ cond (n && q) b y
 one-more e p n q x b d y h i j = grind (arith, nat_tests)
 
+-- a word of the tile has the colours of a row of the other square
+word-colours : (c : goal.After-tile-1) (k : ℕ) → k < 64 → has_bit (get_or c.tile.inside.0 c.loop-band.band 0) k ≡ colour c.args.other.now (64 * c.loop-word.word + c.loop-line.line) (64 * c.loop-band.band + k)
+word-colours c k l = search (rules, word-read, words-small, row-read)
+
+pub loop-line-preserved : goal.loop-line-preserved
+loop-line-preserved c = search (rules, length-set, get_or-set_same, get_or-set_other, word-colours)
+
 pub loop-row-preserved : goal.loop-row-preserved
 unfolding bit_in dark_in
 loop-row-preserved c =
@@ -53,7 +61,7 @@ loop-row-preserved c =
     let e = ap (λ (g : Grid). g.side) c.self.view_is in
     let new = c.put_word.new.self in
     let few : row < 64 = omega (arith, c.min-row-end.ensures, c.loop-row-test.true) in
-    let here : at < length rows = omega (arith, i.long, c.loop-word.invariant.same, c.min-row-end.ensures, c.loop-row-test.true) in
+    let here : at < length rows = search rules in
     let read : old ≡ get_or rows at [] = get_or_read rows at old here c.index_mut.ensures.value [] in
     record {
       same = i.same;
@@ -89,19 +97,13 @@ loop-word-preserved c =
     let tile = c.exchange-in-loop-word-5.new.tile in
     let e = ap (λ (g : Grid). g.side) c.self.view_is in
     let turned = all-stages (bit_in c.loop-line.tile) _ _ _ _ _ (bit_in tile) c.exchange.ensures c.exchange-in-loop-word.ensures c.exchange-in-loop-word-2.ensures c.exchange-in-loop-word-3.ensures c.exchange-in-loop-word-4.ensures c.exchange-in-loop-word-5.ensures in
-    let read = tile-read word band c.loop-line.line other.side c.loop-line.tile other (omega (arith, c.requires, c.words_for.ensures.least)) (omega (arith, c.requires, c.min-line-end.ensures, c.loop-line-test.false)) c.loop-line.invariant.read c.loop-line.invariant.rest in
+    let read = tile-read word band c.loop-line.line other.side c.loop-line.tile other (omega (arith, c.requires, c.from-side.ensures, c.div_ceil-words.ensures)) (omega (arith, c.requires, c.min-line-end.ensures, c.loop-line-test.false)) c.loop-line.invariant.read c.loop-line.invariant.rest in
     record {
       same = w.same ∙ i.same;
       long = w.long ∙ i.same;
-      past = λ r k l. w.written r k ∙ outside _ k word _ _ (λ q. tile-past band word (r % 64) (k % 64) other.side c.loop-line.tile tile other turned read (omega arith) (omega arith) (omega (arith, c.requires))) (i.past r k l);
-      done = λ r k l m q. w.written r k ∙ (elsewhere r k band word _ _ _ (λ e. absurd (omega arith)) ∙ i.done r k l m q);
-      here = λ r k l m e f. w.written r k ∙ elim (cases_lt (k / 64) word) [
-        | inl q ↦ elsewhere r k band word _ _ _ (λ _. q) ∙ i.here r k l m e q
-        | inr q ↦
-            let t : ltb r (64 * band + c.loop-row.row) ≡ true = grind (arith, nat_tests, c.min-row-end.ensures, c.loop-row-test.false, i.same) in
-            let u : (eqb (r / 64) band && eqb (k / 64) word) ≡ true = grind (arith, nat_tests) in
-            inside r k band word _ _ _ e (omega arith) t ∙ tile-bit band word r k other.side c.loop-line.tile tile other turned read (omega (arith, c.requires)) u
-      ];
+      past = search (rules, outside, nat_tests);
+      done = search rules;
+      here = search (arith, elsewhere, nat_tests, inside);
     }
 
 pub returns : goal.returns

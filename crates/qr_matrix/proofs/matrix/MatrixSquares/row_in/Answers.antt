@@ -1,6 +1,5 @@
-use Rattle.std.proofs.Common.{false, ◌*◌, ◌&&◌, ap, ◌∙◌, arith}
-use Rattle.qr_matrix.specs.BitRow.{has}
-use Rattle.qr_matrix.proofs.lemmas.{bit_row.BoolLemmas.false-and, matrix.MatrixLemmas.words-kept}
+use Rattle.std.proofs.Common.{rules, false, ◌*◌, ◌&&◌, ap, ◌∙◌, arith}
+use Rattle.qr_matrix.{specs.BitRow.has, proofs.lemmas.{bit_row.BoolLemmas.false-and, matrix.MatrixLemmas.words-kept}}
 use Rattle.qr_matrix.proofs.matrix.MatrixSquares.row_in.Goals as goal
 
 pub returns-clause-colours : goal.returns-clause-colours
@@ -10,4 +9,4 @@ returns-clause-colours c = λ _ k.
     ∙ (words-kept c.args.self.now.side (64 * c.args.words) k row (omega (arith, c.requires.width.most)) (λ l. c.bit_row.ensures.past k l) ∙ c.bit_row.ensures.colours k))
 
 pub returns-clause-past : goal.returns-clause-past
-returns-clause-past c = λ _ k l. c.bitand.ensures k ∙ false-and (has c.bit_row.result k) (has c.below_in.result k) (c.bit_row.ensures.past k l)
+returns-clause-past c = search (rules, false-and)

@@ -1,7 +1,7 @@
-use Rattle.std.proofs.Common.{rules}
+use Rattle.std.proofs.{lemmas.List.map-set, Common.rules}
 use Rattle.std.proofs.{Common.{◌≡◌, ◌∙◌, ℕ, Bool, ap, set, cond, ltb, leb, ◌+◌, ◌-◌, ◌&&◌, ◌≤◌, false, arith}, lemmas.Bool.Decides.nat_tests, Math.ListN.length-set}
-use Rattle.qr_matrix.specs.{Grid.{one_of}, BitRow.{has, has_bit, dark_in}, Steps.{lane, lanes}}
-use Rattle.qr_matrix.proofs.lemmas.{matrix.MatrixLemmas.{line-set, line-inside, line-write, row-of-square, row-past}, matrix_pair.PairLemmas.{lane-read, lanes-long, lanes-set, one-view, side-of, square-of}}
+use Rattle.qr_matrix.specs.{Grid.one_of, BitRow.{has, has_bit}, Steps.{lane, lanes}}
+use Rattle.qr_matrix.proofs.lemmas.{matrix.MatrixLemmas.{line-set, line-inside, line-write, row-of-square, row-past}, matrix_pair.PairLemmas.{lane-read, lanes-long, one-view, side-of, square-of}}
 use Rattle.qr_matrix.proofs.matrix_pair.MatrixPair.set_columns.Goals as goal
 
 pub put_bits-requires-clause-index_in : goal.put_bits-requires-clause-index_in
@@ -23,7 +23,7 @@ invariant_of-self c =
       c.self.invariant.1,
       omega (arith, length-set m.rows.items i p, c.self.invariant.2),
       λ s. line-inside m.side a.row (lanes m.rows.items s) (lanes (set m.rows.items i p) s) (lane p s)
-          (λ r k. ap (λ z. dark_in z r k) (lanes-set m.rows.items i p s) ∙ line-set (lanes m.rows.items s) a.row i (lane p s) c.from.ensures (omega (arith, lanes-long m.rows.items s, c.self.invariant.2)) r k)
+          (search (rules, line-set, lanes-long, map-set))
           (λ k l. past m.side a.col a.count k _ (has (lane old s) k) (has (lane p s) k) (omega arith) l (c.put_bits.ensures s k)
           (row-past m.side a.row i (lanes m.rows.items s) (lane old s) c.from.ensures (omega (arith, lanes-long m.rows.items s, c.self.invariant.2)) (c.self.invariant.3 s) (lane-read m.rows.items i old s (omega (arith, c.from.ensures, c.self.invariant.2)) c.index_mut.ensures.value) k l))
           (c.self.invariant.3 s),
@@ -36,6 +36,6 @@ returns c = λ s.
     let e = side-of m.side m.rows.items a.self.now c.self.view_is false in
     one-view m.side (set m.rows.items i p) s
     ∙ line-write m.side a.row (lanes m.rows.items s) (lanes (set m.rows.items i p) s) (one_of a.self.now s) (lane p s) _ (square-of m.side m.rows.items a.self.now c.self.view_is s)
-    (λ r k. ap (λ z. dark_in z r k) (lanes-set m.rows.items i p s) ∙ line-set (lanes m.rows.items s) a.row i (lane p s) c.from.ensures (omega (arith, lanes-long m.rows.items s, c.self.invariant.2)) r k)
+    (search (rules, line-set, lanes-long, map-set))
     (λ k l. c.put_bits.ensures s k ∙ ap (cond (leb a.col k && ltb k (a.col + a.count)) (has_bit (cond s a.bits.1 a.bits.0) (k - a.col)))
     (row-of-square m.side a.row i (lanes m.rows.items s) (lane old s) (one_of a.self.now s) (square-of m.side m.rows.items a.self.now c.self.view_is s) c.from.ensures (omega (arith, lanes-long m.rows.items s, c.self.invariant.2)) (omega arith) (c.self.invariant.3 s) (lane-read m.rows.items i old s (omega (arith, c.from.ensures, c.self.invariant.2)) c.index_mut.ensures.value) k))

@@ -1,8 +1,6 @@
-use Rattle.std.proofs.{Common.{◌≡◌, ℕ, ◌+◌, ◌*◌, ◌-◌, List, length, get_or, sym, ◌∙◌, ap, subst, arith}, lemmas.List.length-set}
-use Rattle.std.proofs.lemmas.Bool.{Decides.nat_tests}
-use Rattle.qr_symbol.specs.Interleaving.{block_count, start_of}
+use Rattle.std.proofs.{Common.{rules, ◌≡◌, ℕ, ◌+◌, ◌*◌, ◌-◌, List, get_or, sym, ◌∙◌, ap, subst, arith}, lemmas.{List.length-set, Bool.Decides.nat_tests}}
+use Rattle.qr_symbol.{specs.Interleaving.{block_count, start_of}, proofs.interleaving.BlockSizes.scatter.Goals.{then-block-short, else-block-short}}
 use Rattle.qr_symbol.proofs.lemmas.interleaving.{OrderLemmas.{IsPlaced, placed-block, placed-end, placed-interleaved}, PositionLemmas.len-most, RankLemmas.{in-row, in-last-row}}
-use Rattle.qr_symbol.proofs.interleaving.BlockSizes.scatter.Goals.{then-block-short, else-block-short}
 use Rattle.qr_symbol.proofs.interleaving.BlockSizes.scatter.Goals as goal
 
 pub loop-index-preserved : goal.loop-index-preserved
@@ -19,10 +17,7 @@ loop-block-preserved c =
     let sizes = c.args.self in let b = c.loop-block.block in let h = c.loop-index.invariant in
     let e : c.loop-index.index ≡ sizes.short_len = omega arith in
     let all = subst (λ (p : ℕ). IsPlaced sizes b p c.loop-index.interleaved c.args.codewords.now) e h.placed in record {
-      long = elim c.if-block-short.branch [
-        | then-block-short w ↦ ap length w.interleaved-is ∙ (length-set c.loop-index.interleaved _ _ ∙ h.long)
-        | else-block-short w ↦ ap length w.interleaved-is ∙ h.long
-      ];
+      long = search (rules, length-set);
       placed = elim c.if-block-short.branch [
         | then-block-short w ↦
             let v = in-last-row sizes b (omega arith) (omega arith) in

@@ -1,5 +1,4 @@
-use Rattle.std.proofs.lemmas.Grind.{common_steps}
-use Rattle.std.proofs.{Common.{◌≡◌, add-one, append-nil, arith}, Math.Nat.pow-suc}
+use Rattle.std.proofs.{lemmas.Grind.common_steps, Common.{◌≡◌, add-one, append-nil, arith}, Math.Nat.pow-suc}
 use Rattle.qr_bits.{specs.Bits.field, proofs.Facts.{bits_of-more, bool_byte-bit, field-more}}
 use Rattle.qr_symbol.proofs.lemmas.words.JoinLemmas.{added, push-made, pushed}
 use Rattle.qr_symbol.proofs.words.Collector.push_bit.Goals as goal

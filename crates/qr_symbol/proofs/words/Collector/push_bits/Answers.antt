@@ -1,7 +1,6 @@
-use Rattle.std.proofs.Common.{rules}
+use Rattle.std.proofs.{Common.{rules, ◌≡◌, ◌+◌, ◌*◌, ◌%◌, ◌^◌, arith}, Math.Nat.mod-lt, lemmas.Nat.pow_pos}
 use Rattle.qr_bits.{proofs.Facts.power-fits}
 use Rattle.qr_symbol.proofs.lemmas.words.JoinLemmas.{push-made, pushed, codewords-joined, codewords-small, joined-small, joined-whole}
-use Rattle.std.proofs.{Common.{◌≡◌, ◌+◌, ◌*◌, ◌%◌, ◌^◌, arith}, Math.Nat.mod-lt, lemmas.Nat.pow_pos}
 use Rattle.qr_symbol.proofs.words.Collector.push_bits.Goals.{After-from}
 use Rattle.qr_symbol.proofs.words.Collector.push_bits.Goals as goal
 
