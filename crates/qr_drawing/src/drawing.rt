@@ -6,7 +6,7 @@ ghost use Rattle.std.specs.Prelude.{◌≡◌, ◌≤◌, ◌<◌, ◌+◌, max,
 ghost use Rattle.std.specs.Io.KnownBytes.{Appends};
 ghost use Rattle.qr_devices.specs.Device.{AppendsBeginning, IsWrittenWithin, counted, is_write_fault, no_writes};
 ghost use Rattle.qr_drawing.specs.Drawing.{HaveOneSide, drawn};
-ghost use Rattle.qr_drawing.specs.Raster.{is_dark_at, raster_width};
+ghost use Rattle.qr_drawing.specs.Raster.{raster_width};
 
 use crate::pen::{DrawFault, PEN_SIZE, Pen, Piece, WRITE_MAX};
 use crate::svg::put_document;
@@ -70,23 +70,6 @@ impl Raster<'_> {
     {
         2 * u16::from(self.margin) + u16::from(self.matrix.side())
     }
-
-    // Says whether the module in row `y` and column `x` of the raster is dark. Every place outside the square is light,
-    // also those outside the raster.
-    #[tactic(auto, unfolding(crate::specs::Raster::is_dark_at))]
-    pub(crate) fn is_dark_at(&self, y: u16, x: u16) -> bool
-        ensures { result ≡ is_dark_at self.now.margin self.now.matrix.now y x }
-    {
-        let first = u16::from(self.margin);
-        let end = first + u16::from(self.matrix.side());
-        if y < first || y >= end {
-            return false;
-        }
-        if x < first || x >= end {
-            return false;
-        }
-        self.matrix.dark((y - first) as u8, (x - first) as u8)
-    }
 }
 
 /// Draws 1 to 16 symbols or other squares, all with the same side, each with a light margin of `margin` modules on all
@@ -138,5 +121,5 @@ pub fn draw<S: HasSquare, W: Sink>(
         Drawing::Svg => put_document(&mut pen, out, symbols, margin),
     };
     put?;
-    pen.empty(out)
+    pen.reserve(out, WRITE_MAX)
 }

@@ -105,6 +105,7 @@ pub(crate) struct Pen {
 
 // Offers `bytes` to the writer until it has accepted all of them. `interrupted` is the number of interrupted writes
 // before this call, and the result is their number after it. The label of the loop is for the prover.
+#[inline(never)]
 fn send<W: Sink>(out: &mut W, bytes: &[u8], interrupted: u16) -> Result<u16, DrawFault>
     requires { interrupted ≤ INTERRUPTIONS_MAX }
     ensures writes { MatchResult result
@@ -141,19 +142,8 @@ impl Pen {
     ghost use Rattle.std.specs.Prelude.{◌≡◌, ◌≤◌, ◌+◌, [], OnOk, length};
     ghost use Rattle.qr_drawing.specs.Steps.Pen.{Reserves};
 
-    /// Writes all bytes in the pen.
-    #[inline(never)]
-    pub(crate) fn empty<W: Sink>(&mut self, out: &mut W) -> Result<(), DrawFault>
-        ensures writes { Reserves (W.device out.old) (W.device out.new)
-            self.old self.new result }
-        ensures empty { OnOk result (self.new.piece ≡ []) }
-    {
-        self.interrupted = send(out, &self.piece.bytes[..self.piece.len], self.interrupted)?;
-        self.piece.len = 0;
-        Ok(())
-    }
-
-    /// Makes room for `room` bytes. If the pen has less room, all its bytes are written.
+    /// Makes room for `room` bytes. If the pen has less room, all its bytes are written. So the pen is empty after a call
+    /// with `WRITE_MAX`.
     #[inline(always)]
     pub(crate) fn reserve<W: Sink>(&mut self, out: &mut W, room: usize) -> Result<(), DrawFault>
         requires { room ≤ WRITE_MAX }
@@ -162,7 +152,8 @@ impl Pen {
         ensures room { OnOk result (length self.new.piece + room ≤ WRITE_MAX) }
     {
         if self.piece.len + room > WRITE_MAX {
-            return self.empty(out);
+            self.interrupted = send(out, &self.piece.bytes[..self.piece.len], self.interrupted)?;
+            self.piece.len = 0;
         }
         Ok(())
     }

@@ -9,18 +9,17 @@
 //! A raster has fewer than 1,000 rows (`drawing.rt` says why). So the number of a line, counted from 0, is below 1,000.
 //! The first row of modules that a line shows has a number below 2,000.
 
-ghost use Rattle.std.specs.Prelude.{◌≡◌, ℕ, ◌≤◌, ◌<◌, ◌+◌, ◌-◌, ◌*◌, ◌/◌, ◌%◌, ◌++◌, ◌∷◌, [], false, length, map, IfSome};
+ghost use Rattle.std.specs.Prelude.{◌≡◌, ◌≤◌, ◌<◌, ◌+◌, ◌-◌, ◌*◌, ◌/◌, ◌%◌, ◌++◌, ◌∷◌, [], false, length, map};
 ghost use Rattle.std.specs.List.{flat_map};
 ghost use Rattle.qr_drawing.specs.Raster.{texts_below};
-ghost use Rattle.qr_drawing.specs.Text.{ascii_module, half_blocks, line_count, cells_of_line, text_drawing};
-ghost use Rattle.qr_drawing.specs.Steps.Text.{AreDark, ShowsRow, bits_text, cell_at, cell_room, cell_text, pair_text, top_row};
+ghost use Rattle.qr_drawing.specs.Text.{half_blocks, cells_of_line, text_drawing};
+ghost use Rattle.qr_drawing.specs.Steps.Text.{AreDark, bits_text, cell_room, cell_text, pair_text};
 ghost use Rattle.qr_drawing.specs.Steps.Pen.{Puts};
 ghost use Rattle.qr_drawing.specs.declared.text.TextStyle.TheVariants.{HalfBlocks, Plain};
 
 use crate::drawing::{HasSquare, Raster};
 use crate::pen::{DrawFault, PEN_SIZE, Pen, Piece, WRITE_MAX};
 use qr_devices::Sink;
-use qr_symbol::Matrix;
 
 /// How a text shows modules.
 #[derive(Clone, Copy)]
@@ -69,35 +68,20 @@ fn push_cell(text: &mut Piece<PEN_SIZE>, style: TextStyle, upper: bool, lower: b
     text.push_all(&[character; 2]);
 }
 
-// Returns which row of the square is in row `row` of the raster. It is `None` if that row is in the margin or below the
-// raster.
-#[tactic(auto, using(crate::proofs::lemmas::svg::PathLemmas::is_dark_at_above, crate::proofs::lemmas::svg::PathLemmas::is_dark_at_below))]
-fn square_row(raster: &Raster, row: u16) -> Option<u8>
-    ensures { ShowsRow raster.now.margin raster.now.matrix.now row result }
+// Returns eight modules of row `y` of the raster, from column `col` of the square on. All are light if the first of them
+// is not in the square.
+#[inline(always)]
+#[tactic(auto, using(crate::proofs::lemmas::svg::PathLemmas::is_dark_at_above, crate::proofs::lemmas::svg::PathLemmas::is_dark_at_below, crate::proofs::lemmas::text::CellLemmas::dark_none))]
+fn dark_bits(raster: &Raster, y: u16, col: u8) -> u8
+    requires { col % 8 ≡ 0 }
+    ensures { AreDark raster.now.margin raster.now.matrix.now y col result }
 {
     let first = u16::from(raster.margin);
-    if row < first {
-        return None;
+    let side = raster.matrix.side();
+    if y < first || y >= first + u16::from(side) || col >= side {
+        return 0;
     }
-    if row >= first + u16::from(raster.matrix.side()) {
-        return None;
-    }
-    Some((row - first) as u8)
-}
-
-// Returns eight modules of row `row` of `matrix`, from column `col` on. All are light if `row` is `None`.
-#[inline(always)]
-#[tactic(auto, using(crate::proofs::lemmas::text::CellLemmas::dark_none))]
-fn dark_bits(matrix: &Matrix, row: Option<u8>, col: u8) -> u8
-    requires row_in { IfSome row (λ r. r < matrix.now.side) }
-    requires col_in { col < matrix.now.side }
-    requires whole { col % 8 ≡ 0 }
-    ensures { (margin y : ℕ) → ShowsRow margin matrix.now y row → AreDark margin matrix.now y col result }
-{
-    match row {
-        Some(row) => matrix.eight(row, col),
-        None => 0,
-    }
+    raster.matrix.eight((y - first) as u8, col)
 }
 
 // The text of four modules in the style `Plain`. The index is the number whose bits are the modules.
@@ -196,37 +180,10 @@ fn push_light(text: &mut Piece<PEN_SIZE>, style: TextStyle, count: u16)
     }
 }
 
-// Appends the cells of row `row` of the raster, without the margin: eight columns at a time, and then four if at least
-// four are left. It leaves out the last columns, of which there are fewer than four. (In a symbol this is one column.)
-// The label of the loop is for the prover.
-#[inline(always)]
-fn push_columns(text: &mut Piece<PEN_SIZE>, style: TextStyle, raster: &Raster, row: u16)
-    requires row_in { row < 2000 }
-    requires room { length text.old + raster.now.matrix.now.side * cell_room style ≤ WRITE_MAX }
-    ensures { text.new ≡ text.old ++ texts_below (raster.now.matrix.now.side / 4 * 4)
-        (λ i. cell_at style raster.now.margin raster.now.matrix.now row (raster.now.margin + i)) }
-{
-    let upper_row = square_row(raster, row);
-    let lower_row = square_row(raster, row + 1);
-    let end = raster.matrix.side() / 4 * 4;
-    let mut col = 0;
-    'eights: while end - col >= 8 {
-        let upper = dark_bits(raster.matrix, upper_row, col);
-        let lower = dark_bits(raster.matrix, lower_row, col);
-        push_quad(text, style, upper, lower);
-        push_quad(text, style, upper / 16, lower / 16);
-        col += 8;
-    }
-    if col < end {
-        let four = dark_bits(raster.matrix, upper_row, col);
-        let below = dark_bits(raster.matrix, lower_row, col);
-        push_quad(text, style, four, below);
-    }
-}
-
 // Writes line `y` in three parts, because the pen may have too little room for the whole line at once. The first part
-// is the left margin, and the second the columns that `push_columns` appends. The third part is the columns that
-// `push_columns` leaves out, one by one, with the right margin and the newline.
+// is the left margin. The second is the columns of the square, eight at a time, and then four if at least four are
+// left. The third part is the last columns, of which there are fewer than four, with the right margin and the newline.
+// (In a symbol there is one last column.) The label of the loop is for the prover.
 #[inline(always)]
 fn put_line<W: Sink>(
     pen: &mut Pen,
@@ -245,18 +202,38 @@ fn put_line<W: Sink>(
         TextStyle::HalfBlocks => (3, 2 * y),
     };
     let margin = u16::from(raster.margin);
-    let side = u16::from(raster.matrix.side());
+    let side = raster.matrix.side();
     pen.reserve(out, usize::from(margin) * most)?;
     push_light(&mut pen.piece, style, margin);
     pen.reserve(out, usize::from(side) * most)?;
-    push_columns(&mut pen.piece, style, raster, row);
-    pen.reserve(out, usize::from(side % 4 + margin) * most + 1)?;
     let text = &mut pen.piece;
-    let first = margin + side / 4 * 4;
-    for done in 0..side % 4 {
-        let upper = raster.is_dark_at(row, first + done);
-        let lower = raster.is_dark_at(row + 1, first + done);
-        push_cell(text, style, upper, lower);
+    let mut col = 0;
+    'eights: while side - col >= 8 {
+        let upper = dark_bits(raster, row, col);
+        let lower = dark_bits(raster, row + 1, col);
+        push_quad(text, style, upper, lower);
+        push_quad(text, style, upper / 16, lower / 16);
+        col += 8;
+    }
+    // The columns that are left, of which there are fewer than eight, are the lowest bits of `upper` and `lower`.
+    let mut upper = dark_bits(raster, row, col);
+    let mut lower = dark_bits(raster, row + 1, col);
+    let mut left = side - col;
+    if left >= 4 {
+        push_quad(text, style, upper, lower);
+        upper /= 16;
+        lower /= 16;
+        left -= 4;
+    }
+    pen.reserve(out, usize::from(u16::from(left) + margin) * most + 1)?;
+    let text = &mut pen.piece;
+    for done in 0..left {
+        push_cell(
+            text,
+            style,
+            (upper >> done) % 2 == 1,
+            (lower >> done) % 2 == 1,
+        );
     }
     push_light(text, style, margin);
     // Only for the prover: the pen contains at most `WRITE_MAX` bytes, with the newline too.

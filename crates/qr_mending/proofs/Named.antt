@@ -11,8 +11,7 @@ use Rattle.qr_mending.proofs.lemmas.roots.RootLemmas.{length-rooted, length-root
 use Rattle.qr_mending.proofs.lemmas.{errors.RemovalLemmas.sum-more, sums.DigitLemmas.{digits-added, table-at}}
 use Rattle.qr_mending.proofs.lemmas.sums.SumLemmas.{multiple-first, multiple-is, multiple-none, multiple-same, values-none}
 use Rattle.qr_symbol.proofs.Facts.{data-sizes-whole, readings-none, sizes-whole, unjoined-next}
-use Rattle.std.proofs.lemmas.List.{take_all, take_rest, take-replicate, Elements.All-from_get_or}
-use Rattle.std.{proofs.lemmas.Result.err_from_is_err_and, specs.Int.Bits.xor_zero_r}
+use Rattle.std.{proofs.lemmas.{List.{take_all, take_rest, take-replicate, Elements.All-from_get_or}, Result.err_from_is_err_and}, specs.Int.Bits.xor_zero_r}
 
 pub ruleset value_facts = (All-from_get_or, values-none)
 

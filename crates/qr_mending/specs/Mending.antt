@@ -36,22 +36,22 @@ abbrev pub IsOfNoUse : Grid → FormatCopy → ℕ → Grid → Type 0
 IsOfNoUse unknown copy v g = (l : Level) (mask : ℕ) → IsNearFormat unknown copy g l mask
     → (message changed : List ℕ) → HoldsDamaged unknown v l mask g message changed → ⊥
 
--- The rank of a level and a mask that are near to the given copy, if both copies together cost `cost` with them. The
--- square is read with the level and the mask of the lowest rank. A higher cost gives a higher rank, and between equal
--- costs the rank for the first copy is lower [own]
-abbrev pub rank_of : FormatCopy → ℕ → ℕ
-rank_of First cost = 2 * cost
-rank_of Second cost = 2 * cost + 1
+-- The cost by which a level and a mask that are near to the given copy are compared with others, if both copies
+-- together cost `cost` with them. The square is read with the level and the mask for which it is the lowest. A higher
+-- cost gives a higher one, and between equal costs the one for the first copy is lower [own]
+abbrev pub compared_cost : FormatCopy → ℕ → ℕ
+compared_cost First cost = 2 * cost
+compared_cost Second cost = 2 * cost + 1
 
 -- The square has to be read with the level `l` and the mask `mask`. They are near to a copy of the format information.
 -- Of all pairs of level and mask that are near to a copy, and with which all blocks can be mended, none has a lower
--- rank (ISO/IEC 18004:2015, 7.9.1, 12)
+-- compared cost (ISO/IEC 18004:2015, 7.9.1, 12)
 pub record HasFormat (unknown : Grid) (v : ℕ) (g : Grid) (l : Level) (mask : ℕ) : Type 0 where
   pub copy : FormatCopy
   pub near : IsNearFormat unknown copy g l mask
   pub least : (other : FormatCopy) (k : Level) (n : ℕ) → IsNearFormat unknown other g k n
       → (message changed : List ℕ) → HoldsDamaged unknown v k n g message changed
-      → rank_of copy (format_cost unknown g l mask) ≤ rank_of other (format_cost unknown g k n)
+      → compared_cost copy (format_cost unknown g l mask) ≤ compared_cost other (format_cost unknown g k n)
 
 -- The square `g` is a damaged form of a symbol of version `v` with the data codewords `message`. It has the side of
 -- this version, and it has to be read with the level `l` and the mask `mask`. If it is read so, its blocks can be

@@ -16,7 +16,7 @@ ghost use Rattle.std.specs.Bool.{Decides, OnTrue, OnFalse};
 ghost use Rattle.arrayvec.specs.ArrayVec.{array_vec_len};
 ghost use Rattle.qr_field.specs.{Distance.{differences}, Polynomial.{plus}};
 ghost use Rattle.qr_mending.specs.Block.{IsBlock, IsMended};
-ghost use Rattle.qr_mending.specs.Steps.{Sums.{HasSameValues}, Polynomial.{IsProgress}};
+ghost use Rattle.qr_mending.specs.Steps.Sums.{HasSameValues};
 
 use crate::errors::without_errors;
 use crate::locator::Progress;

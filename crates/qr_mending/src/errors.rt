@@ -102,8 +102,8 @@ impl Removal {
         }
     }
 
-    // Returns the error of the codeword at `location`, where the locator has a root. Takes the root out of the locator,
-    // and the error out of the syndromes.
+    // Returns the error of the codeword at `location`, where the locator has a root. Divides the locator by the factor
+    // with this root, and removes from the syndromes what this error adds to them.
     fn error_at_root(&mut self, location: u8) -> u8
         requires small { location < 255 }
         requires root { eval (power location) self.old.locator.items ≡ 0 }

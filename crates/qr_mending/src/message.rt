@@ -1,18 +1,18 @@
 //! Mends the message of a damaged symbol, which is its data codewords, block by block (ISO/IEC 18004:2015, 7.5.1, 7.6
 //! and 7.7.3). A codeword is erased if one of its modules was not read.
 
-ghost use Rattle.std.specs.Prelude.{◌≡◌, ℕ, ◌+◌, ◌*◌, ◌<◌, ◌≤◌, ◌==◌, ◌⊎◌, ◌++◌, ◌∷◌, [], false, not, map, take, drop, List, length, Err, IfOk, IfErr, IfSome, IfNone};
+ghost use Rattle.std.specs.Prelude.{◌≡◌, ℕ, ◌+◌, ◌<◌, ◌≤◌, ◌==◌, ◌⊎◌, ◌++◌, [], false, not, map, List, length, Err, IfOk, IfErr, IfSome, IfNone};
 ghost use Rattle.std.specs.Bool.{OnTrue};
-ghost use Rattle.qr_field.specs.{Distance.{errors}, Polynomial.{IsCorrection}};
+ghost use Rattle.qr_field.specs.Distance.{errors};
 ghost use Rattle.qr_layout.specs.Blocks.{blocks_of, spare_of};
 ghost use Rattle.qr_layout.specs.Version.{side_of, total_codewords_of};
 ghost use Rattle.qr_matrix.specs.Grid.{colour};
 ghost use Rattle.qr_symbol.specs.declared.fault.ReadFault.{ReadFault};
 ghost use Rattle.qr_symbol.specs.Interleaving.{block_count, block_len, codeword_count, data_sizes, correction_sizes, IsInterleaved};
-ghost use Rattle.qr_symbol.specs.{Reading.{IsReadUnmasked}, Interleaving.{IsChecks}};
+ghost use Rattle.qr_symbol.specs.Reading.{IsReadUnmasked};
 ghost use Rattle.qr_mending.specs.Erasures.{read_of, IsMendedWithErasures};
 ghost use Rattle.qr_mending.specs.Message.{received, AreInBlocks};
-ghost use Rattle.qr_mending.specs.Steps.Message.{list_of, marks_at, read_by, AreMarksInBlocks, AreMended, AreWhole, HasCorrections, IsMendedMessage};
+ghost use Rattle.qr_mending.specs.Steps.Message.{list_of, marks_at, AreMarksInBlocks, AreWhole, HasCorrections, IsMendedMessage};
 
 use crate::block::mend;
 use crate::erasures::mend_with_erasures;

@@ -73,7 +73,8 @@ abbrev pub ReadsInput : List Text → Type 0
 ReadsInput words = HasSettingsWith words (λ s. s.string ≡ None)
 
 -- The fault can occur in a run with these arguments and bytes. A read fault can occur if the input has to be read, a
--- write fault if there is a drawing, and lack of memory always. A refusal occurs only if it is correct [own]
+-- write fault if there is a drawing, and lack of memory always. A refusal can occur only if its reason holds of the
+-- arguments or the bytes [own]
 abbrev pub IsFault : List Text → List ℕ → Fault → Type 0
 IsFault words given fault.Read = ReadsInput words
 IsFault words given fault.Memory = Unit {0}

@@ -1,6 +1,6 @@
--- The settings that follow from the arguments, and the reasons to refuse them. `rows` are the arguments that `clap`
--- found, with their values. In the letter of a level and the name of a type of drawing, small letters and capitals are
--- alike.
+-- The settings that follow from the arguments, and the reasons to refuse arguments. `rows` are the arguments that
+-- `clap` found, with their values. In the letter of a level and the name of a type of drawing, small letters and
+-- capitals are alike.
 use Rattle.std.specs.Prelude.{◌≡◌, ◌==◌, ◌&&◌, ℕ, Bool, false, nat_le, List, length, Option, Some, None, option_and_then, Result, Ok, Err, codes, if◌then◌else◌}
 use Rattle.std.specs.Option.{is_none, option_map_or}
 use Rattle.std.specs.Str.{bytes_eq, str_eq_ignore_ascii_case}

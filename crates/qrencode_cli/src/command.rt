@@ -7,7 +7,7 @@
 ghost use Rattle.std.specs.Prelude.{MatchResult, length, map, ◌≤◌};
 ghost use Rattle.std.specs.String.{string_bytes};
 ghost use Rattle.qrencode_cli.specs.Command.{RunsTo, held};
-ghost use Rattle.qrencode_cli.specs.Steps.Command.{AreDrawnFor, Attempts, HasRead, IsInputFault, IsJobFor, Prepares, StopsReading};
+ghost use Rattle.qrencode_cli.specs.Steps.Command.{Attempts, HasRead, IsJobFor, StopsReading};
 
 use crate::drawing_job::DrawingJob;
 use crate::fault::Fault;
@@ -82,25 +82,9 @@ fn job_of(alloc: Global, input: &[u8], settings: &Settings) -> Result<DrawingJob
     })
 }
 
-// Makes the drawing job that the arguments ask for. If the input is a string among the arguments, it is cut after
-// `INPUT_MAX` bytes. No symbol or series holds so many bytes.
-fn job_for<R: Source>(alloc: Global, words: &[String], input: &mut R) -> Result<DrawingJob, Fault>
-    ensures { Prepares (map string_bytes words.now) (R.device input.old) (R.device input.new) result }
-{
-    let settings = options(alloc, words)?;
-    match &settings.string {
-        Some(text) => {
-            let bytes = text.as_bytes();
-            job_of(alloc, &bytes[..INPUT_MAX.min(bytes.len())], &settings)
-        }
-        None => {
-            let bytes = read_input(alloc, input)?;
-            job_of(alloc, bytes.as_slice(), &settings)
-        }
-    }
-}
-
-// Does what `run` does, but returns the fault, whose line `run` then writes. A flush that fails is a write fault.
+// Does what `run` does, but returns the fault, whose line `run` then writes. If the input is a string among the
+// arguments, it is cut after `INPUT_MAX` bytes. No symbol or series holds so many bytes. A flush that fails is a write
+// fault.
 fn run_to_result<R: Source, W: Sink>(
     alloc: Global,
     words: &[String],
@@ -111,7 +95,17 @@ fn run_to_result<R: Source, W: Sink>(
         (R.device input.new) (W.device out.old)
         (W.device out.new) result }
 {
-    let job = job_for(alloc, words, input)?;
+    let settings = options(alloc, words)?;
+    let job = match &settings.string {
+        Some(text) => {
+            let bytes = text.as_bytes();
+            job_of(alloc, &bytes[..INPUT_MAX.min(bytes.len())], &settings)?
+        }
+        None => {
+            let bytes = read_input(alloc, input)?;
+            job_of(alloc, bytes.as_slice(), &settings)?
+        }
+    };
     draw(&job.symbols, job.kind, job.margin, out)?;
     if out.flush().is_err() {
         return Err(Fault::Write);

@@ -256,7 +256,7 @@ mod tests {
         Ok(modules)
     }
 
-    // Modules of five different codewords at version 1 and level M (1-M).
+    // Five modules of a symbol 1-M (version 1, level M), each in a different codeword.
     static CODEWORDS: [(u8, u8); 5] = [(20, 20), (16, 20), (12, 20), (9, 18), (13, 18)];
 
     // Four modules of the first copy of the format information, then four of the second.

@@ -1,6 +1,6 @@
 -- Cells of a text, computed from the colours of their modules. Where the modules are given as the bits of a number, 1
 -- is dark. The modules belong to the raster of the square `g` with the margin `margin`.
-use Rattle.std.specs.Prelude.{◌≡◌, ℕ, ◌+◌, ◌*◌, ◌<◌, Bool, false, not, List, Option, Some, None}
+use Rattle.std.specs.Prelude.{◌≡◌, ℕ, ◌+◌, ◌*◌, ◌<◌, Bool, false, not, List}
 use Rattle.qr_matrix.specs.Grid.{Grid}
 use Rattle.qr_matrix.specs.BitRow.{has_bit}
 use Rattle.qr_drawing.specs.Raster.{is_dark_at, texts_below}
@@ -47,9 +47,3 @@ pair_text pair = texts_below 2 (λ k. half_blocks (has_bit pair k) (has_bit pair
 -- square may be 0 or 1
 abbrev pub AreDark : ℕ → Grid → ℕ → ℕ → ℕ → Type 0
 AreDark margin g row col bits = (k : ℕ) → k < 8 → col + k < g.side → has_bit bits k ≡ is_dark_at margin g row (margin + (col + k))
-
--- Row `row` of the raster shows row `r` of the square if the option is `Some r`. If it is `None`, row `row` of the
--- raster is light
-abbrev pub ShowsRow : ℕ → Grid → ℕ → Option ℕ → Type 0
-ShowsRow margin g row (Some r) = (margin + r ≡ row) × (r < g.side)
-ShowsRow margin g row None = (x : ℕ) → is_dark_at margin g row x ≡ false

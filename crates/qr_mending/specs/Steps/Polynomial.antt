@@ -18,7 +18,8 @@ abbrev pub IsMonic : Polynomial → Type 0
 IsMonic p = slice_index p.terms p.degree ≡ 1
 
 -- The sum of products of the coefficients of `p` and the syndromes `s`: the coefficient of x^k is multiplied by item k,
--- counted from 0. If the sum is 0, `p` solves the equation for which `s` stands.
+-- counted from 0. If `s` lists the syndromes from index j on, the sum is 0 exactly if `p` solves equation j (see the
+-- top of this file).
 abbrev pub discrepancy_of : Polynomial → List ℕ → ℕ
 discrepancy_of p s = dot_of (all_of p) s
 

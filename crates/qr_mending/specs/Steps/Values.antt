@@ -8,7 +8,7 @@ use Rattle.qr_field.specs.Galois.{product}
 use Rattle.qr_mending.specs.declared.sums.Sums.{Sums}
 
 -- The sum of 64 times `a`, 16 times `b`, 4 times `c`, and `d`, in the field of 256 elements. Here `a`, `b`, `c` and `d`
--- are the sums for the four weights. Horner's rule is used.
+-- are the sums for the weights 64, 16, 4 and 1. Horner's rule is used.
 abbrev pub of_digits : ℕ → ℕ → ℕ → ℕ → ℕ
 of_digits a b c d =
     bit_xor (product 2 (product 2 (bit_xor (product 2 (product 2 (bit_xor (product 2 (product 2 a)) b))) c))) d

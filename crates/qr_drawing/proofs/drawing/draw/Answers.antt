@@ -1,6 +1,5 @@
 use Rattle.std.proofs.{Common.{MatchResult, map, rules}, lemmas.Result.err_from_is_err_and}
-use Rattle.qr_drawing.specs.{Drawing.drawn, Steps.Writing.{Stops, Writes}}
-use Rattle.qr_drawing.proofs.lemmas.pen.WritingLemmas.{emptied, written}
+use Rattle.qr_drawing.{specs.{Drawing.drawn, Steps.Writing.{Stops, Writes}}, proofs.lemmas.pen.WritingLemmas.{emptied, written}}
 use Rattle.qr_drawing.proofs.drawing.draw.{Given.Over, Goals.{Joined-kind, in-Ascii, in-AsciiInverse, in-Svg, in-Utf8}}
 use Rattle.qr_drawing.proofs.drawing.draw.Goals as goal
 
@@ -24,4 +23,4 @@ returns-in_err-put g c =
 pub returns : goal.returns
 returns g c =
     let m = rw c.in_ok-put.was at (puts g (goal.at.returns g c).Joined-kind) in
-    written _ _ _ _ c.empty.result (emptied _ _ _ _ c.match-kind.pen c.empty.new.self _ c.empty.result m c.empty.ensures.writes c.empty.ensures.empty)
+    written _ _ _ _ c.reserve.result (emptied _ _ _ _ c.match-kind.pen c.reserve.new.self _ c.reserve.result m c.reserve.ensures.writes c.reserve.ensures.room)

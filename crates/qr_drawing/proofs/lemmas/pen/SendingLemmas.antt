@@ -1,11 +1,9 @@
 -- What one write does while bytes are sent.
 use Rattle.std.proofs.Common.{◌≡◌, ◌≤◌, ◌<◌, ◌+◌, ◌^◌, ◌++◌, ◌∙◌, ℕ, zero, suc, List, [], ◌∷◌, Option, None, Some, Result, append-nil, length, Ok, Err, true, ap, refl, arith, max, take, drop}
-use Rattle.std.proofs.lemmas.{List.length-take-le, List.take-append-drop}
-use Rattle.std.proofs.{Math.Seq.take-add, KnownBytes.Appends-kept, KnownBytes.Appends-nil}
+use Rattle.std.proofs.{lemmas.List.{length-take-le, take-append-drop}, Math.Seq.take-add, KnownBytes.{Appends-kept, Appends-nil}}
 use Rattle.{std.specs.Io.KnownBytes.{Appends, Keeps}, qr_drawing.specs.Steps.Writing.{IsWell, Stops, Writes}}
-use Rattle.qr_devices.specs.Device.{IsWrittenWithin, Writer, counted, is_write_fault, write_counted}
+use Rattle.qr_devices.specs.{Device.{IsWrittenWithin, Writer, counted, is_write_fault, write_counted}, declared.device.WriteCounts.WriteCounts}
 use Rattle.qr_devices.specs.declared.device.Trouble.{Trouble, TheVariants.Interrupted, TheVariants.Failed}
-use Rattle.qr_devices.specs.declared.device.WriteCounts.{WriteCounts}
 use Rattle.qr_drawing.proofs.lemmas.pen.WritingLemmas.{writes-on, writes-stop}
 
 -- the writer took some of the bytes that a write offered

@@ -1,9 +1,8 @@
 -- How the written parts of a text join.
 use Rattle.std.proofs.Common.{◌≡◌, ◌++◌, ◌∙◌, ℕ, List, [], MatchResult, OnErr, OnOk, is_err, max, Option, Result, Ok, Err, append_assoc, append-nil, sym, ap, arith, rules, ◌<◌, ◌≤◌, ◌+◌, ◌^◌, length, length-append, subst}
-use Rattle.std.{proofs.KnownBytes.{Appends-trans, Appends-nil}, specs.Io.KnownBytes.Appends}
+use Rattle.std.{proofs.lemmas.List.nil_from_length, proofs.KnownBytes.{Appends-trans, Appends-nil}, specs.Io.KnownBytes.Appends}
 use Rattle.qr_devices.specs.Device.{AppendsBeginning, IsWrittenWithin, Writer, counted, is_write_fault, no_writes}
-use Rattle.qr_drawing.specs.Steps.{Pen.Reserves, Writing.{Stops, Writes}}
-use Rattle.qr_drawing.specs.declared.pen.{DrawFault.DrawFault, Pen.Pen}
+use Rattle.qr_drawing.specs.{Steps.{Pen.Reserves, Writing.{Stops, Writes}}, declared.pen.{DrawFault.DrawFault, Pen.Pen}}
 
 -- counts of bytes add up
 counted-on : (a b c x y z : ℕ) → z ≡ x + y → a < 2 ^ 64 → b ≡ counted (a + x) → (b < 2 ^ 64 → c ≡ counted (b + y)) → c ≡ counted (a + z)
@@ -45,10 +44,11 @@ stops-between a b c i j h0 h1 x y p q = writes-stop a b c i j h0 h1 x y p (stops
 
 -- after what was held of a text is sent, the whole text was written, or the writer failed in it
 pub emptied : (a b c : Writer) (i : ℕ) (before after : Pen) (text : List ℕ) (r : Result (Unit {0}) DrawFault) → Writes a b i before.interrupted text before.piece
-    → Reserves b c before after r → OnOk r (after.piece ≡ [])
+    → Reserves b c before after r → OnOk r (length after.piece + 1200 ≤ 1200)
     → MatchResult r (λ _. Writes a c i after.interrupted text []) (λ _. Stops a c i text)
 emptied a b c i before after text (Ok t) p q e =
-    let w = writes-on a b c i before.interrupted after.interrupted [] before.piece after.piece text [] p (rw append-nil q) in rw (append-nil, e) at w
+    let none = nil_from_length after.piece (omega arith) in
+    let w = writes-on a b c i before.interrupted after.interrupted [] before.piece after.piece text [] p (rw append-nil q) in rw (append-nil, none) at w
 emptied a b c i before after text (Err f) p q e =
     let w = writes-stop a b c i before.interrupted [] before.piece text [] p (rw append-nil q) in rw append-nil at w
 

@@ -2,8 +2,7 @@
 use Rattle.std.proofs.Common.{◌≡◌, ℕ, ◌+◌, ◌/◌, ◌%◌, ◌<◌, ◌≤◌, ◌^◌, List, [], ◌∷◌, ◌++◌, get_or, nat_eq, true, refl, sym, ◌∙◌, ap, append_assoc, arith}
 use Rattle.std.{proofs.lemmas.Fmt.{decimal_digit, decimal_step}, specs.{Prelude.decimal, Fmt.digits, Cmp.Lexicographic.{pointwise, same_text}}}
 use Rattle.qr_matrix.{specs.Sums.all_below, proofs.Facts.below-at}
-use Rattle.qr_drawing.specs.{Svg.numbered, Steps.Svg.width_path}
-use Rattle.qr_drawing.specs.declared.svg.TheConstants.{SHORT_RUNS, TWO_DIGITS}
+use Rattle.qr_drawing.specs.{Svg.numbered, Steps.Svg.width_path, declared.svg.TheConstants.{SHORT_RUNS, TWO_DIGITS}}
 
 -- a number below 10 is written as one digit
 pub one_digit : (h t : List ℕ) (n : ℕ) → n < 10 → t ≡ h ++ (48 + n) ∷ [] → t ≡ h ++ decimal n

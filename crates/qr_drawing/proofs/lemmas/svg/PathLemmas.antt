@@ -1,12 +1,10 @@
 -- Which paths are in the rows of a raster, and how they join while they are written.
 use Rattle.std.proofs.Common.{◌≡◌, ◌≤◌, ◌<◌, ◌+◌, ◌-◌, ◌*◌, ◌++◌, ◌∙◌, ◌&&◌, leb, ltb, ℕ, zero, suc, Bool, true, false, List, [], ◌∷◌, length, map, get_or, refl, sym, ap, arith, append_assoc, append-nil, inl, inr}
-use Rattle.std.proofs.{Math.Nat.suc-mul, lemmas.Bool.cases_lt, lemmas.Bool.Decides.nat_tests}
-use Rattle.std.proofs.lemmas.List.{get_or-map, length-map, Elements.All-get_or}
+use Rattle.std.proofs.{Math.Nat.suc-mul, lemmas.{Bool.{cases_lt, Decides.nat_tests}, List.{get_or-map, length-map, Elements.All-get_or}}}
 use Rattle.std.specs.{Prelude.codes, List.{flat_map, prefix_len, range_with_len}}
 use Rattle.qr_matrix.specs.{Grid.{Grid, colour, light}, DarkRuns.AreDarkRuns, declared.dark_runs.Run.Run}
 use Rattle.qr_matrix.proofs.Facts.{AreRunsFrom, all-runs, other-runs, run-colours, run-in}
-use Rattle.qr_drawing.specs.{Drawing.HaveOneSide, Steps.Svg.{head, tail}}
-use Rattle.qr_drawing.specs.Raster.{is_dark_at, raster_width, texts_below}
+use Rattle.qr_drawing.specs.{Drawing.HaveOneSide, Steps.Svg.{head, tail}, Raster.{is_dark_at, raster_width, texts_below}}
 use Rattle.qr_drawing.specs.Svg.{background, begins_run, box_path, closing, declaration, foreground, opening, row_path, run_length, run_path, square_at, stack_path, svg_document, symbol_path}
 use Rattle.qr_drawing.proofs.lemmas.text.LineLemmas.{texts_below-more, texts_below-none, texts_below-same, texts-of-items}
 
@@ -201,9 +199,7 @@ stack-at grid margin k top xs x one lt is e =
 pub next-top : {T : Type 0} (grid : T → Grid) (margin k top width : ℕ) (xs : List T) (x : T) → HaveOneSide (map grid xs) → k < length xs → x ≡ get_or xs k x
     → top ≡ k * raster_width margin (square_at (map grid xs) 0) → width ≡ raster_width margin (grid x)
     → top + width ≡ (k + 1) * raster_width margin (square_at (map grid xs) 0)
-next-top grid margin k top width xs x one lt is e f =
-    let w = f ∙ one-width grid margin k xs x one lt is in
-    grind (arith, suc-mul)
+next-top grid margin k top width xs x one lt is e f = grind (arith, suc-mul, f ∙ one-width grid margin k xs x one lt is)
 
 -- a document is the same if its seven pieces are grouped as in the definition and as they are written
 pieces : (a b c d e f g : List ℕ) → a ++ b ++ c ++ (d ++ e ++ f) ++ g ≡ ((a ++ b ++ c ++ d) ++ e) ++ (f ++ g)

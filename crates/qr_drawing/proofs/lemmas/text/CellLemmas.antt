@@ -1,13 +1,11 @@
 -- The cells of a line by the bits of their modules, and the room that they take.
 use Rattle.std.proofs.Common.{◌≡◌, ◌++◌, ◌∙◌, ◌<◌, ◌≤◌, ◌+◌, ◌-◌, ◌*◌, ◌/◌, ◌%◌, ◌^◌, ◌&&◌, ℕ, Bool, true, false, not, List, [], ◌∷◌, length, get_or, nat_eq, length-append, append_assoc, take, refl, sym, ap, arith}
-use Rattle.std.proofs.{Math.Nat.add-mul, Math.Nat.mul-le-mul_right}
-use Rattle.std.specs.Cmp.Lexicographic.{pointwise, same_text}
+use Rattle.std.{proofs.Math.Nat.{add-mul, mul-le-mul_right}, specs.Cmp.Lexicographic.{pointwise, same_text}}
 use Rattle.qr_matrix.specs.{Grid.{Grid, colour, is_same}, BitRow.has_bit, Sums.all_below}
 use Rattle.qr_matrix.proofs.Facts.{&&-left, &&-right, below-at, has_bit-shr, low-bits, same-same}
 use Rattle.qr_drawing.specs.{Raster.{is_dark_at, raster_width, texts_below}, Text.{cell_of, cells_of_line, half_blocks}}
 use Rattle.qr_drawing.specs.Steps.Text.{AreDark, bits_text, cell_at, cell_room, cell_text, pair_text, top_row}
-use Rattle.qr_drawing.specs.declared.text.{TheConstants.{ASCII_QUADS, HALF_BLOCK_PAIRS}, TextStyle.TextStyle}
-use Rattle.qr_drawing.specs.declared.text.TextStyle.TheVariants.{Plain, Inverse, HalfBlocks}
+use Rattle.qr_drawing.specs.declared.text.{TheConstants.{ASCII_QUADS, HALF_BLOCK_PAIRS}, TextStyle.{TextStyle, TheVariants.{Plain, Inverse, HalfBlocks}}}
 use Rattle.qr_drawing.proofs.lemmas.text.LineLemmas.{added-more, texts_below-add, texts_below-alike, texts_below-length}
 use Rattle.qr_drawing.proofs.lemmas.svg.PathLemmas.{is_dark_at-inside, is_dark_at-left, is_dark_at-right}
 
@@ -178,26 +176,34 @@ light-cells : (style : TextStyle) (margin : ℕ) (g : Grid) (row first n : ℕ) 
 light-cells style margin g row first n light =
     texts_below-alike n _ _ (λ k lt. λ i. cell_text style (light row k lt i) (light (row + 1) k lt i))
 
--- a line is the margin, the square's columns in groups of four, the columns that are left, the margin and a newline
-pub line-parts : (style : TextStyle) (margin : ℕ) (g : Grid) (y : ℕ) → cells_of_line style margin g y ++ 10 ∷ []
+-- n cells of the columns from `col` + d on, by the bits of the eight modules from `col` on
+pub later-cells : (style : TextStyle) (margin : ℕ) (g : Grid) (row col d n upper lower up down : ℕ) → d + n ≤ 8 → col + d + n ≤ g.side →
+    AreDark margin g row col upper → AreDark margin g (row + 1) col lower → up ≡ upper / 2 ^ d → down ≡ lower / 2 ^ d →
+    bits_text n style up down ≡ texts_below n (λ i. cell_at style margin g row (margin + (col + d) + i))
+later-cells style margin g row col d n upper lower up down few fits above below e f =
+    let at : (y bits k : ℕ) → AreDark margin g y col bits → k < n → has_bit (bits / 2 ^ d) k ≡ is_dark_at margin g y (margin + (col + d) + k) =
+    λ y bits k dark lt. has_bit-shr bits d k ∙ (dark (k + d) (omega arith) (omega arith) ∙ ap (is_dark_at margin g y) (omega arith)) in
+    rw (e, f) (texts_below-alike n _ _ (λ k lt. λ i. cell_text style (at row upper k above lt i) (at (row + 1) lower k below lt i)))
+
+-- a line is the margin, the first `col` columns of the square, the n columns that are left, the margin and a newline
+pub line-parts : (style : TextStyle) (margin : ℕ) (g : Grid) (y col n : ℕ) → col + n ≡ g.side → cells_of_line style margin g y ++ 10 ∷ []
     ≡ (texts_below margin (λ _. cell_text style false false)
-    ++ texts_below (g.side / 4 * 4) (λ i. cell_at style margin g (top_row style y) (margin + i)))
-    ++ (texts_below (g.side % 4) (λ i. cell_at style margin g (top_row style y) (margin + g.side / 4 * 4 + i))
+    ++ texts_below col (λ i. cell_at style margin g (top_row style y) (margin + i)))
+    ++ (texts_below n (λ i. cell_at style margin g (top_row style y) (margin + col + i))
     ++ (texts_below margin (λ _. cell_text style false false) ++ 10 ∷ []))
-line-parts style margin g y =
+line-parts style margin g y col n whole =
     let cell = cell_at style margin g (top_row style y) in
-    let fours = g.side / 4 * 4 in
     let light = texts_below margin (λ _. cell_text style false false) in
-    let columns = texts_below fours (λ i. cell (margin + i)) in
-    let rest = texts_below (g.side % 4) (λ i. cell (margin + fours + i)) in
-    let right = margin + fours + g.side % 4 in
+    let columns = texts_below col (λ i. cell (margin + i)) in
+    let rest = texts_below n (λ i. cell (margin + col + i)) in
+    let right = margin + col + n in
     let e : raster_width margin g ≡ right + margin = omega arith in
     cc (
       texts_below-alike (raster_width margin g) (cell_of style margin g y) cell (λ k lt. cell-of style margin g y k),
       ap (λ n. texts_below n cell) e,
       texts_below-add right margin cell,
-      texts_below-add (margin + fours) (g.side % 4) cell,
-      texts_below-add margin fours cell,
+      texts_below-add (margin + col) n cell,
+      texts_below-add margin col cell,
       texts_below-alike margin cell (λ k. cell (0 + k)) (λ k lt. ap cell (omega arith)),
       light-cells style margin g (top_row style y) 0 margin (λ y k lt. is_dark_at-left margin y (0 + k) g (omega arith)),
       light-cells style margin g (top_row style y) right margin (λ y k lt. is_dark_at-right margin y (right + k) g (omega arith)),

@@ -1,4 +1,4 @@
-use Rattle.std.proofs.Common.{◌≡◌, ◌<◌, ◌≤◌, ◌+◌, ◌-◌, ℕ, List, [], min, length, take, drop, refl, arith}
+use Rattle.std.proofs.Common.{rules, ◌≡◌, ◌<◌, ◌≤◌, ◌+◌, ◌-◌, ℕ, List, min, length, take, drop, refl, arith}
 use Rattle.{std.proofs.lemmas.List.{length-drop, length-take}, qr_drawing.proofs.lemmas.pen.WritingLemmas.writes-none}
 use Rattle.qr_drawing.proofs.lemmas.pen.SendingLemmas.{sends-more, sends-again, refused-zero, refused-failed, refused-tried}
 use Rattle.qr_drawing.proofs.pen.send.Goals as goal
@@ -6,7 +6,7 @@ use Rattle.qr_drawing.proofs.pen.send.Goals as goal
 -- a write offers some bytes, at most 1,200, and no more than are left
 offered : (bytes : List ℕ) (at len : ℕ) → at < length bytes → len ≡ min (length bytes - at) 1200
     → let n = length (take (at + len - at) (drop at bytes)) in (0 < n) × (n ≤ 1200) × (at + n ≤ length bytes)
-offered bytes at len lt e = rw (length-take, length-drop) (omega arith, omega arith, omega arith)
+offered bytes at len lt e = search (rules, length-take, length-drop)
 
 -- the writer accepted no more than was offered
 within : (at taken n all : ℕ) → taken ≤ n → at + n ≤ all → at + taken ≤ all
@@ -17,7 +17,7 @@ again : (tries : ℕ) → tries < 1000 → (tries ≡ 999 → ⊥) → tries + 1
 again tries lt ne = omega arith
 
 pub offers-init : goal.offers-init
-offers-init g c = record { within = omega arith; few = omega arith; writes = writes-none _ _ [] }
+offers-init g c = search (rules, writes-none)
 
 pub returns-then-taken-eq0-clause-writes : goal.returns-then-taken-eq0-clause-writes
 returns-then-taken-eq0-clause-writes g c =
@@ -28,7 +28,7 @@ pub offers-preserved-in-Ok : goal.offers-preserved-in-Ok
 offers-preserved-in-Ok g c =
     let o = offered c.args.bytes.now c.offers.at c.min-len.result c.offers-test.true c.min-len.ensures in
     record {
-      within = within c.offers.at c.in-Ok.taken _ _ c.in-Ok.ensures.bound o.2;
+      within = search rules;
       few = c.offers.invariant.few;
       writes = sends-more _ _ _ _ c.offers.at (c.offers.at + c.min-len.result - c.offers.at) _ _ _ _ c.offers.invariant.writes
           c.in-Ok.ensures.bound o.1 c.if-taken-eq0.false refl c.in-Ok.ensures.bytes c.in-Ok.ensures.counted;
@@ -54,6 +54,5 @@ returns-then-tries-eq-INTERRUPTIONS_MAX-clause-writes g c =
 
 pub returns-in-Err-Failed-clause-writes : goal.returns-in-Err-Failed-clause-writes
 returns-in-Err-Failed-clause-writes g c =
-    let o = offered c.args.bytes.now c.offers.at c.min-len.result c.offers-test.true c.min-len.ensures in
-    refused-failed _ _ _ _ _ _ _ _ c.offers.invariant.writes o.1
+    refused-failed _ _ _ _ _ _ _ _ c.offers.invariant.writes (offered c.args.bytes.now c.offers.at c.min-len.result c.offers-test.true c.min-len.ensures).1
     c.in-Err-Failed.ensures.bytes (rw c.in-Err-Failed.field-0-is at c.in-Err-Failed.ensures.counted)

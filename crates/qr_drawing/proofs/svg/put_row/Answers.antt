@@ -1,4 +1,4 @@
-use Rattle.std.proofs.Common.{◌<◌, ◌≤◌, ◌+◌, ◌++◌, [], ◌∷◌, ap, sym, ◌∙◌, append_assoc, append-nil, arith}
+use Rattle.std.proofs.Common.{rules, ◌<◌, ◌≤◌, ◌+◌, [], ◌∷◌, append_assoc, append-nil, arith}
 use Rattle.std.proofs.lemmas.{Grind.flat_map-append, List.Elements.{All-head, All-rest}, Result.err_from_is_err_and}
 use Rattle.{std.specs.List.flat_map, qr_drawing.proofs.lemmas.svg.PathLemmas.{box-is, box_of, row-boxes}}
 use Rattle.qr_drawing.proofs.lemmas.pen.WritingLemmas.{formed, stops-between, writes-none, writes-on}
@@ -7,7 +7,7 @@ use Rattle.qr_drawing.proofs.svg.put_row.Goals as goal
 pub loop-run-init : goal.loop-run-init
 loop-run-init g c = rw c.into_iter-run-iterator.ensures.into_iter_gives (record {
   within = c.dark_runs-run-items.ensures.within;
-  path = row-boxes c.args.top c.args.raster.now.margin c.args.row c.args.raster.now.matrix.now _ c.requires.row_in c.dark_runs-run-items.ensures;
+  path = search (rules, row-boxes);
   writes = writes-none _ _ _;
 })
 
@@ -33,8 +33,7 @@ loop-run-preserved g c =
     c.from-in-loop-run-2.result run (omega arith) (omega arith) (omega arith) in
     record {
       within = All-rest (λ run. (run.start < run.end) × (run.end ≤ c.args.raster.now.matrix.now.side)) run c.next.new.self _ c.in-Some.ensures.steps c.loop-run.invariant.within;
-      path = c.loop-run.invariant.path ∙ ap (λ runs. flat_map box (c.loop-run.yielded ++ runs)) c.in-Some.ensures.steps
-          ∙ ap (flat_map box) (sym (append_assoc c.loop-run.yielded (run ∷ []) c.next.new.self));
+      path = search (rules, append_assoc);
       writes = rw (flat_map-append box c.loop-run.yielded (run ∷ []), append-nil (box run), ← here)
           (writes-on _ _ _ _ _ _ c.args.pen.now.piece c.loop-run.pen.piece _ (flat_map box c.loop-run.yielded) _ c.loop-run.invariant.writes
           (formed _ _ _ _ c.loop-run.pen.piece _ _ _ c.in_ok-reserve.ensures.writes (c.push_box.ensures _ c.text_of_row-row_text.ensures)));

@@ -1,6 +1,5 @@
 use Rattle.std.proofs.{Common.{refl, arith}, lemmas.Result.err_from_is_err_and}
-use Rattle.qr_drawing.proofs.lemmas.text.LineLemmas.{no-texts, put-next, put-none, put-stops}
-use Rattle.qr_drawing.proofs.lemmas.svg.PathLemmas.{next-top, stack-at, stack-ends}
+use Rattle.qr_drawing.proofs.lemmas.{text.LineLemmas.{no-texts, put-next, put-none, put-stops}, svg.PathLemmas.{next-top, stack-at, stack-ends}}
 use Rattle.qr_drawing.proofs.svg.put_stack.Goals as goal
 
 pub loop-symbol-init : goal.loop-symbol-init

@@ -1,11 +1,10 @@
-use Rattle.std.proofs.{Common.{ap, refl, arith}, lemmas.Result.err_from_is_err_and}
+use Rattle.std.proofs.{Common.{rules, ap, refl, arith}, lemmas.Result.err_from_is_err_and}
 use Rattle.qr_drawing.specs.{Raster.texts_below, Svg.row_path}
-use Rattle.qr_drawing.proofs.lemmas.text.LineLemmas.{put-next, put-none, put-stops}
-use Rattle.qr_drawing.proofs.lemmas.svg.PathLemmas.{symbol-begins, symbol-ends}
+use Rattle.qr_drawing.proofs.lemmas.{text.LineLemmas.{put-next, put-none, put-stops}, svg.PathLemmas.{symbol-begins, symbol-ends}}
 use Rattle.qr_drawing.proofs.svg.put_symbol.Goals as goal
 
 pub loop-row-init : goal.loop-row-init
-loop-row-init g c = put-none _ _ _ _ _ (symbol-begins c.args.top c.args.raster.now.margin c.args.raster.now.matrix.now)
+loop-row-init g c = search (rules, put-none, symbol-begins)
 
 pub returns-in_err-put_row : goal.returns-in_err-put_row
 returns-in_err-put_row g c =

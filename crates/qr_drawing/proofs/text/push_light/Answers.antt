@@ -1,6 +1,5 @@
 use Rattle.std.proofs.Common.{◌≡◌, ◌+◌, ◌*◌, ◌/◌, arith, rules}
-use Rattle.qr_drawing.proofs.lemmas.text.LineLemmas.{added-more, added-next, added-none}
-use Rattle.qr_drawing.proofs.lemmas.text.CellLemmas.{cell-length, cells-length, light-quad, room-left}
+use Rattle.qr_drawing.proofs.lemmas.text.{LineLemmas.{added-more, added-next, added-none}, CellLemmas.{cell-length, cells-length, light-quad, room-left}}
 use Rattle.qr_drawing.proofs.text.push_light.Goals as goal
 
 pub loop-quads-init : goal.loop-quads-init
@@ -15,9 +14,7 @@ loop-quads-preserved c =
     rw (← e) (added-more _ _ _ _ 4 _ _ c.loop-quads.invariant c.push_quad.ensures (light-quad c.args.style))
 
 pub loop-cells-init : goal.loop-cells-init
-loop-cells-init c =
-    let e : c.loop-quads.quads * 4 ≡ c.args.count / 4 * 4 + 0 = omega arith in
-    search rules
+loop-cells-init c = search rules
 
 pub push_cell-requires : goal.push_cell-requires
 push_cell-requires c =
@@ -29,9 +26,7 @@ loop-cells-preserved c =
     search (rules, added-next)
 
 pub returns-clause-items : goal.returns-clause-items
-returns-clause-items c =
-    let e : c.args.count / 4 * 4 + c.loop-cells.cells ≡ c.args.count = omega arith in
-    search rules
+returns-clause-items c = search rules
 
 pub returns-clause-len : goal.returns-clause-len
 returns-clause-len c = search (rules, cells-length, cell-length)

@@ -1,10 +1,6 @@
-use Rattle.qr_drawing.proofs.lemmas.text.CellLemmas.{quad-inverse, quad-plain}
-use Rattle.qr_drawing.proofs.text.push_quad.Goals.{in-Inverse, in-Plain}
+use Rattle.std.proofs.Common.{rules}
+use Rattle.qr_drawing.proofs.{lemmas.text.CellLemmas.{quad-inverse, quad-plain}, text.push_quad.Goals.{in-Inverse, in-Plain}}
 use Rattle.qr_drawing.proofs.text.push_quad.Goals as goal
 
 pub returns : goal.returns
-returns c =
-    elim c.match-style.branch [
-      | in-Plain w ↦ cc (c.push_all.ensures.items, c.from.ensures, w.quad-is, w.in-Plain.is, quad-plain c.args.upper c.args.lower)
-      | in-Inverse w ↦ cc (c.push_all.ensures.items, c.from.ensures, w.quad-is, w.in-Inverse.is, quad-inverse c.args.upper c.args.lower)
-    ]
+returns c = search (rules, in-Plain, quad-plain, in-Inverse, quad-inverse)

@@ -1,6 +1,16 @@
-use Rattle.std.proofs.Common.{◌≡◌, ◌+◌, ◌++◌}
-use Rattle.qr_drawing.specs.{Raster.texts_below, Steps.Text.cell_at}
+use Rattle.std.proofs.Common.{◌≡◌, ◌≤◌, ◌+◌, ◌-◌, ◌%◌, ◌++◌}
+use Rattle.qr_drawing.specs.{Raster.texts_below, Steps.Text.{bits_text, cell_at}}
 use Rattle.qr_drawing.proofs.text.put_line.Given as goal
 
+abbrev pub invariant-eights : goal.invariant-eights
+invariant-eights g l = record {
+  within : l.col ≤ l.side;
+  whole : l.col % 8 ≡ 0;
+  items : l.text ≡ l.initial.text ++ texts_below l.col (λ i. cell_at l.style l.raster.margin l.raster.matrix.now l.row (l.raster.margin + i));
+}
+
+abbrev pub decreases-eights : goal.decreases-eights
+decreases-eights g l = l.side - l.col
+
 abbrev pub invariant-loop-done : goal.invariant-loop-done
-invariant-loop-done g l = l.text ≡ l.initial.text ++ texts_below l.done (λ i. cell_at l.style l.raster.margin l.raster.matrix.now l.row (l.first + i))
+invariant-loop-done g l = l.text ≡ l.initial.text ++ bits_text l.done l.style l.upper l.lower

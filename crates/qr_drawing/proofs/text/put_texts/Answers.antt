@@ -1,8 +1,7 @@
 use Rattle.std.proofs.{Common.{◌≡◌, ◌++◌, ◌∷◌, [], map, ap, append-nil, refl, arith, rules}, lemmas.Result.err_from_is_err_and}
 use Rattle.qr_drawing.specs.{Raster.raster_width, Svg.square_at, Text.{cells_of_line, line_count, text_drawing}}
 use Rattle.qr_drawing.proofs.lemmas.text.LineLemmas.{no-texts, put-next, put-none, put-stops, put-whole, stops-at}
-use Rattle.qr_drawing.proofs.lemmas.svg.PathLemmas.{square_at-item, texts-of-symbols}
-use Rattle.qr_drawing.proofs.text.put_texts.Goals.{in-HalfBlocks, in-Plain}
+use Rattle.qr_drawing.proofs.{lemmas.svg.PathLemmas.{square_at-item, texts-of-symbols}, text.put_texts.Goals.{in-HalfBlocks, in-Plain}}
 use Rattle.qr_drawing.proofs.text.put_texts.Goals as goal
 
 pub loop-symbol-init : goal.loop-symbol-init

@@ -1,6 +1,5 @@
-use Rattle.std.proofs.Common.{◌-◌, length, sym, ◌∙◌}
-use Rattle.std.proofs.lemmas.{Bool.Decides.Decides-eqb, List.take_rest, Slice.Eq.slice_eq-Decides}
-use Rattle.qr_mending.proofs.lemmas.block.BlockLemmas.{block-found, block-passes}
+use Rattle.qr_mending.proofs.lemmas.block.BlockLemmas.{block-corrects, block-found}
+use Rattle.std.proofs.{Common.{rules, ◌-◌, length, sym, ◌∙◌}, lemmas.{Bool.Decides.Decides-eqb, List.take_rest, Slice.Eq.slice_eq-Decides}}
 use Rattle.qr_mending.proofs.block.is_block.Goals as goal
 
 pub returns : goal.returns
@@ -13,6 +12,5 @@ returns c =
     let test = slice_eq-Decides Decides-eqb _ _ _ c.eq.ensures in (
       λ h. block-found n k b correction c.correction-correction.ensures.definition
           (sym c.as_slice.ensures.value ∙ (test.0 h ∙ take_rest b k)),
-      λ h. test.1 (c.as_slice.ensures.value
-          ∙ (block-passes n m b correction c.count.ensures.is h c.correction-correction.ensures.only ∙ sym (take_rest b k))),
+      λ h. test.1 (search (rules, take_rest, block-corrects)),
     )

@@ -1,5 +1,4 @@
-use Rattle.std.proofs.Common.{◌∙◌, refl, arith}
-use Rattle.std.proofs.lemmas.List.{Elements.All-from_get_or}
+use Rattle.std.proofs.{Common.{rules, ◌∙◌, refl, arith}, lemmas.List.Elements.All-from_get_or}
 use Rattle.qr_field.specs.Polynomial.{IsByte, plus}
 use Rattle.qr_mending.proofs.lemmas.block.BlockLemmas.{all-leading, search-mended, errors-few}
 use Rattle.qr_mending.proofs.block.mended_block.Goals as goal
@@ -22,9 +21,7 @@ returns-then-not-advance-2-clause-refused c = λ mended m.
     c.if-not-advance-2.ensures.beyond (plus damaged mended) few
 
 pub without_errors-early-requires-clause-leading : goal.without_errors-early-requires-clause-leading
-without_errors-early-requires-clause-leading c =
-    rw c.coefficients.ensures.value
-    (all-leading c.advance.new.self.search.best c.if-not-advance.ensures.progress.search.best.monic c.coefficients.ensures.terms)
+without_errors-early-requires-clause-leading c = search (rules, all-leading)
 
 pub without_errors-block-requires-clause-leading : goal.without_errors-block-requires-clause-leading
 without_errors-block-requires-clause-leading c =
@@ -39,7 +36,7 @@ returns-then-progress-t-clause-refused c = λ mended m.
     c.if-not-advance.ensures.progress c.if-progress-t.true
     (rw (c.coefficients.ensures.value, c.as_slice.ensures.value) at c.without_errors-early.ensures.sum)
     mended (rw (← c.requires.count) at m) in
-    c.if-is_mended.ensures.no (rw (c.as_slice-2.ensures.value ∙ same) m)
+    search rules
 
 pub returns-then-not-is_mended-clause-refused : goal.returns-then-not-is_mended-clause-refused
 returns-then-not-is_mended-clause-refused c = λ mended m.

@@ -1,8 +1,6 @@
-use Rattle.std.proofs.Common.{rules}
-use Rattle.std.proofs.{Common.{arith}, lemmas.List.Elements.All-from_get_or}
+use Rattle.std.proofs.{Common.{rules, arith}, lemmas.List.Elements.All-from_get_or}
 use Rattle.{qr_field.specs.Polynomial.IsByte, qr_mending.proofs.lemmas.erasures.ErasureLemmas.candidate-mended}
-use Rattle.qr_mending.proofs.lemmas.{block.BlockLemmas.{all-leading, same-values}, roots.RootLemmas.{rooted-leading}}
-use Rattle.qr_mending.specs.Steps.Polynomial.{all_of}
+use Rattle.qr_mending.{proofs.lemmas.{block.BlockLemmas.all-leading, roots.RootLemmas.rooted-leading}, specs.Steps.Polynomial.all_of}
 use Rattle.qr_mending.proofs.erasures.candidate.Goals as goal
 
 pub without_errors-requires-clause-leading : goal.without_errors-requires-clause-leading
@@ -23,7 +21,7 @@ returns-clause-mended c =
     (omega arith)
     (omega arith)
     (record {
-      values = search (rules, same-values);
+      values = search rules;
       modified = c.modified_syndromes-modified.result.items;
       left = rw (c.as_slice.ensures.value, c.with_roots-erasure_locator.ensures.product, c.as_slice-2.ensures.value) at
           c.modified_syndromes-modified.ensures.values;

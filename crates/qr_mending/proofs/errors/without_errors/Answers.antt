@@ -2,8 +2,7 @@ use Rattle.std.proofs.Common.{rules, ◌≡◌, ℕ, ◌+◌, ◌-◌, List, ◌
 use Rattle.std.proofs.lemmas.List.{length-take-le, take_all, drop_all, drop_more, length-set, append-nil}
 use borrow.Rule.Slice.PartMut.{post_of}
 use Rattle.qr_field.{specs.Polynomial.{plus}, proofs.lemmas.polynomial.ListLemmas.{length-plus}}
-use Rattle.qr_mending.specs.Steps.Errors.{AreErrors, AreLeft}
-use Rattle.qr_mending.proofs.lemmas.errors.RemovalLemmas.{refill-same, sum-set, sum-last}
+use Rattle.qr_mending.{specs.Steps.Errors.{AreErrors, AreLeft}, proofs.lemmas.errors.RemovalLemmas.{refill-same, sum-set, sum-last}}
 use Rattle.qr_mending.proofs.errors.without_errors.Goals as goal
 
 pub loop-k-preserved : goal.loop-k-preserved

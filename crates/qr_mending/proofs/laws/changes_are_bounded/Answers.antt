@@ -1,5 +1,7 @@
-use Rattle.qr_mending.proofs.lemmas.laws.BoundLemmas.{changes-few, changes-some, correctable-bounds}
+use Rattle.std.proofs.Common.{rules}
+use Rattle.qr_layout.proofs.Facts.{blocks-sound}
+use Rattle.qr_mending.proofs.lemmas.laws.BoundLemmas.{changes-few, correctable-bounds}
 use Rattle.qr_mending.proofs.laws.changes_are_bounded.Goals as goal
 
 pub returns : goal.returns
-returns c = record { some = changes-some; few = changes-few; correctable = correctable-bounds }
+returns c = record { some = search (rules, blocks-sound); few = changes-few; correctable = correctable-bounds }

@@ -1,8 +1,6 @@
-use Rattle.qr_symbol.specs.Reading.{interpreted_content}
+use Rattle.qr_symbol.{specs.Reading.interpreted_content, proofs.Facts.{symbol-format, symbol-holds}}
 use Rattle.{std.{proofs.Common.arith, specs.Prelude.None}, qr_matrix.specs.Grid.light}
-use Rattle.qr_symbol.proofs.Facts.{symbol-format, symbol-holds}
-use Rattle.qr_mending.proofs.lemmas.laws.DamageLemmas.{symbol-mended, symbol-mended-as}
-use Rattle.qr_mending.proofs.lemmas.laws.FewModuleLemmas.{few-format, few-damaged}
+use Rattle.qr_mending.proofs.lemmas.laws.{DamageLemmas.{symbol-mended, symbol-mended-as}, FewModuleLemmas.{few-format, few-damaged}}
 use Rattle.qr_mending.proofs.laws.few_wrong_modules_are_mended.Goals as goal
 
 pub returns : goal.returns

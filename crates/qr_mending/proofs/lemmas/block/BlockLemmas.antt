@@ -3,14 +3,12 @@
 use Rattle.std.proofs.Common.{◌≡◌, ℕ, ◌+◌, ◌-◌, ◌*◌, ◌/◌, ◌<◌, ◌≤◌, Option, Some, List, [], ◌∷◌, ◌++◌, length, map, take, drop, refl, sym, ap, ◌∙◌, subst, arith, length-append}
 use Rattle.std.proofs.lemmas.List.{length-map, length-take-le, take_more, take_at, take-append-drop, drop_at}
 use Rattle.{std.specs.{List.All, Int.Bits.{xor_zero_r, xor_self}}}
-use Rattle.qr_field.specs.Polynomial.{IsByte, plus, IsCorrection}
-use Rattle.qr_field.specs.{Distance.{differences, erasures, errors}, Steps.Polynomial.value_at}
+use Rattle.qr_field.specs.{Polynomial.{IsByte, plus, IsCorrection}, Distance.{differences, erasures, errors}, Steps.Polynomial.value_at}
 use Rattle.qr_field.proofs.lemmas.galois.{BitLemmas.xor-cancel, ByteLemmas.product-by_one}
 use Rattle.qr_field.proofs.lemmas.polynomial.{ListLemmas.{length-plus, bytes-plus}, PolynomialLemmas.correction-one}
 use Rattle.qr_field.proofs.lemmas.laws.ValueLemmas.{value-lt, value-plus, value-zero, block-bytes, block-root}
 use Rattle.qr_field.proofs.lemmas.laws.DistanceLemmas.{weight-plus, difference-same, unambiguous-known, erasures-read, errors-read}
-use Rattle.qr_mending.specs.{Block.{IsBlock, IsMended}, Steps.Polynomial.{all_of, IsMonic, IsProgress}}
-use Rattle.qr_mending.specs.declared.locator.Progress.{Progress}
+use Rattle.qr_mending.specs.{Block.{IsBlock, IsMended}, Steps.Polynomial.{all_of, IsMonic, IsProgress}, declared.locator.Progress.Progress}
 use Rattle.qr_mending.specs.{Erasures.IsMendedWithErasures, declared.polynomial.Polynomial.Polynomial}
 use Rattle.qr_mending.specs.Steps.{Sums.{HasValues, HasSameValues}, Roots.HasLeadingOne, Errors.{AreFewErrorsOf, AreErrors}}
 use Rattle.qr_mending.proofs.lemmas.locator.SearchLemmas.{few-values, search-locates, weight-zeros}
@@ -78,10 +76,6 @@ remainder-values n k damaged correction r a long corrects sum count =
           ∙ errors-value n damaged b block same a i (omega arith)));
     }
 
--- the values of a remainder are those of the damaged block
-pub same-values : (s r e : List ℕ) → HasValues s r → HasSameValues r e → length s ≡ length r → HasValues s e
-same-values s r e h same l = search arith
-
 -- the list of all coefficients ends with the leading 1
 pub all-leading : (p : Polynomial) → IsMonic p → p.degree < length p.terms → HasLeadingOne (all_of p)
 all-leading p m l = record { others = take p.degree p.terms; whole = search (arith, take_more) }
@@ -129,13 +123,6 @@ search-mended progress t damaged r items most a same h full sum b m =
 -- codewords with the correction that follows from them are a block
 pub block-found : (n k : ℕ) (b correction : List ℕ) → IsCorrection (take k b) n correction → correction ≡ drop k b → IsBlock n b
 block-found n k b correction c e = search (arith, take-append-drop)
-
--- a block ends in the correction that follows from its data codewords
-pub block-passes : (n m : ℕ) (b correction : List ℕ) → m ≡ n → IsBlock n b →
-    ((e : List ℕ) → IsCorrection (take (length b - m) b) n e → e ≡ correction) → correction ≡ drop (length b - m) b
-block-passes n m b correction e h only =
-    sym (only (drop (length b - m) b)
-    (search (arith, block-corrects)))
 
 -- a list differs from itself in no item
 pub differences-same : (xs : List ℕ) → differences xs xs ≡ 0

@@ -1,23 +1,18 @@
 -- Erased codewords. Each error is multiplied by the value of a polynomial that has a root for each erased codeword. Then
 -- only as many errors are left as codewords were misread. A polynomial that locates the errors left, times those roots,
 -- locates all errors.
+use Rattle.std.proofs.lemmas.List.{get_or_push, length_push, get_or_append_left, drop_more, Elements.{All-nil, All-cons, All-head, All-tail}}
 use Rattle.std.proofs.Common.{◌≡◌, ℕ, zero, suc, ◌+◌, ◌-◌, ◌/◌, ◌<◌, ◌≤◌, Bool, true, false, Option, None, Some, List, [], ◌∷◌, ◌++◌, length, map, replicate, drop, get_or, refl, sym, ap, ◌∙◌, arith, lit<, bit_xor}
-use Rattle.std.proofs.lemmas.List.{drop_more, Elements.{All-nil, All-cons, All-head, All-tail}}
-use Rattle.std.specs.Prelude.{IfSome, IfNone}
-use Rattle.std.specs.{List.All, List.count_by, Int.Bits.xor_self}
+use Rattle.std.specs.{Prelude.{IfSome, IfNone}, List.{All, count_by}, Int.Bits.xor_self}
 use Rattle.qr_field.specs.{Polynomial.{IsByte, plus, power}, Distance.{difference, differences, erasures, errors}}
-use Rattle.qr_field.proofs.lemmas.galois.ByteLemmas.{product-by_zero, product-of_zero}
-use Rattle.qr_field.proofs.lemmas.{galois.PowerLemmas.power-lt, galois.FieldLemmas.{product-factor, sum-none}}
+use Rattle.qr_field.proofs.lemmas.galois.{ByteLemmas.{product-by_zero, product-of_zero}, PowerLemmas.power-lt, FieldLemmas.{product-factor, sum-none}}
 use Rattle.qr_field.proofs.lemmas.polynomial.ListLemmas.{length-plus, bytes-plus}
 use Rattle.qr_field.proofs.lemmas.laws.DistanceLemmas.{weight, difference-same, difference-alike, errors-read}
-use Rattle.qr_mending.specs.{Block.IsMended, Erasures.{read_of, IsMendedWithErasures}}
-use Rattle.qr_mending.specs.Steps.{Sums.{dot_of, eval, HasValues}, Roots.rooted}
+use Rattle.qr_mending.specs.{Block.IsMended, Erasures.{read_of, IsMendedWithErasures}, Steps.{Sums.{dot_of, eval, HasValues}, Roots.rooted}}
 use Rattle.qr_mending.specs.Steps.{Errors.{coefficient, weighted, AreFewErrors, AreErrors, IsLocated}}
-use Rattle.qr_mending.proofs.lemmas.sums.SumLemmas.{dot-blend, eval-lt, values-more}
+use Rattle.qr_mending.proofs.lemmas.{sums.SumLemmas.{dot-blend, eval-lt}, roots.RootLemmas.{count-more, bytes-rooted, eval-rooted, has-roots, rooted-roots}}
 use Rattle.qr_mending.proofs.lemmas.errors.WeightLemmas.{length-weighted, bytes-weighted, difference-product, weighted-value, coefficient-lt, coefficient-weighted}
-use Rattle.qr_mending.proofs.lemmas.roots.RootLemmas.{count-more, bytes-rooted, eval-rooted, has-roots, rooted-roots}
-use Rattle.qr_mending.proofs.lemmas.block.BlockLemmas.{bytes-block, errors-values, mended-read, plus-cancel, read-mended}
-use Rattle.qr_mending.proofs.lemmas.locator.SearchLemmas.{weight-zeros}
+use Rattle.qr_mending.proofs.lemmas.{block.BlockLemmas.{bytes-block, errors-values, mended-read, plus-cancel, read-mended}, locator.SearchLemmas.weight-zeros}
 
 -- ---- what was read
 
@@ -97,14 +92,14 @@ pub unerased-only : (n spare : ℕ) (old new : List ℕ) (es : List Bool) (o : O
     IfSome o (λ _. (mended : List ℕ) → IsMended n (spare / 2) old mended → mended ≡ new) →
     IfSome o (λ _. (mended : List ℕ) → IsMendedWithErasures n spare (read_of old es) mended → mended ≡ new)
 unerased-only n spare old new es None same h = tt
-unerased-only n spare old new es (Some x) same h = λ mended m. h mended (unerased-read n spare old mended es same m)
+unerased-only n spare old new es (Some x) same h = search (arith, unerased-read)
 
 -- and is refused with erasures if it is refused without
 pub unerased-refused : (n spare : ℕ) (old : List ℕ) (es : List Bool) (o : Option ℕ) →
     read_of old es ≡ map (λ x. Some x) old →
     IfNone o ((mended : List ℕ) → IsMended n (spare / 2) old mended → ⊥) →
     IfNone o ((mended : List ℕ) → IsMendedWithErasures n spare (read_of old es) mended → ⊥)
-unerased-refused n spare old es None same h = λ mended m. h mended (unerased-read n spare old mended es same m)
+unerased-refused n spare old es None same h = search (arith, unerased-read)
 unerased-refused n spare old es (Some x) same h = tt
 
 -- ---- the errors that are left
@@ -156,7 +151,7 @@ pub modified-more : (p s e items new : List ℕ) (i v : ℕ) → All IsByte p �
     i + length p ≤ length s → length items ≡ i → HasValues items (weighted p e) →
     v ≡ dot_of p (drop i s) → new ≡ items ++ v ∷ [] → HasValues new (weighted p e)
 modified-more p s e items new i v lp le h l count now value push =
-    search (arith, dot-blend, weighted-value, values-more)
+    search (arith, dot-blend, weighted-value, get_or_append_left, length_push, get_or_push)
 
 -- ---- all errors
 

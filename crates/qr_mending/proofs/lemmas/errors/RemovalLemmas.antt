@@ -1,18 +1,15 @@
 -- The errors are found one at a time. A polynomial that has a root for each later error, but none for this one, leaves
 -- of the products of all errors only that of this one.
-use Rattle.std.proofs.Common.{◌≡◌, ℕ, zero, suc, ◌+◌, ◌-◌, ◌*◌, ◌<◌, ◌≤◌, List, [], ◌∷◌, ◌++◌, length, take, drop, get_or, set, refl, sym, ap, ◌∙◌, inl, inr, arith, bit_xor}
-use Rattle.std.proofs.Math.{Numerals.{suc-eq-add-one}, Seq.{take-append_seam, drop-append_seam}}
-use Rattle.std.proofs.lemmas.{Nat.xor_of_8, Nat.xor_comm, List.{length_push, length-take-le, take-append-drop, take_more, drop_all, append-nil, take_all}, Bool.cases_eq, List.Elements.{All-head, All-tail}}
-use Rattle.std.specs.{List.{All, refill}, Int.Bits.{xor_zero_r, xor_self}}
+use Rattle.std.proofs.Common.{◌≡◌, ℕ, zero, suc, ◌+◌, ◌-◌, ◌<◌, ◌≤◌, List, [], ◌∷◌, ◌++◌, length, take, drop, get_or, set, refl, sym, ap, ◌∙◌, inl, inr, arith, bit_xor}
+use Rattle.std.{proofs.Math.{Numerals.suc-eq-add-one, Seq.{take-append_seam, drop-append_seam}}, specs.{List.{All, refill}, Int.Bits.{xor_zero_r, xor_self}}}
+use Rattle.std.proofs.lemmas.{Nat.xor_of_8, List.{length_push, length-take-le, take-append-drop, take_more, drop_all, append-nil, take_all, Elements.{All-head, All-tail}}, Bool.cases_eq}
 use Rattle.qr_field.specs.{Galois.product, Polynomial.{IsByte, plus, power}, Steps.Polynomial.value_at}
-use Rattle.qr_field.proofs.lemmas.galois.{BitLemmas.xor-cancel, ByteLemmas.{product-by_zero, product-of_zero, product-by_one}, ProductLemmas.{product-lt, product-xor}}
-use Rattle.qr_field.proofs.lemmas.galois.FieldLemmas.{product-factor, sum-none}
+use Rattle.qr_field.proofs.lemmas.galois.{ByteLemmas.{product-by_zero, product-of_zero, product-by_one}, ProductLemmas.{product-lt, product-xor}}
+use Rattle.qr_field.proofs.lemmas.{galois.FieldLemmas.{product-factor, sum-none}, polynomial.ListLemmas.length-plus}
 use Rattle.qr_field.proofs.lemmas.{galois.PowerLemmas.{power-lt, power-add, power-round, powers-apart}, laws.ValueLemmas.{value-zero}}
-use Rattle.qr_field.proofs.lemmas.polynomial.ListLemmas.{length-plus}
 use Rattle.qr_mending.specs.declared.errors.Removal.{Removal}
-use Rattle.qr_mending.specs.Steps.{Sums.{dot_of, eval, HasValues}, Roots.HasLeadingOne, Errors.{coefficient, weighted, AreLeft, IsLocated, IsRemoval}}
-use Rattle.qr_mending.proofs.lemmas.sums.SumLemmas.{dot-blend}
-use Rattle.qr_mending.proofs.lemmas.errors.WeightLemmas.{coefficient-head, coefficient-tail, root-blends, weighted-value}
+use Rattle.qr_mending.specs.Steps.{Sums.{dot_of, eval, HasValues}, Roots.HasLeadingOne, Errors.{coefficient, weighted, AreLeft, IsLocated}}
+use Rattle.qr_mending.proofs.lemmas.{sums.SumLemmas.dot-blend, errors.WeightLemmas.{coefficient-head, coefficient-tail, root-blends, weighted-value}}
 
 -- ---- the locator
 
@@ -48,18 +45,9 @@ error-sum p s e c lp le h values long =
 
 -- ---- the syndromes
 
--- the values of the errors after the first
-pub values-rest : (s t e : List ℕ) (c : ℕ) → HasValues s (c ∷ e) → length t ≤ length s →
-    ((k : ℕ) → k < length t → get_or t k 0 ≡ bit_xor (get_or s k 0) (product c (power (k * length e)))) → HasValues t e
-values-rest s t e c h long each = search (arith, xor_comm, xor-cancel)
-
 -- a list that is overwritten with a list of the same length becomes the second list
 pub refill-same : (xs ws : List ℕ) (n : ℕ) → n ≡ length xs → length ws ≡ length xs → refill n xs ws ≡ ws
 refill-same xs ws n l e = search (arith, drop_all, append-nil, take_all)
-
--- an error of 0 does not change the values
-pub values-same : (s e : List ℕ) → HasValues s (0 ∷ e) → HasValues s e
-values-same s e h = record { each = λ k l. h.each k l ∙ value-zero k e }
 
 -- ---- the codewords
 
@@ -98,15 +86,6 @@ no-errors (x ∷ xs) (c ∷ e) l h =
 pub none-left : (xs e : List ℕ) → length e ≡ length xs → IsLocated (1 ∷ []) e → plus xs e ≡ xs
 none-left xs e l h = search (arith, no-errors, product-by_zero, power-lt, xor_zero_r)
 
--- the first codeword is the one with an error
-first-sum : (x v i : ℕ) (xs : List ℕ) → i ≡ 0 → set (x ∷ xs) i (bit_xor (get_or (x ∷ xs) i 0) v) ≡ bit_xor x v ∷ xs
-first-sum x v i xs e = rw e refl
-
--- one with an error comes later
-later-sum : (x v i j : ℕ) (xs : List ℕ) → i ≡ suc j →
-    set (x ∷ xs) i (bit_xor (get_or (x ∷ xs) i 0) v) ≡ x ∷ set xs j (bit_xor (get_or xs j 0) v)
-later-sum x v i j xs e = rw e refl
-
 -- one error, which is the sum of all
 one-error : (xs e : List ℕ) (p : ℕ) → length e ≡ length xs → p < length e → All IsByte e →
     ((m : ℕ) → m < length e → (m ≡ p → ⊥) → coefficient m e ≡ 0) →
@@ -114,12 +93,12 @@ one-error : (xs e : List ℕ) (p : ℕ) → length e ≡ length xs → p < lengt
 one-error xs [] p l within le h = absurd (omega arith)
 one-error [] (c ∷ e) p l within le h = absurd (omega arith)
 one-error (x ∷ xs) (c ∷ e) p l within le h = elim (cases_eq (length e) p) [
-  | inl s ↦ search (arith, no-errors, coefficient-tail, product-by_one, All-head, xor_zero_r, first-sum)
+  | inl s ↦ search (arith, no-errors, coefficient-tail, product-by_one, All-head, xor_zero_r)
   | inr o ↦
       let none : c ≡ 0 = sym (coefficient-head (length e) c e refl) ∙ h (length e) (omega arith) o in
       let rest = one-error xs e p (omega arith) (omega arith) (All-tail IsByte c e le) (λ m n t.
       sym (coefficient-tail m c e (λ u. omega arith)) ∙ h m (omega arith) t) in
-      search (arith, value-zero, later-sum, xor_zero_r)
+      search (arith, value-zero, xor_zero_r)
 ]
 
 -- where the locator is x + root, an error is at its root alone
@@ -204,11 +183,6 @@ sum-last xs e items new k long l same rest =
 
 -- ---- the search
 
--- the next codeword has no error, if a value shows it
-pub next-none : (left c : ℕ) (e : List ℕ) (r : Removal) → AreLeft (left + 1) (c ∷ e) r → r.first ≤ left →
-    (get_or r.values (left - r.first) 0 ≡ 0 → ⊥) → c ≡ 0
-next-none left c e r h least some = search (arith, coefficient-head)
-
 -- where there is no error later
 pub none-later : (left c : ℕ) (e : List ℕ) (r : Removal) → AreLeft (left + 1) (c ∷ e) r → (m : ℕ) → r.first ≤ m → m < left →
     (get_or r.values (m - r.first) 0 ≡ 0 → ⊥) → coefficient m e ≡ 0
@@ -220,13 +194,7 @@ left-next left c e r h none = record {
   errors = record {
     count = omega arith;
     located = located-rest r.locator.items e c h.errors.located;
-    values = search (arith, values-same);
+    values = search (arith, value-zero);
   };
   none = none-later left c e r h;
 }
-
--- the roots that are left after a division
-pub roots-left : (left : ℕ) (r : Removal) (q : List ℕ) → left < 255 → IsRemoval (left + 1) r →
-    ((y : ℕ) → y < 256 → (y ≡ power left → ⊥) → eval y r.locator.items ≡ 0 → eval y q ≡ 0) → (m : ℕ) →
-    r.first ≤ m → m < left → get_or r.values (m - r.first) 0 ≡ 0 → eval (power m) q ≡ 0
-roots-left left r q small h others m least l z = search (arith, power-lt, powers-apart)

@@ -2,15 +2,12 @@
 -- differ from 0 as there are errors, so all are 0 if their first values are. They are 0 exactly if each error is at a
 -- root of the polynomial.
 use Rattle.std.proofs.Common.{◌≡◌, ℕ, suc, ◌+◌, ◌*◌, ◌<◌, ◌≤◌, List, [], ◌∷◌, length, refl, sym, ap, ◌∙◌, inl, inr, arith, lit<, bit_xor}
-use Rattle.std.proofs.lemmas.{Bool.{cases_eq, eq-eqb, ne_eqb}, List.Elements.{All-nil, All-cons, All-head, All-tail}}
-use Rattle.std.specs.{List.All, Int.Bits.xor_zero_l}
+use Rattle.std.{proofs.lemmas.{Bool.{cases_eq, eq-eqb, ne_eqb}, List.Elements.{All-nil, All-cons, All-head, All-tail}}, specs.{List.All, Int.Bits.xor_zero_l}}
 use Rattle.qr_field.specs.{Galois.product, Polynomial.{IsByte, power}, Steps.Polynomial.value_at, Distance.difference}
-use Rattle.qr_field.proofs.lemmas.galois.ByteLemmas.{product-by_zero, product-of_zero}
-use Rattle.qr_field.proofs.lemmas.{galois.ProductLemmas.product-lt, galois.PowerLemmas.power-lt}
+use Rattle.qr_field.proofs.lemmas.galois.{ByteLemmas.{product-by_zero, product-of_zero}, ProductLemmas.product-lt, PowerLemmas.power-lt}
 use Rattle.qr_field.proofs.lemmas.{galois.FieldLemmas.product-factor, laws.ValueLemmas.value-lt}
 use Rattle.qr_field.proofs.lemmas.laws.DistanceLemmas.{weight, weight-none, value-none, difference-same, difference-other, difference-most}
-use Rattle.qr_mending.specs.Steps.{Sums.eval, Sums.blend, Errors.coefficient, Errors.weighted}
-use Rattle.qr_mending.proofs.lemmas.sums.SumLemmas.{eval-lt, field_laws, power-next}
+use Rattle.qr_mending.{specs.Steps.{Sums.{eval, blend}, Errors.{coefficient, weighted}}, proofs.lemmas.sums.SumLemmas.{eval-lt, field_laws, power-next}}
 
 -- there is a product for each error
 pub length-weighted : (p e : List ℕ) → length (weighted p e) ≡ length e
@@ -78,10 +75,6 @@ pub weighted-none : (t : ℕ) (p e : List ℕ) → All IsByte p → All IsByte e
 weighted-none t p e lp le most few h =
     search (arith, weight-weighted, weight-none, length-weighted, bytes-weighted, weighted-value)
 
--- a byte that does not differ from 0 is 0
-difference-none : (x : ℕ) → difference x 0 ≡ 0 → x ≡ 0
-difference-none x h = search (arith, difference-other)
-
 -- the coefficient of the highest power
 pub coefficient-head : (m c : ℕ) (e : List ℕ) → m ≡ length e → coefficient m (c ∷ e) ≡ c
 coefficient-head m c e h = rw (eq-eqb m (length e) h)
@@ -95,7 +88,7 @@ weighted-root : (p e : List ℕ) → All IsByte p → All IsByte e → weight (w
     m < length e → (eval (power m) p ≡ 0 → ⊥) → coefficient m e ≡ 0
 weighted-root p [] lp le w m l n = absurd (omega arith)
 weighted-root p (c ∷ e) lp le w m l n = elim (cases_eq m (length e)) [
-  | inl h ↦ search (arith, difference-none, coefficient-head, product-factor, All-head, eval-lt, power-lt)
+  | inl h ↦ search (arith, coefficient-head, product-factor, All-head, eval-lt, power-lt, difference-other)
   | inr o ↦
       rw (coefficient-tail m c e o)
       (weighted-root p e lp (All-tail IsByte c e le) (omega arith) m (omega arith) n)

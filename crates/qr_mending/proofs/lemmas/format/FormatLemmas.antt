@@ -1,27 +1,22 @@
 -- Any two words of the format information differ in at least seven bits, so at most one word is near to what was read.
-use Rattle.std.{specs.Prelude.◌⊎◌, proofs.lemmas.Bool.{cases_eq, ne_eqb}}
-use Rattle.std.proofs.Common.{◌≡◌, ℕ, zero, suc, ◌+◌, ◌-◌, ◌*◌, ◌/◌, ◌^◌, ◌<◌, ◌≤◌, ◌==◌, Bool, true, cond, not, ◌&&◌, ◌||◌, eqb, ltb, bit_and, bit_xor, refl, ◌∙◌, inl, inr, arith}
-use Rattle.std.proofs.Math.Nat.{pow-suc}
+use Rattle.std.{specs.Prelude.◌⊎◌, proofs.{lemmas.Bool.{cases_eq, ne_eqb}, Math.Nat.pow-suc}}
+use Rattle.std.proofs.Common.{◌≡◌, ℕ, zero, suc, ◌+◌, ◌-◌, ◌*◌, ◌/◌, ◌^◌, ◌<◌, ◌≤◌, ◌==◌, Bool, true, not, ◌&&◌, ◌||◌, eqb, ltb, bit_and, bit_xor, refl, ◌∙◌, inl, inr, arith}
 use Rattle.qr_matrix.proofs.Facts.{has_bit-and, has_bit-ones, has_bit-shr, has_bit-xor}
 use borrow.Author.Tests.{ltb-true}
 use Rattle.qr_layout.specs.{declared.level.Level.Level, Format.{word_remainder, format_with, five_bits, format_word_of}}
 use Rattle.{qr_layout.proofs.Facts.{below, below-at}, qr_symbol.proofs.Facts.{level-small, level-one}}
 use Rattle.qr_matrix.specs.{Grid.Grid, Grid.is_same, Sums.count_below, Sums.sum_below, BitRow.has_bit}
 use Rattle.qr_mending.specs.declared.format.FormatCopy.{FormatCopy, TheVariants.First, TheVariants.Second}
-use Rattle.qr_mending.specs.Format.{bit_difference, bit_differences, copy_cost, format_cost, IsNearFormat}
+use Rattle.qr_mending.specs.Format.{bit_differences, copy_cost, format_cost, IsNearFormat}
 
 -- ---- three words
-
--- a module that is not read or misread beside two bits, if these differ
-bit-between : (u r p q : Bool) → bit_difference p q ≤ cond u 1 0 + cond (not u && not (is_same r p)) 1 0 + cond (not u && not (is_same r q)) 1 0
-bit-between u r p q = grind arith
 
 -- twice the differences of two words are at most what a copy costs beside both
 bits-between : (n : ℕ) (u r p q : ℕ → Bool) →
     2 * bit_differences n p q ≤ (count_below n u + 2 * count_below n (λ i. not (u i) && not (is_same (r i) (p i))))
     + (count_below n u + 2 * count_below n (λ i. not (u i) && not (is_same (r i) (q i))))
 bits-between zero u r p q = omega arith
-bits-between (suc n) u r p q = search (arith, bit-between, bits-between n u r p q)
+bits-between (suc n) u r p q = search (arith, bits-between n u r p q)
 
 -- equal bits have equal numbers of differences
 pub bits-alike : (n : ℕ) (p q r s : ℕ → Bool) → ((i : ℕ) → i < n → p i ≡ r i) →
@@ -114,15 +109,11 @@ sure-one unknown g l k m n p q h j = elim (word-one l k m n p q) [
 
 -- ---- a copy as numbers
 
--- the lowest bit of a number with a bit more
-bit-first : (d x : ℕ) → x < 2 → has_bit (2 * d + x) 0 ≡ (x == 1)
-unfolding has_bit
-bit-first d x l = search arith
-
 -- the bits of a number with a bit more
 pub bits-more : (p : ℕ → Bool) (d x i k : ℕ) → x < 2 → 1 ≤ i → (x == 1) ≡ p (i - 1) →
     ((k : ℕ) → i + k < 15 → has_bit d k ≡ p (i + k)) → i - 1 + k < 15 → has_bit (2 * d + x) k ≡ p (i - 1 + k)
-bits-more p d x i zero l some first h inside = search (arith, bit-first)
+unfolding has_bit
+bits-more p d x i zero l some first h inside = search arith
 bits-more p d x i (suc k) l some first h inside =
     let next : k + 1 ≡ suc k = omega arith in
     let at : i - 1 + suc k ≡ i + k = omega arith in

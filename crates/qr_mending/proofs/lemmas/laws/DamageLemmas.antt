@@ -1,14 +1,10 @@
 -- A damaged symbol of an input is mended to the input.
-use Rattle.qr_bits.specs.declared.interpretation.Interpretation.{Interpretation}
-use Rattle.qr_bits.specs.Interpretation.{MayWrite}
+use Rattle.qr_bits.specs.{declared.{interpretation.Interpretation.Interpretation, modes.Rule.Rule}, Interpretation.MayWrite, Parsing.Content}
 use Rattle.qr_symbol.proofs.Facts.{symbol-parsed}
-use Rattle.qr_symbol.specs.Reading.{interpreted_content}
-use Rattle.std.proofs.Common.{◌≡◌, ℕ, ◌≤◌, List, arith}
-use Rattle.std.specs.Prelude.{Result, Ok, Err, None, IfOk, MatchResult}
-use Rattle.{qr_layout.specs.declared.level.Level.Level, qr_matrix.specs.Grid.Grid}
-use Rattle.qr_bits.specs.{declared.modes.Rule.Rule, Parsing.Content}
-use Rattle.qr_symbol.specs.{Symbol.grid_of, declared.fault.ReadFault.ReadFault, Encoding.IsSymbol}
+use Rattle.qr_symbol.specs.{Reading.interpreted_content, Symbol.grid_of, declared.fault.ReadFault.ReadFault, Encoding.IsSymbol}
 use Rattle.qr_symbol.specs.declared.fault.ReadFault.TheVariants as fault
+use Rattle.std.{proofs.Common.{◌≡◌, ℕ, ◌≤◌, List, arith}, specs.Prelude.{Result, Ok, Err, None, IfOk, MatchResult}}
+use Rattle.{qr_layout.specs.declared.level.Level.Level, qr_matrix.specs.Grid.Grid}
 use Rattle.qr_mending.{specs.declared.mending.Mended.Mended, proofs.lemmas.laws.SoundnessLemmas.wrong-one}
 use Rattle.qr_mending.specs.Mending.{wrong_format_modules, wrong_modules, HasFormat, HasWrongModules, HoldsDamaged, IsDamagedForm, IsMendedReading, IsUnmended}
 use Rattle.qr_mending.proofs.lemmas.mending.MendingLemmas.{mended-reading-one, mended-not-refused}

@@ -4,30 +4,20 @@ use Rattle.{std.proofs.lemmas.Bool.Decides.nat_tests, qr_layout.proofs.Facts.for
 use Rattle.qr_layout.specs.{declared.level.Level.Level, Format.format_word_of, Format.second_place}
 use Rattle.qr_matrix.{proofs.Facts.colour-square, specs.BitRow.has_bit}
 use Rattle.qr_symbol.specs.{Symbol.colour_of, Symbol.grid_of, Distance.HeldMessage}
-use Rattle.{qr_symbol.proofs.Facts.{format-read, messages-apart}, qr_mending.specs.Format.{bit_differences, copy_bit}}
-use Rattle.qr_mending.specs.declared.format.FormatCopy.{FormatCopy, TheVariants.First, TheVariants.Second}
-use Rattle.qr_mending.specs.Distance.{FormatsLieApart, SomeBlockLiesApart, SymbolsLieApart}
+use Rattle.{qr_symbol.proofs.Facts.{format-read, messages-apart}, qr_mending.specs.Format.copy_bit}
+use Rattle.qr_mending.specs.{declared.format.FormatCopy.{FormatCopy, TheVariants.{First, Second}}, Distance.{SomeBlockLiesApart, SymbolsLieApart}}
 use Rattle.qr_mending.proofs.lemmas.format.FormatLemmas.{bits-alike, word-one}
 
 -- the places of the second copy are inside the square
 second-row : (s i : ℕ) → 21 ≤ s → i < 15 → (second_place s i).row < s
 second-row s i m l = grind (arith, nat_tests)
 
-second-col : (s i : ℕ) → 21 ≤ s → i < 15 → (second_place s i).col < s
-second-col s i m l = grind (arith, nat_tests)
-
 -- the bits of each copy in a symbol are those of the word of its level and mask
 pub shown : (copy : FormatCopy) (v : ℕ) (l : Level) (mask : ℕ) (cw : List ℕ) (i : ℕ) → 1 ≤ v →
     v ≤ 40 → mask < 8 → i < 15 → copy_bit copy (grid_of v l mask cw) i ≡ has_bit (format_word_of l mask) i
 unfolding colour_of
 shown First v l mask cw i p q h r = (format-read v l mask cw p q h).bits i r
-shown Second v l mask cw i p q h r = search (arith, second-row, second-col, colour-square, format-second)
-
--- symbols of different levels or masks differ in at least seven modules of each copy of the format information
-formats-apart : (v : ℕ) (l k : Level) (m n : ℕ) (cw ds : List ℕ) → 1 ≤ v → v ≤ 40 → m < 8 → n < 8 →
-    7 ≤ bit_differences 15 (has_bit (format_word_of l m)) (has_bit (format_word_of k n)) →
-    FormatsLieApart (grid_of v l m cw) (grid_of v k n ds)
-formats-apart v l k m n cw ds p q h j far = search (arith, bits-alike, shown)
+shown Second v l mask cw i p q h r = search (arith, second-row, colour-square, format-second, nat_tests)
 
 -- different messages of one level differ in some block in more than twice as many codewords as can be mended
 blocks-apart : (v : ℕ) (l k : Level) (m : HeldMessage v l) (n : HeldMessage v k) → 1 ≤ v → v ≤ 40 →
@@ -40,5 +30,5 @@ blocks-apart v l k m n p q s o =
 pub symbols-apart : (v : ℕ) → 1 ≤ v → v ≤ 40 → SymbolsLieApart v
 symbols-apart v p q l k m n cw ds h j x y o = elim (word-one l k m.mask n.mask h j) [
   | inl e ↦ search (arith, blocks-apart)
-  | inr far ↦ search (arith, formats-apart)
+  | inr far ↦ grind (arith, bits-alike, shown)
 ]

@@ -6,15 +6,11 @@ use Rattle.{qr_field.specs.Distance.{difference, differences}, qr_matrix.specs.{
 use Rattle.qr_layout.specs.{Blocks.{blocks_of}, Format.format_word_of, Version.total_codewords_of}
 use Rattle.qr_symbol.{specs.{Symbol.grid_of, Reading.{IsFormat, IsMessage}}, proofs.Facts.{data-sizes-whole, read-some}}
 use Rattle.qr_symbol.specs.Interleaving.{block_count, codeword_count, data_sizes, part_of}
-use Rattle.qr_mending.specs.declared.format.FormatCopy.TheVariants.{First, Second}
-use Rattle.qr_mending.specs.{Format.copy_bit, Message.{received}, Mending.{HasFormat, HoldsDamaged}}
+use Rattle.qr_mending.specs.{declared.format.FormatCopy.TheVariants.{First, Second}, Format.copy_bit, Message.received, Mending.{HasFormat, HoldsDamaged}}
 use Rattle.qr_mending.specs.Modules.{codeword_differences, DifferInFewModules}
-use Rattle.qr_mending.proofs.lemmas.{format.FormatLemmas.bits-alike, laws.DistanceLemmas.shown}
-use Rattle.qr_mending.proofs.lemmas.message.MessageLemmas.{in-blocks-one, item, items-in-blocks, received-all, received-map}
-use Rattle.qr_mending.proofs.lemmas.laws.ModuleLemmas.{interleaved-differences, items-differences}
-use Rattle.qr_mending.proofs.lemmas.laws.UndamagedLemmas.{copy-light, final-in-blocks}
-use Rattle.qr_mending.proofs.lemmas.message.LightLemmas.{light-mended}
-use Rattle.qr_mending.proofs.lemmas.{message.MarkLemmas.codewords-many, mending.MendingLemmas.sure-format}
+use Rattle.qr_mending.proofs.lemmas.{format.FormatLemmas.bits-alike, laws.{DistanceLemmas.shown, ModuleLemmas.{interleaved-differences, items-differences}}}
+use Rattle.qr_mending.proofs.lemmas.message.{MessageLemmas.{in-blocks-one, item, items-in-blocks, received-all, received-map}, LightLemmas.light-mended}
+use Rattle.qr_mending.proofs.lemmas.{laws.UndamagedLemmas.{copy-light, final-in-blocks}, message.MarkLemmas.codewords-many, mending.MendingLemmas.sure-format}
 
 -- the format information of the square costs at most 12
 pub few-format : (v : ℕ) (l : Level) (mask : ℕ) (cw : List ℕ) (g h : Grid) → 1 ≤ v → v ≤ 40 → h ≡ grid_of v l mask cw → IsFormat h l mask →

@@ -7,8 +7,7 @@ use Rattle.{qr_field.specs.Distance.{difference, differences}, qr_matrix.{proofs
 use Rattle.qr_layout.specs.{declared.region.Place.Place, Order.IsOrder, Version.total_codewords_of}
 use Rattle.qr_symbol.{specs.Reading.{unmasked, IsRead}, proofs.Facts.bits-one}
 use Rattle.qr_mending.specs.{Message.modules_of, Modules.codeword_differences}
-use Rattle.qr_mending.proofs.lemmas.message.MarkLemmas.{codeword-read, codewords-bits, codewords-many}
-use Rattle.qr_mending.proofs.lemmas.message.MessageLemmas.{item}
+use Rattle.qr_mending.proofs.lemmas.message.{MarkLemmas.{codeword-read, codewords-bits, codewords-many}, MessageLemmas.item}
 
 -- ---- one codeword
 
@@ -27,11 +26,6 @@ byte-one a b l m e =
     let single = λ (x : ℕ) (l : x < 256). All-cons (λ y. y < 256) x [] l (All-nil (λ y. y < 256)) in
     cc (bits-one (a ∷ []) (b ∷ []) (single a l) (single b m) (ap (λ (z : List Bool). z ++ []) e))
 
--- a codeword differs only if one of its modules differs
-codeword-differences : (mask : ℕ) (g h : Grid) (ms : List Place) (a b : ℕ) → a < 256 → b < 256 →
-    field 8 a ≡ map (unmasked mask g) ms → field 8 b ≡ map (unmasked mask h) ms → difference a b ≤ count_by (λ m. differs g h m.row m.col) ms
-codeword-differences mask g h ms a b l m e f = search (arith, difference-most, byte-one, same-bits, difference-same)
-
 -- the bits of codeword j of a square are read from its eight modules
 codeword-modules : (v mask : ℕ) (g : Grid) (ms : List Place) (cw : List ℕ) (j : ℕ) → 1 ≤ v → v ≤ 40 →
     IsOrder v ms → IsRead v mask g cw → j < total_codewords_of v →
@@ -43,9 +37,7 @@ pub interleaved-differences : (v mask : ℕ) (g h : Grid) (ms : List Place) (cs 
     v ≤ 40 → IsOrder v ms → IsRead v mask g cs → IsRead v mask h ds → j < total_codewords_of v →
     difference (get_or cs j 0) (get_or ds j 0) ≤ codeword_differences g h ms j
 interleaved-differences v mask g h ms cs ds j p q o a b l =
-    codeword-differences mask g h (modules_of ms j) (get_or cs j 0) (get_or ds j 0)
-    (a.bytes j 0 (omega (arith, codewords-many v mask g cs p q a))) (b.bytes j 0 (omega (arith, codewords-many v mask h ds p q b)))
-    (codeword-modules v mask g ms cs j p q o a l) (codeword-modules v mask h ms ds j p q o b l)
+    search (arith, difference-most, byte-one, same-bits, difference-same, (a.bytes j 0 (omega (arith, codewords-many v mask g cs p q a))), (b.bytes j 0 (omega (arith, codewords-many v mask h ds p q b))), codeword-modules v mask g ms cs j p q o a l, codeword-modules v mask h ms ds j p q o b l)
 
 -- ---- one block
 

@@ -2,8 +2,7 @@
 use Rattle.std.{proofs.Common.{◌≡◌, ℕ, List, arith}, specs.Prelude.◌↔◌}
 use Rattle.qr_layout.specs.{declared.level.Level.Level, Blocks.blocks_of, Version.side_of}
 use Rattle.qr_matrix.specs.{Grid.{Grid, IsSquare, light}, Difference.difference_count, Sums.places_passing}
-use Rattle.qr_mending.proofs.lemmas.format.FormatLemmas.{sum-same}
-use Rattle.qr_mending.proofs.lemmas.{message.LightLemmas.colour-light, mending.MendingLemmas.form-one}
+use Rattle.qr_mending.proofs.lemmas.{format.FormatLemmas.sum-same, message.LightLemmas.colour-light, mending.MendingLemmas.form-one}
 use Rattle.qr_matrix.proofs.Facts.{colour-square, no-difference, square-same}
 use Rattle.qr_symbol.{specs.Symbol.grid_of, proofs.Facts.final-one}
 use Rattle.qr_mending.specs.Mending.{wrong_modules, DiffersFromSymbol, HasWrongModules}

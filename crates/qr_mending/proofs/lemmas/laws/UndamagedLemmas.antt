@@ -1,17 +1,15 @@
 -- A square that is read without mending is read as the same content with mending, and no codeword is changed.
-use Rattle.std.proofs.Common.{◌≡◌, ℕ, zero, suc, ◌+◌, ◌*◌, ◌<◌, ◌≤◌, Bool, false, cond, not, ◌&&◌, List, [], ◌++◌, map, length, get_or, refl, ap, ◌∙◌, arith}
+use Rattle.std.proofs.Common.{◌≡◌, ℕ, zero, suc, ◌+◌, ◌*◌, ◌<◌, ◌≤◌, Bool, false, not, ◌&&◌, List, [], ◌++◌, map, length, get_or, refl, ap, ◌∙◌, arith}
 use Rattle.std.proofs.lemmas.List.{length-map, take_all, take_at, drop_at, length-replicate, get_or-replicate}
 use lib.ListN.{replicate}
 use Rattle.{qr_field.specs.Polynomial.IsCorrection, qr_bits.specs.Parsing.Content}
-use Rattle.qr_mending.proofs.lemmas.block.BlockLemmas.{differences-same}
-use Rattle.qr_mending.proofs.lemmas.message.LightLemmas.{colour-light, light-mended}
+use Rattle.qr_mending.proofs.lemmas.{block.BlockLemmas.differences-same, message.LightLemmas.{colour-light, light-mended}}
 use Rattle.qr_mending.proofs.lemmas.{mending.MendingLemmas.best, format.FormatLemmas.bits-alike}
 use Rattle.qr_layout.specs.{declared.{blocks.Blocks.Blocks, level.Level.Level}, Blocks.blocks_of, Format.format_word_of}
 use Rattle.qr_matrix.specs.{Grid.{Grid, light, is_same}, BitRow.has_bit, Sums.count_below}
 use Rattle.qr_symbol.specs.Interleaving.{block_count, codeword_count, IsPosition, codeword_at, data_sizes, correction_sizes, block_of, check_at, IsFinalMessage, part_of}
 use Rattle.qr_symbol.specs.{Interleaving.IsChecks, Distance.blocks_in, Reading.{IsFormat, IsRead, IsReading}}
-use Rattle.qr_mending.specs.declared.format.FormatCopy.{FormatCopy, TheVariants.First, TheVariants.Second}
-use Rattle.qr_mending.specs.Format.{bit_difference, bit_differences, copy_bit, copy_cost, IsNearFormat}
+use Rattle.qr_mending.specs.{declared.format.FormatCopy.{FormatCopy, TheVariants.{First, Second}}, Format.{bit_differences, copy_bit, copy_cost, IsNearFormat}}
 use Rattle.qr_mending.specs.{Message.AreInBlocks, Message.IsMendedIn, Mending.HasFormat, Mending.IsMendedReading}
 use Rattle.qr_symbol.proofs.Facts.{start-none, part-at, positions-many, checks-push, map-each, data-sizes-whole}
 use Rattle.qr_field.proofs.Facts.{correction-one}
@@ -79,23 +77,14 @@ final-mended v mask s l g d cw p q r n h =
 
 -- ---- format information
 
--- bits that agree have no difference
-bit-same : (a : Bool) → bit_difference a a ≡ 0
-bit-same a = grind arith
-
 bits-same : (n : ℕ) (p q : ℕ → Bool) → ((i : ℕ) → i < n → p i ≡ q i) → bit_differences n p q ≡ 0
 bits-same zero p q h = refl
-bits-same (suc n) p q h =
-    rw (h n (omega arith)) (omega (arith, bit-same (q n), bits-same n p q (λ i l. h i (omega arith))))
-
--- with all modules read, a copy costs twice its wrong modules
-bit-is : (a b : Bool) → cond (not (is_same a b)) 1 0 ≡ bit_difference a b
-bit-is a b = grind arith
+bits-same (suc n) p q h = search (arith, bits-same n p q (λ i l. h i (omega arith)))
 
 cost-light : (n : ℕ) (u p q : ℕ → Bool) → ((i : ℕ) → u i ≡ false) →
     count_below n u + 2 * count_below n (λ i. not (u i) && not (is_same (p i) (q i))) ≡ 2 * bit_differences n p q
 cost-light zero u p q h = refl
-cost-light (suc n) u p q h = search (arith, bit-is, cost-light n u p q h)
+cost-light (suc n) u p q h = search (arith, cost-light n u p q h)
 
 pub copy-light : (s : ℕ) (copy : FormatCopy) (g : Grid) (l : Level) (mask : ℕ) →
     copy_cost (light s) copy g l mask ≡ 2 * bit_differences 15 (copy_bit copy g) (has_bit (format_word_of l mask))
@@ -112,13 +101,9 @@ format-near s g l mask h = record {
   );
 }
 
--- the differences of a list from a second are at most those of both from a third
-bit-triangle : (p q r : Bool) → bit_difference p q ≤ bit_difference p r + bit_difference q r
-bit-triangle p q r = grind arith
-
 bits-triangle : (n : ℕ) (p q r : ℕ → Bool) → bit_differences n p q ≤ bit_differences n p r + bit_differences n q r
 bits-triangle zero p q r = omega arith
-bits-triangle (suc n) p q r = omega (arith, bit-triangle (p n) (q n) (r n), bits-triangle n p q r)
+bits-triangle (suc n) p q r = search (arith, bits-triangle n p q r)
 
 -- with an exact first copy no other level and mask cost less, whatever the second copy shows
 format-exact : (g : Grid) (v : ℕ) (l : Level) (mask : ℕ) → IsFormat g l mask → HasFormat (light g.side) v g l mask

@@ -3,17 +3,14 @@
 use Rattle.std.proofs.Common.{◌≡◌, ℕ, zero, suc, ◌+◌, ◌-◌, ◌*◌, ◌<◌, ◌≤◌, List, [], ◌∷◌, ◌++◌, length, take, drop, get_or, set, refl, sym, ap, ◌∙◌, subst, inl, inr, arith, lit<, bit_xor, append_assoc, length-append}
 use Rattle.std.proofs.{lemmas.{Bool.cases_lt, Nat.xor_comm, List.set-get_or}, Math.Seq.take-append-add}
 use Rattle.std.proofs.lemmas.List.{length-take, length-map, take_all, get_or-take, get_or-append-add, drop-drop, take_more_set, take_more, length-replicate}
-use Rattle.std.proofs.lemmas.List.Elements.{All-nil, All-cons, All-head, All-tail, All-drop}
-use Rattle.std.specs.{List.All, Int.Bits.{xor_zero_l, xor_zero_r, xor_self}}
-use Rattle.qr_field.specs.{Galois.product}
-use Rattle.qr_field.specs.{Polynomial.{IsByte, plus, scaled, zeros}, Distance.{differences}}
+use Rattle.std.{proofs.lemmas.List.Elements.{All-nil, All-cons, All-head, All-tail, All-drop}, specs.{List.All, Int.Bits.{xor_zero_l, xor_zero_r, xor_self}}}
+use Rattle.qr_field.specs.{Galois.product, Polynomial.{IsByte, plus, scaled, zeros}, Distance.differences}
 use Rattle.qr_field.proofs.lemmas.{galois.ByteLemmas.{product-by_zero, product-of_zero}, polynomial.ListLemmas.{take-plus, length-plus, bytes-plus, bytes-scaled}}
 use Rattle.qr_field.proofs.lemmas.laws.DistanceLemmas.{weight, value-none}
 use Rattle.qr_mending.specs.declared.{polynomial.Polynomial.Polynomial, locator.Search.Search, locator.Progress.Progress}
 use Rattle.qr_mending.specs.Steps.Polynomial.{all_of, IsMonic, discrepancy_of, IsBest, IsSearch, IsProgress}
 use Rattle.qr_mending.specs.Steps.{Sums.{dot_of, blend, HasValues}, Errors.{weighted, AreFewErrors, AreFewErrorsOf, IsLocated}}
-use Rattle.qr_mending.proofs.lemmas.sums.SumLemmas.{dot-plus, dot-blend, values-none}
-use Rattle.qr_mending.proofs.lemmas.errors.WeightLemmas.{weighted-none, weighted-value, errors-root}
+use Rattle.qr_mending.proofs.lemmas.{sums.SumLemmas.{dot-plus, dot-blend, values-none}, errors.WeightLemmas.{weighted-none, weighted-value, errors-root}}
 
 -- ---- sums of a polynomial and a multiple
 

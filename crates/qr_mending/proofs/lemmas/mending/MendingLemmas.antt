@@ -7,10 +7,9 @@ use Rattle.qr_bits.specs.declared.fault.ParseFault.TheVariants as unparsed
 use Rattle.{qr_bits.proofs.Facts.fault-read, qr_matrix.specs.Grid.Grid}
 use Rattle.qr_symbol.specs.{declared.fault.ReadFault.ReadFault, Fault.unread_for, Reading.IsRead}
 use Rattle.qr_symbol.specs.declared.fault.ReadFault.TheVariants as fault
-use Rattle.qr_mending.specs.declared.format.FormatCopy.{FormatCopy, TheVariants.First, TheVariants.Second}
+use Rattle.qr_mending.specs.declared.{format.FormatCopy.{FormatCopy, TheVariants.{First, Second}}, mending.MendedSquare.MendedSquare}
 use Rattle.qr_mending.specs.{Format.{copy_cost, format_cost, IsNearFormat}, Message.IsMendedIn}
-use Rattle.qr_mending.specs.Mending.{rank_of, HasFormat, HoldsDamaged, IsBeyondMending, IsDamagedForm, IsMendedAs, IsMendedReading, IsOfNoUse, IsUnmended}
-use Rattle.qr_mending.specs.declared.mending.MendedSquare.{MendedSquare}
+use Rattle.qr_mending.specs.Mending.{compared_cost, HasFormat, HoldsDamaged, IsBeyondMending, IsDamagedForm, IsMendedAs, IsMendedReading, IsOfNoUse, IsUnmended}
 use Rattle.qr_mending.specs.Steps.Mending.{HoldsNone, IsMendedBy, IsMendedByEither, IsMendedWith}
 use Rattle.{qr_symbol.proofs.Facts.read-one, qr_mending.proofs.lemmas.message.BlocksLemmas.beside-one}
 use Rattle.qr_mending.proofs.lemmas.format.FormatLemmas.{near-one, each-copy, sure-one}
@@ -22,9 +21,9 @@ mended-one unknown v l h k cw m n x y p q =
     let w = laws-of l v h k in
     beside-one unknown v l cw m n x y (omega arith) p q
 
--- equal ranks are those of one copy
-ranks-alike : (a b : FormatCopy) (m n : ℕ) → rank_of a m ≡ rank_of b n → a ≡ b
-ranks-alike a b m n e = grind arith
+-- equal compared costs are those of one copy
+compared-alike : (a b : FormatCopy) (m n : ℕ) → compared_cost a m ≡ compared_cost b n → a ≡ b
+compared-alike a b m n e = grind arith
 
 -- the copy beside a copy
 abbrev pub beside : FormatCopy → FormatCopy
@@ -44,7 +43,7 @@ module _ (unknown g : Grid) where
       HasFormat unknown v g k n →
       HoldsDamaged unknown v l m g p x → HoldsDamaged unknown v k n g q y → (l ≡ k) × (m ≡ n)
   format-one v l k m n p q x y a b h j =
-      let same = ranks-alike a.copy b.copy (format_cost unknown g l m) (format_cost unknown g k n)
+      let same = compared-alike a.copy b.copy (format_cost unknown g l m) (format_cost unknown g k n)
       (omega (arith, a.least b.copy k n b.near q y j, b.least a.copy l m a.near p x h)) in
       search (arith, near-one)
 
@@ -153,41 +152,41 @@ module _ (unknown g : Grid) where
   mended-by copy v near None n h = no-use copy v near n h
   mended-by copy v near (Some m) n h = (rw h.0 at n, h.1)
 
-  -- ---- the level and the mask of the least rank
+  -- ---- the level and the mask of the least compared cost
 
-  -- equal levels and masks near to one copy have one rank
-  rank-same : (copy : FormatCopy) (l k : Level) (m n : ℕ) → IsNearFormat unknown copy g l m →
-      IsNearFormat unknown copy g k n → rank_of copy (format_cost unknown g l m) ≡ rank_of copy (format_cost unknown g k n)
-  rank-same copy l k m n h j = let e = near-one unknown copy g l k m n h j in rw (e.0, e.1)
+  -- equal levels and masks near to one copy have one compared cost
+  compared-same : (copy : FormatCopy) (l k : Level) (m n : ℕ) → IsNearFormat unknown copy g l m →
+      IsNearFormat unknown copy g k n → compared_cost copy (format_cost unknown g l m) ≡ compared_cost copy (format_cost unknown g k n)
+  compared-same copy l k m n h j = let e = near-one unknown copy g l k m n h j in rw (e.0, e.1)
 
-  -- no level and mask that are near to a copy and mend the square have a lower rank
+  -- no level and mask that are near to a copy and mend the square have a lower compared cost
   abbrev NoneBelow : ℕ → ℕ → FormatCopy → Type 0
-  NoneBelow rank v copy = (k : Level) (n : ℕ) → IsNearFormat unknown copy g k n → (message changed : List ℕ) →
-      HoldsDamaged unknown v k n g message changed → rank ≤ rank_of copy (format_cost unknown g k n)
+  NoneBelow cost v copy = (k : Level) (n : ℕ) → IsNearFormat unknown copy g k n → (message changed : List ℕ) →
+      HoldsDamaged unknown v k n g message changed → cost ≤ compared_cost copy (format_cost unknown g k n)
 
-  -- if the other copy gives none of a less rank, the level and the mask have the least rank
+  -- if the other copy gives none of a lower compared cost, the level and the mask have the least compared cost
   pub best : (copy : FormatCopy) (v : ℕ) (l : Level) (m : ℕ) → IsNearFormat unknown copy g l m →
-      NoneBelow (rank_of copy (format_cost unknown g l m)) v (beside copy) → HasFormat unknown v g l m
+      NoneBelow (compared_cost copy (format_cost unknown g l m)) v (beside copy) → HasFormat unknown v g l m
   best First v l m f least = record {
     copy = First;
     near = f;
-    least = each-copy (NoneBelow (rank_of First (format_cost unknown g l m)) v)
-        (λ k n h p x d. omega (arith, rank-same First l k m n f h)) least;
+    least = each-copy (NoneBelow (compared_cost First (format_cost unknown g l m)) v)
+        (λ k n h p x d. omega (arith, compared-same First l k m n f h)) least;
   }
   best Second v l m f least = record {
     copy = Second;
     near = f;
-    least = each-copy (NoneBelow (rank_of Second (format_cost unknown g l m)) v) least
-        (λ k n h p x d. omega (arith, rank-same Second l k m n f h));
+    least = each-copy (NoneBelow (compared_cost Second (format_cost unknown g l m)) v) least
+        (λ k n h p x d. omega (arith, compared-same Second l k m n f h));
   }
 
-  -- where both copies give a level and a mask that mend the square, the one of the less rank
+  -- where both copies give a level and a mask that mend the square, the one of the lower compared cost
   pub best-of-two : (copy : FormatCopy) (v : ℕ) (l k : Level) (m n : ℕ) → IsNearFormat unknown copy g l m →
       IsNearFormat unknown (beside copy) g k n →
-      rank_of copy (format_cost unknown g l m) ≤ rank_of (beside copy) (format_cost unknown g k n) →
+      compared_cost copy (format_cost unknown g l m) ≤ compared_cost (beside copy) (format_cost unknown g k n) →
       HasFormat unknown v g l m
   best-of-two copy v l k m n f s less = best copy v l m f (λ j i h p x d.
-      omega (arith, rank-same (beside copy) k j n i s h))
+      omega (arith, compared-same (beside copy) k j n i s h))
 
   -- the first copy is of no use
   pub second-alone : (v : ℕ) (o : Option MendedSquare) → IsOfNoUse unknown First v g → IsMendedBy unknown v g Second o →

@@ -3,18 +3,15 @@ use Rattle.std.proofs.Common.{◌≡◌, ◌==◌, ◌⊎◌, not, Bool, ℕ, So
 use Rattle.std.proofs.lemmas.{Bool.cases_lt, List.{length_push, length-map, length-replicate, length-take-le, get_or_append_left, get_or_push, ext_get_or, take-append-drop}}
 use Rattle.std.proofs.lemmas.List.Elements.{All-head, All-tail, All-replicate}
 use Rattle.{std.specs.List.{range_with_len, All}, qr_matrix.specs.Grid.Grid}
-use Rattle.qr_field.specs.{Polynomial.IsCorrection, Distance.erasures, Distance.errors}
-use Rattle.qr_layout.specs.declared.{blocks.Blocks.Blocks, level.Level.Level}
+use Rattle.qr_field.specs.{Polynomial.{IsCorrection, zeros}, Distance.{erasures, errors}}
+use Rattle.qr_layout.specs.{declared.{blocks.Blocks.Blocks, level.Level.Level}, Blocks.spare_of}
 use Rattle.qr_layout.{specs.{Blocks.blocks_of, Version.total_codewords_of}, proofs.Facts.only-order}
 use Rattle.qr_symbol.specs.Interleaving.{block_count, block_len, codeword_count, correction_sizes, data_sizes, part_of}
 use Rattle.qr_symbol.proofs.Facts.{len-most, part-grown, part-last, part-len, parts-same, start-next}
 use Rattle.qr_field.proofs.{lemmas.laws.DistanceLemmas.unambiguous-known, Facts.correction-one}
-use Rattle.qr_mending.specs.Erasures.{IsMendedWithErasures}
-use Rattle.qr_mending.proofs.lemmas.{block.BlockLemmas.block-corrects, erasures.ErasureLemmas.{length-read, read-unmarked}}
-use Rattle.qr_layout.specs.Blocks.{spare_of}
-use Rattle.qr_mending.specs.Message.{read_at, received, IsMendedIn, IsMendedBlock, AreInBlocks}
-use Rattle.qr_field.specs.Polynomial.{zeros}
-use Rattle.qr_mending.specs.declared.message.{Marks.{Marks}, MarksInBlocks.{MarksInBlocks}}
+use Rattle.qr_mending.specs.{Erasures.IsMendedWithErasures, Message.{read_at, received, IsMendedIn, IsMendedBlock, AreInBlocks}}
+use Rattle.qr_mending.proofs.lemmas.{block.BlockLemmas.block-corrects, erasures.ErasureLemmas.length-read}
+use Rattle.qr_mending.specs.declared.message.{Marks.Marks, MarksInBlocks.MarksInBlocks}
 use Rattle.qr_mending.specs.declared.message.Marks.TheVariants as interleaved
 use Rattle.qr_mending.specs.declared.message.MarksInBlocks.TheVariants as by_block
 use Rattle.qr_mending.specs.Steps.Message.{list_of, marks_at, read_by, AreMarksInBlocks, AreMended, AreWhole, IsMendedMessage}
@@ -164,10 +161,6 @@ pub marks-or-none : (b : Blocks) (parts : MarksInBlocks) (i : ℕ) (codewords : 
     erased ≡ map (λ mark. not (mark == 0)) (marks_at b parts i) → (erased ≡ []) ⊎ (length erased ≡ length codewords)
 marks-or-none b by_block.AllZero i codewords erased h l n e = inl e
 marks-or-none b (by_block.Each lists) i codewords erased h l n e = search (arith, length-map, marks-long)
-
--- without marks every codeword was read
-pub none-marked : (xs : List ℕ) → read_by xs [] ≡ map (λ x. Some x) xs
-none-marked xs = read-unmarked xs 0
 
 -- marks that are 0 say that every codeword was read
 zeros-read : (xs zs : List ℕ) → All (λ z. z ≡ 0) zs → read_by xs zs ≡ read_by xs []

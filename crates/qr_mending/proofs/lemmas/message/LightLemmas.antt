@@ -1,21 +1,18 @@
 -- A symbol of which all modules were read: its marks are 0, no codeword is erased, and its blocks are mended as blocks of
 -- which every codeword was read.
 use Rattle.std.proofs.Common.{◌≡◌, ◌||◌, Bool, false, ℕ, zero, suc, ◌==◌, ◌*◌, ◌+◌, ◌-◌, ◌%◌, ◌^◌, ◌<◌, ◌≤◌, inl, inr, Some, List, [], ◌∷◌, ◌++◌, map, take, length, get_or, refl, sym, ap, ◌∙◌, arith}
-use Rattle.std.proofs.{Math.Nat.zero-div, lemmas.Bool.cases_lt}
-use Rattle.std.proofs.lemmas.List.{length-map, length-replicate, length-take, Elements.{All-replicate, All-take}}
-use Rattle.std.specs.{Prelude.Option, List.list_any, List.range_with_len}
+use Rattle.std.proofs.{Math.Nat.zero-div, lemmas.{Bool.cases_lt, List.{length-map, length-replicate, length-take, Elements.{All-replicate, All-take}}}}
+use Rattle.std.specs.List.{list_any, range_with_len}
 use lib.ListN.{replicate}
-use Rattle.qr_field.specs.{Polynomial.IsCorrection, Distance.differences}
+use Rattle.qr_field.{specs.{Polynomial.IsCorrection, Distance.differences}, proofs.lemmas.laws.DistanceLemmas.{erasures-read, errors-read}}
 use Rattle.qr_layout.specs.declared.{blocks.Blocks.Blocks, level.Level.Level, region.Place.Place}
-use Rattle.qr_layout.specs.{Blocks.{blocks_of, spare_of, correctable_of}, Version.side_of, Version.total_codewords_of, Region.InRegion}
+use Rattle.qr_layout.specs.{Blocks.{blocks_of, correctable_of}, Version.{side_of, total_codewords_of}, Region.InRegion}
 use Rattle.{qr_layout.proofs.Facts.{col-in, order-length, row-in}, qr_matrix.specs.{BitRow.has_bit, Grid.{Grid, colour, light, rows_of}}}
 use Rattle.qr_bits.{specs.Bits.{bits_of, field}, proofs.Facts.length-bits_of}
 use Rattle.qr_symbol.specs.Interleaving.{block_count, codeword_count, data_sizes, part_of}
 use Rattle.qr_symbol.{specs.Reading.{IsRead, IsReadUnmasked}, proofs.Facts.{map-each, read-some}}
-use Rattle.qr_mending.specs.Message.{modules_of, read_at, received, IsMendedBlock, IsMendedIn, AreInBlocks}
-use Rattle.qr_field.proofs.lemmas.laws.DistanceLemmas.{erasures-read, errors-read}
-use Rattle.qr_mending.proofs.lemmas.message.MarkLemmas.{codewords-many}
-use Rattle.qr_mending.proofs.lemmas.message.MessageLemmas.{in-blocks-one, indices-some, item, items-in-blocks, received-map}
+use Rattle.qr_mending.specs.Message.{modules_of, read_at, received, IsMendedIn, AreInBlocks}
+use Rattle.qr_mending.proofs.lemmas.message.{MarkLemmas.codewords-many, MessageLemmas.{in-blocks-one, indices-some, item, items-in-blocks, received-map}}
 
 -- ---- the marks of a light square
 
@@ -139,23 +136,16 @@ pub record AreUnerasedBlocks (b : Blocks) (t : ℕ) (d e message changed : List 
   pub many : length changed ≡ block_count (data_sizes b)
   pub each : (i : ℕ) → i < block_count (data_sizes b) → IsUnerasedBlock b t d e message (get_or changed i 0) i
 
--- such a block can be mended with erasures
-unerased-block : (b : Blocks) (t spare : ℕ) (read : List (Option ℕ)) (d e message : List ℕ) (changed i : ℕ) →
-    2 * t ≤ spare → read ≡ map (λ x. Some x) (received b d e i) → IsUnerasedBlock b t d e message changed i →
-    IsMendedBlock b spare read message changed i
-unerased-block b t spare read d e message changed i enough same p = search (arith, erasures-read, errors-read)
-
 -- codewords whose blocks can be mended so, if all modules were read
 pub light-mended : (v mask s : ℕ) (l : Level) (g : Grid) (cw d e message changed : List ℕ) → 1 ≤ v → v ≤ 40 → IsRead v mask g cw →
     AreInBlocks (blocks_of v l) cw d e → AreUnerasedBlocks (blocks_of v l) (correctable_of v l) d e message changed →
     IsMendedIn (light s) v l cw message changed
 light-mended v mask s l g cw d e message changed p q h inside m =
     let b = blocks_of v l in
-    let n = total_codewords_of v in
     let some = indices-some v l p q in
     let ks = some.0 in
     let js = some.1 in
-    let indexed = items-in-blocks b n cw ks js (codewords-many v mask g cw p q h) some.2 in
+    let indexed = items-in-blocks b (total_codewords_of v) cw ks js (codewords-many v mask g cw p q h) some.2 in
     let same = in-blocks-one b cw (map (item cw) ks) (map (item cw) js) d e indexed inside in
     record {
       places = h.places;
@@ -169,7 +159,5 @@ light-mended v mask s l g cw d e message changed p q h inside m =
           let read = received b ks js i in
           let all : map (read_at (light s) h.places cw) read ≡ map (λ x. Some x) (received b d e i) =
           cc (all-read s h.places cw read, received-map b (item cw) ks js i) in
-          unerased-block b (correctable_of v l) (spare_of v l) (map (read_at (light s) h.places cw) read) d e message
-          (get_or changed i 0) i
-          (omega arith) all (m.each i r);
+          search (arith, erasures-read, errors-read);
     }

@@ -3,13 +3,11 @@
 use Rattle.std.proofs.Common.{◌≡◌, ◌==◌, ◌||◌, not, cond, Bool, true, false, ℕ, zero, suc, ◌+◌, ◌-◌, ◌*◌, ◌<◌, ◌≤◌, None, Some, List, [], ◌∷◌, ◌++◌, map, take, drop, length, get_or, refl, sym, ◌∙◌, ap, arith}
 use Rattle.std.proofs.lemmas.List.{append-nil, length-map, length-take, take_at, take-map, take-take, drop_at, drop-drop, drop-map, drop-take}
 use Rattle.std.{proofs.lemmas.List.Elements.All-tail, specs.List.{list_any, All}}
-use Rattle.qr_layout.specs.declared.{level.Level.Level, region.Place.Place}
-use Rattle.qr_layout.specs.{Blocks.{blocks_of, spare_of}, Order.IsOrder, Version.total_codewords_of}
+use Rattle.qr_layout.specs.{declared.{level.Level.Level, region.Place.Place}, Blocks.{blocks_of, spare_of}, Order.IsOrder, Version.total_codewords_of}
 use Rattle.qr_layout.proofs.Facts.{below, below-at, only-order, order-length}
 use Rattle.qr_bits.{specs.Bits.{bits_of, field}, proofs.Facts.{length-bits_of, length-field}}
 use Rattle.{qr_matrix.{proofs.Facts.same-same, specs.Grid.{Grid, colour, is_same}}, qr_symbol.specs.Reading.{unmasked, IsRead, IsReadUnmasked}}
-use Rattle.qr_mending.specs.{Erasures.read_of, Steps.Message.{read_by, IsMendedMessage}}
-use Rattle.qr_mending.specs.Message.{modules_of, read_at, received, IsMendedIn, AreIndices}
+use Rattle.qr_mending.specs.{Erasures.read_of, Steps.Message.{read_by, IsMendedMessage}, Message.{modules_of, read_at, received, IsMendedIn, AreIndices}}
 use Rattle.qr_mending.proofs.lemmas.message.MessageLemmas.{in-blocks-one, indices-some, item, items-in-blocks, received-all, received-map}
 
 -- ---- the modules of a codeword
@@ -138,8 +136,6 @@ pub by-marks : (v : ℕ) (l : Level) (unknown : Grid) (cw marks message misread 
     length cw ≡ total_codewords_of v → IsReadUnmasked v unknown marks → IsMendedIn unknown v l cw message misread →
     IsMendedMessage (blocks_of v l) (spare_of v l) cw marks message misread
 by-marks v l unknown cw marks message misread p q long h m =
-    let b = blocks_of v l in
-    let n = total_codewords_of v in
     let ks = m.indices in
     let js = m.checks in
     record {
@@ -147,7 +143,7 @@ by-marks v l unknown cw marks message misread p q long h m =
       checks = map (item cw) js;
       unread = map (item marks) ks;
       unread_checks = map (item marks) js;
-      in_blocks = items-in-blocks b n cw ks js long m.inside;
+      in_blocks = items-in-blocks (blocks_of v l) (total_codewords_of v) cw ks js long m.inside;
       marked = search (arith, items-in-blocks, marks-many);
       mended = record {
         long = m.long;

@@ -4,10 +4,9 @@ use Rattle.std.proofs.lemmas.List.{length-map, take-map, drop-map, map-append, e
 use Rattle.std.proofs.lemmas.List.Elements.{All-append, All-contains, All-drop, All-from_get_or, All-take}
 use Rattle.std.proofs.lemmas.{List.FromFn.{fill_by_all, get_or-range_with_len, length-range_with_len}, Simd.map-map}
 use Rattle.{std.specs.List.{range_with_len, All}, qr_mending.specs.Message.{received, AreInBlocks}}
-use Rattle.qr_layout.specs.declared.{blocks.Blocks.Blocks, level.Level.Level}
-use Rattle.qr_layout.specs.{Blocks.blocks_of, Version.total_codewords_of}
+use Rattle.qr_layout.specs.{declared.{blocks.Blocks.Blocks, level.Level.Level}, Blocks.blocks_of, Version.total_codewords_of}
 use Rattle.qr_symbol.specs.declared.interleaving.BlockSizes.{BlockSizes}
-use Rattle.qr_symbol.specs.Interleaving.{Position, IsPosition, block_count, codeword_count, codeword_at, data_sizes, correction_sizes, IsGathered, part_of}
+use Rattle.qr_symbol.specs.Interleaving.{Position, IsPosition, block_count, codeword_count, codeword_at, data_sizes, correction_sizes, IsGathered}
 use Rattle.qr_symbol.proofs.Facts.{position-in, positions-one, position-of, map-at, map-each, gather-some, sizes-whole, Mem-of-Contains}
 
 -- ---- one list of received codewords
@@ -19,8 +18,7 @@ gathered-same c interleaved xs ys g h =
     let first : map (codeword_at c xs) g.positions ≡ map (codeword_at c ys) g.positions = cc in
     ext_get_or 0 xs ys (g.long ∙ sym h.long) (λ j l.
     let w = position-of c (block_count c) j (omega arith) (omega arith) in
-    let q = map-at (codeword_at c xs) (codeword_at c ys) g.positions w.0 first (Mem-of-Contains g.positions w.0 (g.order.complete w.0 w.1)) in
-    rw (← w.2) q)
+    rw (← w.2) (map-at (codeword_at c xs) (codeword_at c ys) g.positions w.0 first (Mem-of-Contains g.positions w.0 (g.order.complete w.0 w.1))))
 
 -- a sequence is put back into blocks in at most one way
 pub in-blocks-one : (b : Blocks) (interleaved d e x y : List ℕ) → AreInBlocks b interleaved d e →
@@ -62,8 +60,7 @@ pub items-in-blocks : (b : Blocks) (n : ℕ) (xs ks js : List ℕ) → length xs
     AreInBlocks b (range_with_len 0 n) ks js → AreInBlocks b xs (map (item xs) ks) (map (item xs) js)
 items-in-blocks b n xs ks js e h =
     let c = data_sizes b in
-    let indices = range_with_len 0 n in
-    let all : map (item xs) indices ≡ xs = sym (fill_by_all (item xs) xs n 0 e (λ k l. refl)) in
+    let all : map (item xs) (range_with_len 0 n) ≡ xs = sym (fill_by_all (item xs) xs n 0 e (λ k l. refl)) in
     search (arith, drop-map, gathered-map)
 
 -- as many codewords as the blocks have can be put back into blocks
@@ -81,13 +78,10 @@ pub indices-some : (v : ℕ) (l : Level) → 1 ≤ v → v ≤ 40 →
     (ks : List ℕ) × (js : List ℕ) × AreInBlocks (blocks_of v l) (range_with_len 0 (total_codewords_of v)) ks js
 indices-some v l p q = search (arith, in-blocks-some, length-range_with_len, sizes-whole)
 
-part-map : (c : BlockSizes) (f : ℕ → ℕ) (ks : List ℕ) (i : ℕ) → part_of c (map f ks) i ≡ map f (part_of c ks i)
-part-map c f ks i = search (arith, drop-map, take-map)
-
 -- the items of a block are those at its indices
 pub received-map : (b : Blocks) (f : ℕ → ℕ) (ks js : List ℕ) (i : ℕ) →
     received b (map f ks) (map f js) i ≡ map f (received b ks js i)
-received-map b f ks js i = search (arith, part-map, map-append)
+received-map b f ks js i = search (arith, map-append, drop-map, take-map)
 
 -- what holds of each codeword holds of those of a block
 pub received-each : (b : Blocks) (P : ℕ → Type 0) (interleaved ks js : List ℕ) (i : ℕ) → All P interleaved →

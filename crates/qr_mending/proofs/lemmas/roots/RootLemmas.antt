@@ -3,8 +3,7 @@ use Rattle.std.proofs.Common.{◌≡◌, ℕ, zero, suc, ◌+◌, ◌-◌, ◌<�
 use Rattle.std.proofs.lemmas.{Nat.{xor_of_8, xor_comm}, List.{drop_more, take_at, length_push}, List.Elements.{All-nil, All-cons, All-head, All-tail}}
 use Rattle.std.proofs.lemmas.List.Sums.{sum_by-cons, sum_by-take-drop, sum_by-drop_more}
 use Rattle.std.specs.{List.{All, count_by, sum_by}, Int.Bits.{xor_assoc, xor_zero_l, xor_zero_r, xor_self}}
-use Rattle.qr_field.specs.{Galois.product, Polynomial.IsByte, Polynomial.power}
-use Rattle.qr_field.proofs.lemmas.galois.ByteLemmas.{product-by_zero, product-of_zero, product-of_one}
+use Rattle.qr_field.{specs.{Galois.product, Polynomial.{IsByte, power}}, proofs.lemmas.galois.ByteLemmas.{product-by_zero, product-of_zero, product-of_one}}
 use Rattle.qr_field.proofs.lemmas.{galois.ProductLemmas.{product-lt, product-xor}, galois.PowerLemmas.power-lt}
 use Rattle.qr_field.proofs.lemmas.galois.{BitLemmas.xor-cancel, FieldLemmas.{product-assoc, product-comm, product-front, product-by_sum, product-factor, sum-none}}
 use Rattle.qr_mending.{specs.Steps.{Sums.eval, Roots.{times_root, rooted, quotient, HasLeadingOne}}, proofs.lemmas.sums.SumLemmas.{eval-lt, field_laws}}

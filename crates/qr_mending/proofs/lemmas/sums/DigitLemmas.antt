@@ -1,17 +1,11 @@
 -- Sixteen sums of products at once, by the digits to the base 4 of their factors.
 use Rattle.std.proofs.Common.{◌≡◌, ℕ, zero, suc, ◌+◌, ◌*◌, ◌/◌, ◌%◌, ◌^◌, ◌<◌, true, eqb, get_or, refl, sym, ap, ◌∙◌, arith, lit<, bit_and, bit_xor}
-use Rattle.std.proofs.Math.Nat.{zero-div}
-use Rattle.std.proofs.lemmas.Nat.{and_le_r, xor_of_8}
-use Rattle.std.specs.Int.{byte_at}
+use Rattle.std.{proofs.{Math.Nat.zero-div, lemmas.Nat.{and_le_r, xor_of_8}}, specs.Int.byte_at}
 use Rattle.qr_field.specs.{Galois.{carryless, product, remainder_of}, Polynomial.power}
-use Rattle.qr_field.proofs.lemmas.galois.BitLemmas.{xor-swap}
-use Rattle.qr_field.proofs.lemmas.galois.ByteLemmas.{below, below-at, same-below, product-of_zero, product-of_one}
-use Rattle.qr_field.proofs.lemmas.galois.ProductLemmas.{product-double, product-lt, product-xor}
-use Rattle.qr_field.proofs.lemmas.galois.FieldLemmas.{product-assoc, product-by_sum}
-use Rattle.qr_field.proofs.lemmas.galois.PowerLemmas.{entry, entry-is, power-add, power-lt}
-use Rattle.qr_field.proofs.lemmas.register.RegisterLemmas.{byte-xor}
-use Rattle.qr_mending.specs.declared.sums.TheConstants.{MULTIPLES}
-use Rattle.qr_mending.specs.Steps.Values.{of_digits}
+use Rattle.qr_field.proofs.lemmas.galois.{BitLemmas.xor-swap, ByteLemmas.{below, below-at, same-below, product-of_zero, product-of_one}}
+use Rattle.qr_field.proofs.lemmas.galois.{ProductLemmas.{product-double, product-lt, product-xor}, FieldLemmas.{product-assoc, product-by_sum}}
+use Rattle.qr_field.proofs.lemmas.{galois.PowerLemmas.{entry, entry-is, power-add, power-lt}, register.RegisterLemmas.byte-xor}
+use Rattle.qr_mending.specs.{declared.sums.TheConstants.MULTIPLES, Steps.Values.of_digits}
 
 -- ---- bytes
 
@@ -63,25 +57,13 @@ table-at j zero k l m h =
 table-at j (suc zero) k l m h = row-one j k l h
 table-at j (suc (suc zero)) k l m h = row-two j k l h
 table-at j (suc (suc (suc zero))) k l m h =
-    let one = get_or MULTIPLES (4 * j + 1) 0 in
     let two = get_or MULTIPLES (4 * j + 2) 0 in
-    let three : get_or MULTIPLES (4 * j + 3) 0 ≡ bit_xor one two =
+    let three : get_or MULTIPLES (4 * j + 3) 0 ≡ bit_xor (get_or MULTIPLES (4 * j + 1) 0) two =
     same-below 31 (λ i. get_or MULTIPLES (4 * i + 3) 0) (λ i. bit_xor (get_or MULTIPLES (4 * i + 1) 0) (get_or MULTIPLES (4 * i + 2) 0)) rows-three j l in
     search (arith, byte-xor, row-one, row-two, product-xor)
 table-at j (suc (suc (suc (suc d)))) k l m h = absurd (omega arith)
 
 -- ---- digits
-
--- four times a sum
-four-sum : (x y : ℕ) → x < 256 → y < 256 →
-    product 2 (product 2 (bit_xor x y)) ≡ bit_xor (product 2 (product 2 x)) (product 2 (product 2 y))
-four-sum x y l m = search (arith, product-by_sum, product-lt)
-
--- one digit more, in a sum
-digit-sum : (x y a b : ℕ) → x < 256 → y < 256 →
-    bit_xor (product 2 (product 2 (bit_xor x y))) (bit_xor a b)
-    ≡ bit_xor (bit_xor (product 2 (product 2 x)) a) (bit_xor (product 2 (product 2 y)) b)
-digit-sum x y a b l m = search (arith, four-sum, xor-swap)
 
 -- one digit more, in a product
 digit-product : (x d t : ℕ) → x < 256 → d < 256 →
@@ -96,12 +78,7 @@ digit-product x d t l m =
 -- the sum of two numbers by digits
 digits-sum : (a b c d e f g h : ℕ) → a < 256 → b < 256 → c < 256 → e < 256 → f < 256 → g < 256 →
     of_digits (bit_xor a e) (bit_xor b f) (bit_xor c g) (bit_xor d h) ≡ bit_xor (of_digits a b c d) (of_digits e f g h)
-digits-sum a b c d e f g h la lb lc le lf lg = search (arith, xor_of_8, product-lt, digit-sum)
-
--- the products of digits and an element
-digits-product : (a b c d t : ℕ) → a < 256 → b < 256 → c < 256 → d < 256 →
-    of_digits (product a t) (product b t) (product c t) (product d t) ≡ product (of_digits a b c d) t
-digits-product a b c d t la lb lc ld = search (arith, xor_of_8, product-lt, digit-product)
+digits-sum a b c d e f g h la lb lc le lf lg = search (arith, xor_of_8, product-lt, xor-swap, product-by_sum)
 
 -- the digits of each byte, computed
 digits-whole : below 256 (λ t. eqb (of_digits (t / 2 ^ 6) (bit_and (t / 2 ^ 4) 3) (bit_and (t / 2 ^ 2) 3) (bit_and t 3)) t) ≡ true
@@ -115,21 +92,11 @@ pub digits-added : (k t x a b c d e f g h : ℕ) → t < 256 →
     of_digits (byte_at k (bit_xor a e)) (byte_at k (bit_xor b f)) (byte_at k (bit_xor c g)) (byte_at k (bit_xor d h))
     ≡ bit_xor (of_digits (byte_at k a) (byte_at k b) (byte_at k c) (byte_at k d)) (product t x)
 digits-added k t x a b c d e f g h l he hf hg hh =
-    let q = bit_and (t / 2 ^ 4) 3 in
-    let r = bit_and (t / 2 ^ 2) 3 in
-    let s = bit_and t 3 in
     let sum = digits-sum (byte_at k a) (byte_at k b) (byte_at k c) (byte_at k d) (byte_at k e) (byte_at k f) (byte_at k g) (byte_at k h)
     (byte-lt k a) (byte-lt k b) (byte-lt k c) (byte-lt k e) (byte-lt k f) (byte-lt k g) in
-    let whole : of_digits (t / 2 ^ 6) q r s ≡ t =
+    let whole : of_digits (t / 2 ^ 6) (bit_and (t / 2 ^ 4) 3) (bit_and (t / 2 ^ 2) 3) (bit_and t 3) ≡ t =
     same-below 256 (λ n. of_digits (n / 2 ^ 6) (bit_and (n / 2 ^ 4) 3) (bit_and (n / 2 ^ 2) 3) (bit_and n 3)) (λ n. n) digits-whole t l in
-    search (arith, digits-product, and_le_r, byte-xor)
-
--- the digits put together, by Horner's rule
-pub digits-together : (k a b c d f g h : ℕ) → byte_at k f ≡ product 2 (product 2 (byte_at k a)) →
-    byte_at k g ≡ product 2 (product 2 (byte_at k (bit_xor f b))) →
-    byte_at k h ≡ product 2 (product 2 (byte_at k (bit_xor g c))) →
-    byte_at k (bit_xor h d) ≡ of_digits (byte_at k a) (byte_at k b) (byte_at k c) (byte_at k d)
-digits-together k a b c d f g h hf hg hh = cc (byte-xor k h d, byte-xor k g c, byte-xor k f b)
+    search (arith, and_le_r, byte-xor, xor_of_8, product-lt, digit-product)
 
 -- sums of nothing
 pub digits-none : (k : ℕ) → of_digits (byte_at k 0) (byte_at k 0) (byte_at k 0) (byte_at k 0) ≡ 0

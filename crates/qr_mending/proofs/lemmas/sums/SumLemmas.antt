@@ -1,13 +1,10 @@
 -- Values of polynomials, and sums of products of their coefficients with the items of a list.
-use Rattle.std.proofs.Common.{◌≡◌, ℕ, ◌+◌, ◌-◌, ◌*◌, ◌%◌, ◌<◌, ◌≤◌, List, [], ◌∷◌, ◌++◌, length, drop, get_or, refl, ap, arith, lit<, bit_xor, length-drop}
-use Rattle.std.proofs.lemmas.{Nat.xor_of_8, Nat.xor_comm}
-use Rattle.std.proofs.lemmas.List.{length_push, get_or_push, get_or_append_left, drop_more, drop_all}
-use Rattle.std.proofs.lemmas.List.Elements.{All-drop, All-get_or, All-head, All-tail}
+use Rattle.std.proofs.Common.{◌≡◌, ℕ, ◌+◌, ◌-◌, ◌*◌, ◌%◌, ◌<◌, ◌≤◌, List, [], ◌∷◌, length, drop, get_or, refl, ap, arith, lit<, bit_xor}
+use Rattle.std.proofs.lemmas.{Nat.{xor_of_8, xor_comm}, List.{drop_more, Elements.{All-drop, All-get_or, All-head, All-tail}}}
 use Rattle.std.specs.{List.All, Int.Bits.{xor_assoc, xor_zero_l}}
-use Rattle.qr_field.specs.{Galois.product, Steps.Polynomial.value_at, Polynomial.{IsByte, plus, scaled, power}}
-use Rattle.qr_field.proofs.lemmas.galois.{BitLemmas.xor-swap, ProductLemmas.{product-lt, product-xor}}
+use Rattle.qr_field.specs.{Galois.product, Polynomial.{IsByte, plus, scaled, power}}
+use Rattle.qr_field.proofs.lemmas.galois.{BitLemmas.xor-swap, ProductLemmas.{product-lt, product-xor}, PowerLemmas.{power-lt, power-add, power-mod}}
 use Rattle.qr_field.proofs.lemmas.galois.ByteLemmas.{product-by_zero, product-by_one, product-of_zero, product-of_one}
-use Rattle.qr_field.proofs.lemmas.{galois.PowerLemmas.{power-lt, power-add, power-mod}}
 use Rattle.qr_field.proofs.lemmas.galois.FieldLemmas.{product-comm, product-assoc, product-front, product-by_sum}
 use Rattle.qr_mending.specs.Steps.Sums.{dot_of, eval, blend, HasValues}
 
@@ -59,16 +56,6 @@ multiple-next element k step e s l now next =
 
 -- ---- values
 
--- the value of the coefficients from index k - 1 on
-pub value-more : (i k : ℕ) (p : List ℕ) → 0 < k → k ≤ length p →
-    value_at i (drop (k - 1) p) ≡ bit_xor (product (get_or p (k - 1) 0) (power (i * (length p - k)))) (value_at i (drop k p))
-value-more i k p some l = search (arith, drop_more, length-drop)
-
--- a list of values with one value more
-pub values-more : (s : List ℕ) (k v : ℕ) (e : List ℕ) → length s ≡ k → HasValues s e →
-    v ≡ value_at k e → HasValues (s ++ v ∷ []) e
-values-more s k v e n h f = search (arith, get_or_append_left, length_push, get_or_push)
-
 -- ---- sums of products
 
 -- the sum of products of bytes is a byte
@@ -112,10 +99,6 @@ eval-lt x (c ∷ p) l a = search (arith, xor_of_8, All-head, product-lt)
 -- an empty list contains the first values of every list
 pub values-none : (s e : List ℕ) → s ≡ [] → HasValues s e
 values-none s e h = search arith
-
--- no terms of the whole polynomial
-pub eval-start : (m k : ℕ) (p : List ℕ) → length p ≤ k → 0 ≡ product (power (m * k)) (eval (power m) (drop k p))
-eval-start m k p l = search (arith, drop_all, product-by_zero, power-lt)
 
 -- the value at 2 to the power m of the coefficients from index k - 1 on, as terms of the whole polynomial
 pub eval-more : (m k : ℕ) (p : List ℕ) → All IsByte p → 0 < k → k ≤ length p →

@@ -1,7 +1,6 @@
 use Rattle.std.proofs.Common.{◌≡◌, ◌++◌, ap, length, length-append, sym, ◌∙◌, subst, arith}
 use Rattle.qr_layout.specs.Blocks.{blocks_of}
-use Rattle.qr_symbol.specs.Interleaving.{IsFinalMessage}
-use Rattle.qr_symbol.proofs.Facts.{both-interleaved, data-sizes-whole, final-whole, take-front}
+use Rattle.qr_symbol.{specs.Interleaving.IsFinalMessage, proofs.Facts.{both-interleaved, data-sizes-whole, final-whole, take-front}}
 use Rattle.qr_mending.proofs.message.interleaved.Goals as goal
 
 pub scatter-requires-clause-whole : goal.scatter-requires-clause-whole

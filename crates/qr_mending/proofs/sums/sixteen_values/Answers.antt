@@ -1,12 +1,10 @@
-use Rattle.std.proofs.Common.{rules, ◌≡◌, ◌-◌, ◌+◌, ◌*◌, drop, get_or, ap, ◌∙◌, arith}
-use Rattle.std.proofs.lemmas.{Nat.{xor_comm}, List.{Elements.All-from_get_or}}
-use Rattle.qr_field.specs.{Galois.{product}, Polynomial.{IsByte, power}}
-use Rattle.qr_mending.specs.Steps.Sums.{eval}
-use Rattle.qr_mending.proofs.lemmas.sums.{DigitLemmas.{digits-none, powers-product}, SumLemmas.{eval-start, eval-more, eval-all}}
+use Rattle.qr_field.{proofs.lemmas.galois.{PowerLemmas.power-lt, ByteLemmas.product-by_zero}, specs.{Galois.product, Polynomial.{IsByte, power}}}
+use Rattle.std.proofs.{lemmas.{List.{drop_all, Elements.All-from_get_or}, Nat.xor_comm}, Common.{rules, ◌≡◌, ◌-◌, ◌+◌, ◌*◌, drop, get_or, ap, ◌∙◌, arith}}
+use Rattle.qr_mending.{specs.Steps.Sums.eval, proofs.lemmas.sums.{DigitLemmas.{digits-none, powers-product}, SumLemmas.{eval-more, eval-all}}}
 use Rattle.qr_mending.proofs.sums.sixteen_values.Goals as goal
 
 pub loop-j-init : goal.loop-j-init
-loop-j-init c = search (rules, digits-none, eval-start)
+loop-j-init c = search (rules, digits-none, drop_all, product-by_zero, power-lt)
 
 pub loop-j-preserved : goal.loop-j-preserved
 loop-j-preserved c = λ i l.

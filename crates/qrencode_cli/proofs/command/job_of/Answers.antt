@@ -1,26 +1,20 @@
 use Rattle.qr_bits.specs.declared.interpretation.Interpretation.TheVariants.{Default}
-use Rattle.std.proofs.Common.{◌≡◌, ◌∙◌, List, ℕ, ap, subst, sym, arith, rules, Err, Ok}
-use Rattle.std.{specs.Cow.cow_slice_items, proofs.lemmas.Result.err_from_is_err_and}
+use Rattle.std.{proofs.{Common.{◌≡◌, ◌∙◌, List, ℕ, ap, subst, sym, arith, rules, Err, Ok}, lemmas.Result.err_from_is_err_and}, specs.Cow.cow_slice_items}
 use Rattle.qr_symbol.specs.{declared.fault.EncodeFault.{EncodeFault, TheVariants.Empty}, VersionChoice.HasNoVersion}
 use Rattle.qrencode_cli.specs.{Command.held, Settings.SettingsView, Settings.rule_for, Symbols.smallest_of, Steps.Command.AreDrawnFor}
-use Rattle.qrencode_cli.proofs.lemmas.command.AskingLemmas.{drawn-for-one, drawn-for-series, held-folded, held-plain, told-one}
-use Rattle.qrencode_cli.proofs.command.job_of.Goals.{Joined-settings-3, Joined-settings-4, else-settings+else-settings-2, else-settings+then-settings-2, else-settings-3, else-settings-4+in_ok-symbol+in_ok-symbols-2, then-settings, then-settings-3+in_ok-fold, then-settings-4+in_ok-symbols}
+use Rattle.qrencode_cli.proofs.lemmas.command.AskingLemmas.{drawn-for-one, drawn-for-series, told-one}
+use Rattle.qrencode_cli.proofs.command.job_of.Goals.{Joined-settings-3, Joined-settings-4, else-settings-4+in_ok-symbol+in_ok-symbols-2, then-settings-4+in_ok-symbols}
 use Rattle.qrencode_cli.proofs.command.job_of.Goals as goal
 
+-- the rule is that of the settings
 rule : (c : Joined-settings-3) → c.if-settings.rule ≡ rule_for c.args.settings.now
-rule c = elim c.if-settings.branch [
-  | then-settings w ↦ search rules
-  | else-settings+then-settings-2 w ↦ search rules
-  | else-settings+else-settings-2 w ↦ search rules
-]
+rule c = search rules
 
 -- the symbols contain `held` of the input
 input : (c : Joined-settings-3) (items : List ℕ) → items ≡ cow_slice_items c.if-settings-3.held → items ≡ held c.args.settings.now c.args.input.now
-input c items is = is ∙ elim c.if-settings-3.branch [
-  | then-settings-3+in_ok-fold w ↦ ap cow_slice_items w.held-is ∙ sym (held-folded c.args.settings.now c.if-settings.rule c.args.input.now _ (sym (ap (λ (s : SettingsView). s.fold) c.settings.view_is) ∙ w.if-settings-3.true) (rule c) w.in_ok-fold.ensures.bytes)
-  | else-settings-3 w ↦ ap cow_slice_items w.held-is ∙ sym (held-plain c.args.settings.now c.args.input.now (sym (ap (λ (s : SettingsView). s.fold) c.settings.view_is) ∙ w.if-settings-3.false))
-]
+input c items is = search (rules, rule)
 
+-- the symbols are those that the settings ask for
 drawn : (c : Joined-settings-4) → c.if-settings.rule ≡ rule_for c.args.settings.now
     → ((items : List ℕ) → items ≡ cow_slice_items c.if-settings-3.held → items ≡ held c.args.settings.now c.args.input.now) → AreDrawnFor c.args.settings.now (held c.args.settings.now c.args.input.now) c.if-settings-4.symbols.items
 drawn c same is =

@@ -1,24 +1,20 @@
-use Rattle.std.proofs.{Common.{inl, inr, length, arith}, lemmas.{Grind.common_steps, Result.err_from_is_err_and}}
-use Rattle.qrencode_cli.proofs.lemmas.command.ReadingLemmas.{has-read-end, has-read-full, reading-again, reading-begins, reading-more, stops-memory, stops-read}
+use Rattle.std.proofs.{Common.{rules, inl, inr, length, arith}, lemmas.{Grind.common_steps, Result.err_from_is_err_and}}
+use Rattle.qrencode_cli.proofs.lemmas.command.ReadingLemmas.{has-read-end, has-read-full, reading-more, stops-memory, stops-read}
 use Rattle.qrencode_cli.proofs.command.read_input.Goals as goal
 use Rattle.qrencode_cli.proofs.command.read_input.Goals.{else-reads-test, then-reads-test+in-Ok-eq0}
 
 pub reads-init : goal.reads-init
-reads-init g c = reading-begins (g.R.Source.device c.args.input.now) _ c.new-bytes.ensures.items
+reads-init g c = search rules
 
 pub reads-preserved-in-Continue-1 : goal.reads-preserved-in-Continue-1
 reads-preserved-in-Continue-1 g c =
     let read = c.in-Ok.ensures in
-    let small = rw (c.len.ensures, c.reads.bytes.ok.0) at c.reads-test.true in
     reading-more _ _ _ _ _ c.reads.chunk _ _ _ _ c.reads.invariant c.in-Ok.given-test.1 read.bound read.bytes.0 read.counted
-    small (rw (c.len-in-reads.ensures, c.reads.bytes.ok.0) at c.min-room.ensures) c.read.auto.buf
+    (rw (c.len.ensures, c.reads.bytes.ok.0) at c.reads-test.true) (rw (c.len-in-reads.ensures, c.reads.bytes.ok.0) at c.min-room.ensures) c.read.auto.buf
     _ _ c.in_ok-extend_from_slice-in-Ok.ensures.items
 
 pub reads-preserved : goal.reads-preserved
-reads-preserved g c =
-    let read = c.in-Err-Interrupted in
-    reading-again _ _ _ _ (length c.read.new.buf) _ c.reads.invariant c.if-interrupted-eq-INTERRUPTIONS_MAX.false
-    read.ensures.bytes (rw read.field-0-is at read.ensures.counted)
+reads-preserved g c = search arith
 
 pub returns-in_err-extend_from_slice-in-Ok : goal.returns-in_err-extend_from_slice-in-Ok
 returns-in_err-extend_from_slice-in-Ok g c =

@@ -1,5 +1,6 @@
+use Rattle.std.proofs.Common.{rules}
 use Rattle.qrencode_cli.proofs.lemmas.laws.AnswerLemmas.{answers-one, refusals-exclude, refusals-one}
 use Rattle.qrencode_cli.proofs.laws.answers_are_one.Goals as goal
 
 pub returns : goal.returns
-returns c = record { drawing = answers-one; refusal = refusals-exclude; reason = refusals-one }
+returns c = search (rules, answers-one, refusals-exclude, refusals-one)

@@ -1,24 +1,19 @@
 -- The drawing that a command line and an input ask for, or the fault that occurs before any byte is written.
-use Rattle.std.proofs.lemmas.Grind.{common_steps}
-use Rattle.qr_bits.specs.declared.interpretation.Interpretation.TheVariants.{Default}
+use Rattle.std.{proofs.lemmas.{Grind.common_steps, Bool.{cases_lt, false≢true}, List.{take_min, Elements.{All-cons, All-head, All-nil}}}, specs.List.All}
+use Rattle.qr_bits.specs.{declared.{interpretation.Interpretation.TheVariants.Default, modes.{TheConstants.INPUT_MAX, Rule.Rule}}, Parsing.plain_content}
 use Rattle.std.proofs.Common.{◌≡◌, ◌≤◌, ℕ, true, false, List, [], ◌∷◌, take, Option, None, Some, Result, Ok, Err, refl, sym, min, length, append-nil, arith, inl, inr, ◌⊎◌}
-use Rattle.std.proofs.lemmas.{Bool.{cases_lt, false≢true}, List.take_min, Grind.common_steps}
-use Rattle.std.{proofs.lemmas.List.Elements.{All-cons, All-head, All-nil}, specs.List.All}
 use Rattle.qr_drawing.specs.Drawing.{HaveOneSide}
 use Rattle.{clap.specs.Walk.Text, qr_matrix.specs.Grid.Grid}
-use Rattle.qr_bits.specs.{declared.modes.TheConstants.INPUT_MAX, declared.modes.Rule.Rule, Folding.folded, Parsing.plain_content}
 use Rattle.{qr_layout.specs.Version.side_of, qr_devices.specs.Device.Reader}
 use Rattle.qr_symbol.specs.declared.{fault.EncodeFault.EncodeFault, symbol.Symbol.Symbol}
 use Rattle.qr_symbol.specs.declared.fault.EncodeFault.TheVariants as encode
 use Rattle.qr_symbol.specs.{Joining.AreReadBy, Joining.IsJoined, Reading.IsReadBack, Series.IsSeries, Series.squares_of, Encoding.IsSymbol, VersionChoice.HasNoVersion}
 use Rattle.qr_symbol.proofs.Facts.{long-has-no-series, series-few, series-side, series-some, version-short}
-use Rattle.qrencode_cli.specs.Command.{HasSettingsWith, ReadsInput, held, input_for}
-use Rattle.qrencode_cli.specs.Settings.{IsUsageFault, Reason, SettingsView, rule_for, settings_for}
+use Rattle.qrencode_cli.specs.{Command.{HasSettingsWith, ReadsInput, held, input_for}, Settings.{IsUsageFault, Reason, SettingsView, rule_for, settings_for}}
 use Rattle.qrencode_cli.specs.Steps.Command.{AreDrawnFor, HasRead, IsInputFault, IsJobFor, IsJobGiven, Prepares, StopsReading}
-use Rattle.qrencode_cli.specs.{Symbols.smallest_of, declared.fault.Fault.Fault}
-use Rattle.qrencode_cli.specs.{Steps.Fault.fault_of_input, Steps.Fault.fault_of_words, Input.IsInputOf}
-use Rattle.qrencode_cli.specs.declared.fault.Fault.TheVariants as fault
+use Rattle.qrencode_cli.specs.{Symbols.smallest_of, declared.fault.Fault.Fault, Steps.Fault.{fault_of_input, fault_of_words}, Input.IsInputOf}
 use Rattle.qrencode_cli.specs.declared.{drawing_job.DrawingJob.DrawingJob, settings.UsageFault.UsageFault}
+use Rattle.qrencode_cli.specs.declared.fault.Fault.TheVariants as fault
 use Rattle.qrencode_cli.specs.declared.settings.UsageFault.TheVariants as usage
 
 -- there is always an input that the reader may return
@@ -30,14 +25,6 @@ any-input (Some xs) = (take INPUT_MAX xs, refl)
 input_for-string : (s : SettingsView) (text given buf : List ℕ) (n : ℕ) → s.string ≡ Some text → buf ≡ text
     → n ≡ min INPUT_MAX (length buf) → input_for s given ≡ take n buf
 input_for-string s text given buf n e is cut = cc (take_min INPUT_MAX text)
-
--- under -i the symbols contain the folded input
-pub held-folded : (s : SettingsView) (rule : Rule) (input bytes : List ℕ) → s.fold ≡ true → rule ≡ rule_for s → bytes ≡ folded rule input → held s input ≡ bytes
-held-folded s rule input bytes fold same e = rw (fold, ← same) (sym e)
-
--- without -i the symbols contain the input itself
-pub held-plain : (s : SettingsView) (input : List ℕ) → s.fold ≡ false → held s input ≡ input
-held-plain s input fold = rw fold refl
 
 -- if a symbol is read as the input, joining it alone has the input as its result
 joined-one : (input : List ℕ) (v : ℕ) (b : Rule) (g : Grid) → IsReadBack v b Default input g → IsJoined (g ∷ []) input

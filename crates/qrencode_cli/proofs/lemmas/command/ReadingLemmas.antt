@@ -1,7 +1,7 @@
 -- The invariant of the loop that reads the input.
 use Rattle.std.proofs.Common.{◌≡◌, ◌+◌, ◌<◌, ◌≤◌, ◌++◌, ℕ, List, [], false, length, length-append, take, Option, Some, None, Ok, Err, arith, rules, refl, append-nil, inl, inr, ◌⊎◌, ◌-◌, min}
 use Rattle.std.proofs.{lemmas.List.take_all, lemmas.List.take-append-le, lemmas.List.length-take, lemmas.List.length-take-le, lemmas.Bool.false≢true, Math.Seq.take-append_seam, KnownBytes.Consumes-trans}
-use Rattle.{qr_bits.specs.declared.modes.TheConstants.INPUT_MAX, std.specs.Io.KnownBytes.{Consumes, IsAtEnd, Keeps}}
+use Rattle.{qr_bits.specs.declared.modes.TheConstants.INPUT_MAX, std.specs.Io.KnownBytes.{Consumes, IsAtEnd}}
 use Rattle.qrencode_cli.specs.{Input.{IsInputOf, IsReadWithin}, Steps.Command.{HasRead, StopsReading}}
 use Rattle.qrencode_cli.specs.declared.fault.Fault.TheVariants as fault
 use Rattle.qr_devices.specs.Device.{Reader, is_read_fault, no_reads, read_counted}
@@ -36,10 +36,6 @@ IsInputOf-read (Some x) (Some y) bytes p low (inr high) =
 counted-well : (c : ReadCounts) (len i : ℕ) → len ≤ INPUT_MAX → i ≤ 999 → IsCounted c len i → (is_read_fault c ≡ false) × IsReadWithin c
 counted-well c len i short few k = search arith
 
--- before the first read there are no bytes and no interruptions
-pub reading-begins : (a : Reader) (bytes : List ℕ) → bytes ≡ [] → IsReading a a bytes 0
-reading-begins a bytes e = search rules
-
 -- one more read, into the first bytes of a chunk, returned some bytes
 module _ (old a b : Reader) (bytes buf chunk : List ℕ) (n i most room : ℕ) (h : IsReading old a bytes i) (some : n ≡ 0 → ⊥)
     (le : n ≤ length buf) (q : Consumes a.remaining b.remaining (take n buf))
@@ -55,12 +51,6 @@ module _ (old a b : Reader) (bytes buf chunk : List ℕ) (n i most room : ℕ) (
   stops-memory =
       let r = reading-more [] _ refl in
       search (arith, counted-well, false≢true)
-
--- one more interrupted read changes only the number of interruptions
-pub reading-again : (old a b : Reader) (bytes : List ℕ) (len i : ℕ) → IsReading old a bytes i →
-    (i ≡ 999 → ⊥) → Keeps a.remaining b.remaining →
-    b.counts ≡ read_counted len (Err Interrupted) a.counts → IsReading old b bytes (i + 1)
-reading-again old a b bytes len i h ne q e = search rules
 
 -- if the read failed, or was interrupted for the 1,000th time, reading stops with a read fault
 pub stops-read : (old a b : Reader) (bytes : List ℕ) (len i : ℕ) (t : Trouble) → IsReading old a bytes i
@@ -80,5 +70,4 @@ pub has-read-end : (old a b : Reader) (bytes buf : List ℕ) (n i : ℕ) → IsR
     b.counts ≡ read_counted (length buf) (Ok n) a.counts → HasRead old b bytes
 has-read-end old a b bytes buf n i h zero some small q e =
     let none : bytes ++ take n buf ≡ bytes = rw zero (append-nil bytes) in
-    let given = rw none at (Consumes-trans old.remaining a.remaining b.remaining bytes (take n buf) h.given q.0) in
-    search (arith, IsInputOf-read)
+    search (arith, IsInputOf-read, rw none at (Consumes-trans old.remaining a.remaining b.remaining bytes (take n buf) h.given q.0))

@@ -1,20 +1,18 @@
 -- A command line and an input have at most one drawing and at most one reason to be refused, and not both.
 use Rattle.qr_bits.specs.declared.interpretation.Interpretation.TheVariants.{Default}
-use Rattle.std.proofs.Common.{◌≡◌, ◌<◌, ◌≤◌, ◌&&◌, ◌==◌, inl, inr, ℕ, suc, Bool, true, false, cond, leb, List, [], length, Option, Some, None, unwrap_or, codes, Result, Ok, Err, refl, sym, subst, arith}
+use Rattle.std.proofs.Common.{◌≡◌, ◌<◌, ◌≤◌, ◌==◌, inl, inr, ℕ, suc, Bool, true, false, cond, List, [], length, Option, Some, None, codes, Result, Ok, Err, refl, sym, subst, arith}
 use Rattle.std.specs.{Option.option_map_or, Prelude.option_and_then}
 use borrow.Author.Tests.{leb-true}
-use Rattle.clap.specs.{Words.first_of, Words.one_of, Walk.Row, Walk.Text}
+use Rattle.clap.specs.{Words.first_of, Walk.{Row, Text}}
 use Rattle.{qr_layout.specs.declared.level.Level.Level, qr_drawing.specs.declared.drawing.Drawing.Drawing}
 use Rattle.qr_layout.specs.declared.level.Level.TheVariants as level
 use Rattle.{qr_bits.proofs.Facts.empty-fits, qr_matrix.specs.Grid.Grid}
 use Rattle.qr_symbol.{specs.VersionChoice.FitsVersion, proofs.Facts.{series-one, symbol-one}}
-use Rattle.qrencode_cli.specs.Command.{HasRefusal, IsDrawing, IsRefusal, held, input_for}
-use Rattle.qrencode_cli.specs.Laws.{AnswersAreOne, RefusalsAreOne, RefusalsExcludeDrawings}
-use Rattle.qrencode_cli.specs.Arguments.{faults_for, rows_for}
-use Rattle.qrencode_cli.specs.Settings.{Reason, SettingsView, checked_series, drawing_named, level_named, needs_version, number_or, refused_by_clap, rule_for, settings_for, settings_of, settings_with, unknown_level, unknown_type}
 use Rattle.qr_symbol.specs.declared.fault.EncodeFault.TheVariants as encode
-use Rattle.qrencode_cli.specs.declared.{settings.UsageFault.UsageFault, fault.Fault.Fault}
+use Rattle.qrencode_cli.specs.{Command.{HasRefusal, IsDrawing, IsRefusal, held, input_for}, Laws.{AnswersAreOne, RefusalsAreOne, RefusalsExcludeDrawings}}
+use Rattle.qrencode_cli.specs.{Arguments.{faults_for, rows_for}, declared.{settings.UsageFault.UsageFault, fault.Fault.Fault}}
 use Rattle.qrencode_cli.specs.declared.fault.Fault.TheVariants as fault
+use Rattle.qrencode_cli.specs.Settings.{Reason, SettingsView, checked_series, drawing_named, level_named, needs_version, refused_by_clap, rule_for, settings_for, settings_of, settings_with, unknown_level, unknown_type}
 use Rattle.qrencode_cli.specs.Symbols.{AreSymbols, IsTooLong, IsTooMany, smallest_of}
 use Rattle.qrencode_cli.specs.declared.settings.UsageFault.TheVariants as usage
 
@@ -26,8 +24,7 @@ settings-one words s t a b = cc
 squares-one : (s : SettingsView) (input : List ℕ) (g h : List Grid) → AreSymbols s input g → AreSymbols s input h → g ≡ h
 squares-one s input g h (inl (a, ss, m, e)) (inl (b, ts, n, f)) = cc (series-one input s.level (rule_for s) Default (smallest_of s) ss ts m n)
 squares-one s input g h (inr (a, v, mask, square, m, e)) (inr (b, w, other, grid, n, f)) =
-    let same = symbol-one input s.level (smallest_of s) (rule_for s) Default _ _ _ _ square grid m n in
-    let k = same.2 in cc
+    let k = (symbol-one input s.level (smallest_of s) (rule_for s) Default _ _ _ _ square grid m n).2 in cc
 squares-one s input g h (inl a) (inr b) = cc
 squares-one s input g h (inr a) (inl b) = cc
 
@@ -102,17 +99,10 @@ pub taken-have : (P : SettingsView → Type 0) (well : Bool) (rows : List Row) �
 taken-have P true rows h s e = checked-have P (option_map_or level_named (first_of (codes "level") rows) (Some level.L)) (option_and_then drawing_named (first_of (codes "type") rows)) (settings_with rows) h s e
 taken-have P false rows h s e = absurd (err-ok refused_by_clap s e)
 
--- a version of -v is at most 40
-version-most : (n : ℕ) → unwrap_or (cond (leb 1 n && leb n 40) (Some n) None) 1 ≤ 40
-version-most n = by-test (leb 1 n) (leb n 40) (leb-true n 40)
-  where
-    by-test : (a b : Bool) → (b ≡ true → n ≤ 40) → unwrap_or (cond (a && b) (Some n) None) 1 ≤ 40
-    by-test a b h = grind arith
-
 -- the smallest version of settings is at most 40
 pub smallest-most : (words : List Text) (s : SettingsView) → settings_for words ≡ Ok s → smallest_of s ≤ 40
 smallest-most words s e =
-    taken-have (λ s. smallest_of s ≤ 40) (length (faults_for words) == 0) (rows_for words) (λ l k. version-most (number_or 0 (one_of (codes "version") (rows_for words)))) s e
+    taken-have (λ s. smallest_of s ≤ 40) (length (faults_for words) == 0) (rows_for words) (search (arith, leb-true)) s e
 
 -- an empty input fits each version, so it is never too long
 empty-not-long : (words : List Text) (s : SettingsView) (input : List ℕ) → settings_for words ≡ Ok s → input ≡ [] → IsTooLong s input → ⊥

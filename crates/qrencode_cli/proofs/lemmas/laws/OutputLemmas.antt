@@ -1,21 +1,15 @@
 -- What the drawing that a run writes shows by itself.
 use Rattle.qr_bits.specs.declared.interpretation.Interpretation.TheVariants.{Default}
-use Rattle.std.proofs.Common.{◌≡◌, ◌≤◌, ◌&&◌, ◌==◌, inl, inr, ℕ, true, cond, leb, List, length, Option, Some, None, unwrap_or, codes, Result, Ok, Err, sym, subst, arith}
+use Rattle.std.proofs.Common.{◌≡◌, ◌≤◌, ◌==◌, inl, inr, ℕ, true, List, length, Option, Some, None, codes, Result, Ok, Err, sym, subst, arith}
 use Rattle.std.proofs.lemmas.Bool.Decides.{nat_tests}
 use Rattle.clap.specs.{Words.one_of, Walk.Text}
 use Rattle.qr_matrix.specs.Grid.{Grid}
 use Rattle.qr_drawing.specs.{Drawing.drawn}
-use Rattle.qr_parsing.specs.Parsing.{IsDrawingOf}
-use Rattle.qr_parsing.proofs.Facts.{one-drawing, series-drawing, symbol-drawing}
-use Rattle.qrencode_cli.specs.Arguments.{faults_for, rows_for}
+use Rattle.qr_parsing.{specs.Parsing.IsDrawingOf, proofs.Facts.{one-drawing, series-drawing, symbol-drawing}}
+use Rattle.qrencode_cli.specs.{Arguments.{faults_for, rows_for}, Command.{DrawnWhole, HasSettingsWith, IsDrawing, Runs, held, input_for}, Input.IsInputOf}
 use Rattle.qr_devices.specs.Device.{Reader, Writer}
-use Rattle.qrencode_cli.specs.Command.{DrawnWhole, HasSettingsWith, IsDrawing, Runs, held, input_for}
-use Rattle.qrencode_cli.specs.Input.{IsInputOf}
-use Rattle.qrencode_cli.specs.Laws.{OutputsReadBack, ShowsInput}
-use Rattle.qrencode_cli.specs.Settings.{SettingsView, number_or, rule_for, settings_for}
-use Rattle.qrencode_cli.specs.Symbols.{AreSymbols, smallest_of}
-use Rattle.qrencode_cli.specs.declared.fault.Fault.{Fault}
-use Rattle.qrencode_cli.proofs.lemmas.laws.AnswerLemmas.{smallest-most, taken-have}
+use Rattle.qrencode_cli.specs.{Laws.{OutputsReadBack, ShowsInput}, Settings.{SettingsView, number_or, rule_for, settings_for}, declared.fault.Fault.Fault}
+use Rattle.qrencode_cli.{specs.Symbols.{AreSymbols, smallest_of}, proofs.lemmas.laws.AnswerLemmas.{smallest-most, taken-have}}
 
 -- a number of an option is at most 255
 number-most : (o : Option Text) → number_or 4 o ≤ 255
@@ -27,14 +21,10 @@ margin-most : (words : List Text) (s : SettingsView) → settings_for words ≡ 
 margin-most words s e =
     taken-have (λ s. s.margin ≤ 255) (length (faults_for words) == 0) (rows_for words) (λ l k. number-most (one_of (codes "margin") (rows_for words))) s e
 
--- a version of -v is at least 1
-version-least : (n : ℕ) → 1 ≤ unwrap_or (cond (leb 1 n && leb n 40) (Some n) None) 1
-version-least n = search arith
-
 -- the smallest version of settings is at least 1
 smallest-least : (words : List Text) (s : SettingsView) → settings_for words ≡ Ok s → 1 ≤ smallest_of s
 smallest-least words s e =
-    taken-have (λ s. 1 ≤ smallest_of s) (length (faults_for words) == 0) (rows_for words) (λ l k. version-least (number_or 0 (one_of (codes "version") (rows_for words)))) s e
+    taken-have (λ s. 1 ≤ smallest_of s) (length (faults_for words) == 0) (rows_for words) (search arith) s e
 
 -- the squares that the settings ask for have a drawing that can be parsed
 asked-drawing : (s : SettingsView) (input : List ℕ) (squares : List Grid) → s.margin ≤ 255 → 1 ≤ smallest_of s → smallest_of s ≤ 40 → AreSymbols s input squares

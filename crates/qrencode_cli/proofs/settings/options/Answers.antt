@@ -12,6 +12,7 @@ record ComeExactly (o : Result SettingsView Reason) (r : Result SettingsView Usa
   kind : (r ≡ Err usage.Kind) ↔ ((r ≢ Err usage.Memory) × (o ≡ Err unknown_type))
   version : (r ≡ Err usage.NeedsVersion) ↔ ((r ≢ Err usage.Memory) × (o ≡ Err needs_version))
 
+-- the arguments are refused exactly for the reasons that the definition gives
 come-exactly : (o : Result SettingsView Reason) (r : Result SettingsView UsageFault) → MatchResult r (λ s. o ≡ Ok s) (IsUsageFault o) → ComeExactly o r
 come-exactly o (Ok s) h = search rules
 come-exactly o (Err usage.Memory) h = search rules

@@ -19,12 +19,12 @@ pub returns-then-not-may_write-clause-empty : goal.returns-then-not-may_write-cl
 returns-then-not-may_write-clause-empty c =
     (λ h. absurd (omega arith), λ w. absurd (refused-some c.in-Some.settings.interpretation c.args.input.now c.may_write.result c.may_write.ensures.1 c.if-not-may_write.true w.1))
 
+-- an input that is longer than every symbol holds has no version
 none : (c : After-long_inputs_have_none)
     → HasNoVersion c.args.version (level_of c.args.level) (rule_of c.args.rule) (interpretation_of c.args.interpretation) c.args.input.now
 none c =
-    let e = ap (λ (s : Settings). s.version) c.in-Some.ensures.1 in
     let law = c.long_inputs_have_none.ensures.symbol c.args.input.now (level_of c.args.level) (rule_of c.args.rule) (interpretation_of c.args.interpretation) in
-    λ v least most fits. law (omega arith) v (omega (arith, e)) most fits
+    λ v least most fits. law (omega arith) v (omega (arith, ap (λ (s : Settings). s.version) c.in-Some.ensures.1)) most fits
 
 pub returns-then-input-gt-INPUT_MAX-clause-too_long : goal.returns-then-input-gt-INPUT_MAX-clause-too_long
 returns-then-input-gt-INPUT_MAX-clause-too_long c =

@@ -1,6 +1,5 @@
 -- What the statuses mean for an input that is not encoded.
-use Rattle.qr_bits.{proofs.Facts.may_write-none, specs.Interpretation.MayWrite}
-use Rattle.qr_bits.specs.declared.interpretation.Interpretation.{Interpretation}
+use Rattle.qr_bits.{proofs.Facts.may_write-none, specs.{Interpretation.MayWrite, declared.interpretation.Interpretation.Interpretation}}
 use Rattle.std.proofs.Common.{◌≡◌, ◌≢◌, ◌↔◌, ◌⊎◌, ℕ, Bool, true, false, List, [], Result, Err, arith}
 use Rattle.{qr_symbol.specs.declared.fault.EncodeFault.EncodeFault, qrproved.specs.Steps.Status.encode_status}
 use Rattle.qr_symbol.specs.declared.fault.EncodeFault.TheVariants as fault

@@ -1,8 +1,6 @@
 -- ECI headers are written one by one.
-use Rattle.std.proofs.Common.{◌≡◌, ℕ, ◌+◌, ◌<◌, List, [], ◌∷◌, ◌++◌, length, map, take, drop, get_or, append_assoc, arith}
-use Rattle.std.proofs.Math.ListN.{set}
-use Rattle.std.proofs.Math.Seq.{drop-cons, set-append_seam}
-use Rattle.std.proofs.lemmas.List.{take_more, get_or-map, length-map, length-take-le}
+use Rattle.std.proofs.{Common.{◌≡◌, ℕ, ◌+◌, ◌<◌, List, [], ◌∷◌, ◌++◌, length, map, take, drop, get_or, append_assoc, arith}, Math.ListN.set}
+use Rattle.std.proofs.{Math.Seq.{drop-cons, set-append_seam}, lemmas.List.{take_more, get_or-map, length-map, length-take-le}}
 use Rattle.qr_bits.specs.declared.interpretation.EciChange.{EciChange}
 use Rattle.qrproved.specs.{declared.interpretation.QrprovedEci.QrprovedEci, Interpretation.told_eci}
 

@@ -1,13 +1,8 @@
 -- What the struct of a mended square contains.
-use Rattle.std.proofs.Common.{◌≡◌, ℕ, ◌*◌, ◌<◌, ◌≤◌, List, ◌++◌, drop, length, take, arith}
-use Rattle.std.{proofs.lemmas.List.Elements.All-weaker, specs.List.All}
-use Rattle.{qr_layout.specs.declared.level.Level.Level, qr_bits.specs.Parsing.Content, qr_matrix.specs.Grid.Grid}
+use Rattle.std.{proofs.{Common.{◌≡◌, ℕ, ◌*◌, ◌<◌, ◌≤◌, List, ◌++◌, drop, length, take, arith}, lemmas.List.Elements.All-weaker}, specs.List.All}
 use Rattle.qr_layout.specs.Blocks.{correctable_of}
-use Rattle.qr_mending.specs.{declared.mending.Mended.Mended}
-use Rattle.qr_mending.specs.Mending.{wrong_format_modules, HasWrongModules, IsMendedReading}
-use Rattle.qrproved.specs.declared.mending.QrprovedMended.{QrprovedMended}
-use Rattle.qrproved.specs.declared.interpretation.QrprovedEci.{QrprovedEci}
-use Rattle.qrproved.specs.Interpretation.{TellsInterpretation}
+use Rattle.qr_mending.specs.{declared.mending.Mended.Mended, Mending.{wrong_format_modules, HasWrongModules, IsMendedReading}}
+use Rattle.qrproved.specs.{declared.{mending.QrprovedMended.QrprovedMended, interpretation.QrprovedEci.QrprovedEci}, Interpretation.TellsInterpretation}
 use Rattle.qrproved.specs.Mending.{square_of_unknown, AreModules, HasMoreMendedBytes, HasOtherByte, IsGivenMended, IsGreatest}
 use Rattle.qrproved.specs.{Modules.square_of_bytes, Reading.TellsHeader, Settings.level_of}
 
@@ -22,14 +17,6 @@ no-other modules side a o = omega arith
 -- numbers that are at most t are at most 15, if t is at most 15
 pub few-changes : (x : List ℕ) (t : ℕ) → t ≤ 15 → All (λ n. n ≤ t) x → All (λ n. n ≤ 15) x
 few-changes x t most few = omega (arith, All-weaker)
-
--- the reading also holds with the version, the level and the mask that are in the struct
-read-told : (u : Grid) (g : Grid) (v w : ℕ) (l k : Level) (m n : ℕ) (p : Content) (x : List ℕ) → w ≡ v → k ≡ l → n ≡ m → IsMendedReading u g v l m p x → IsMendedReading u g w k n p x
-read-told u g v w l k m n p x ev el em r = search arith
-
--- the wrong modules are also those of the version, the level and the mask that are in the struct
-wrong-told : (u : Grid) (g : Grid) (v w : ℕ) (l k : Level) (m n : ℕ) (x : List ℕ) (a b : ℕ) → w ≡ v → k ≡ l → n ≡ m → b ≡ a → HasWrongModules u g v l m x a → HasWrongModules u g w k n x b
-wrong-told u g v w l k m n x a b ev el em e r = search arith
 
 -- the square is mended and read as m says
 pub record IsMendedAs (modules : List ℕ) (side : ℕ) (m : Mended) : Type 0 where
@@ -55,8 +42,7 @@ pub given-mended : (modules : List ℕ) (side : ℕ) (before put : List ℕ) (ec
     → IsMendedAs modules side m → len ≡ length m.parsed.bytes → len ≤ length before → put ≡ m.parsed.bytes → t.len ≡ len → TellsMended m t
     → TellsInterpretation m.parsed ecis_before ecis_after t.eci_count t.fnc1 t.application
     → IsGivenMended modules side before (put ++ drop len before) ecis_before ecis_after t
-given-mended modules side before put ecis_before ecis_after m t len is long room same elen tells told =
-    search (arith, read-told, wrong-told)
+given-mended modules side before put ecis_before ecis_after m t len is long room same elen tells told = search arith
 
 -- if mending and reading the square yields more bytes than the buffer has, the call's condition for ROOM holds
 pub more-bytes : (modules : List ℕ) (side : ℕ) (buffer : List ℕ) (m : Mended) (len : ℕ) → AreModules modules side

@@ -1,7 +1,7 @@
 -- What the statuses mean for a square that is refused, and for one that is read. `At f`: the square has the fault f.
 use Rattle.std.proofs.Common.{◌≡◌, ◌≢◌, ◌↔◌, ◌⊎◌, ℕ, ◌<◌, ◌≤◌, Option, None, Some, MatchOption, sym, ◌∙◌, ap, subst, inl, inr, arith}
 use Rattle.{qr_bits.specs.declared.fault.ParseFault.ParseFault, qr_layout.specs.Version.side_of}
-use Rattle.qr_symbol.{proofs.Facts.{FaultsAreOne}, specs.declared.fault.ReadFault.{ReadFault}}
+use Rattle.qr_symbol.{proofs.Facts.FaultsAreOne, specs.declared.fault.ReadFault.ReadFault}
 use Rattle.qr_symbol.specs.declared.fault.ReadFault.TheVariants as unread
 use Rattle.qrproved.specs.{Reading.IsSide, Steps.Status.read_status}
 

@@ -65,6 +65,7 @@ found : (c : In-Ok) → let m = c.in-Ok.found in IsMendedReading (square_of_unkn
     (square_of_bytes c.args.side c.args.modules.now) m.version m.level m.mask m.parsed m.changed.items
 found c = let same = c.side-side.ensures.value ∙ sym c.in-Some.ensures.2 in rw same at c.in-Ok.ensures.mended
 
+-- the square was mended, so it has no fault that a status could tell
 statuses : (c : In-Ok) (status : ℕ) → status < 8 → TellsFaults (IsUnmendedAt c.args.modules.now c.args.side) status
 statuses c status small =
     let m = c.in-Ok.found in

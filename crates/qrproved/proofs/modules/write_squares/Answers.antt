@@ -10,11 +10,10 @@ write_square-requires g c =
     let s = c.args.side in
     let grid = g.S.HasSquare.grid in
     let square = square_at-item grid c.args.squares.now i c.item-item.result c.loop-item-test.true c.item-item.is in
-    let side : c.square.result.now.side ≡ s = ap (λ (g : Grid). g.side) (c.square.ensures ∙ sym square) ∙ c.requires.sides i (light 0) (omega (arith, length-map c.args.squares.now grid)) in
+    let side : c.square.result.now.side ≡ s = search (rules, length-map) in
     let area = ap (λ (n : ℕ). n * n) side in
-    let start : c.loop-item.start ≡ i * (s * s) = c.loop-item.invariant.start ∙ ap (λ (n : ℕ). i * n) c.loop-item.invariant.area in
-    let end = block-end (s * s) i (length c.args.squares.now) c.loop-item-test.true in
-    omega (arith, area, start, end, c.requires.room, c.loop-item.invariant.long)
+    let start : c.loop-item.start ≡ i * (s * s) = search rules in
+    omega (arith, area, start, block-end (s * s) i (length c.args.squares.now) c.loop-item-test.true, c.requires.room, c.loop-item.invariant.long)
 
 pub loop-item-preserved : goal.loop-item-preserved
 loop-item-preserved g c =
@@ -22,10 +21,9 @@ loop-item-preserved g c =
     let s = c.args.side in
     let grid = g.S.HasSquare.grid in
     let is = c.loop-item.invariant in
-    let after = c.write_square.new.bytes in
     let shown = c.square.result.now in
     let square = square_at-item grid c.args.squares.now i c.item-item.result c.loop-item-test.true c.item-item.is ∙ sym c.square.ensures in
-    let side : shown.side ≡ s = ap (λ (g : Grid). g.side) (sym square) ∙ c.requires.sides i (light 0) (omega (arith, length-map c.args.squares.now grid)) in
+    let side : shown.side ≡ s = search (rules, length-map) in
     let area = ap (λ (n : ℕ). n * n) side in
     record {
       area = is.area;
@@ -42,7 +40,7 @@ loop-item-preserved g c =
             let rows = ap (λ (n : ℕ). row * n) side in
             let place : k * c.area-area.result + (row * s + col) ≡ c.loop-item.start + (row * shown.side + col) = omega (arith, blocks, rows, is.start) in
             let same = ap (λ (n : ℕ). get_or (map grid c.args.squares.now) n (light 0)) here ∙ square in
-            ap (λ (n : ℕ). slice_index_or after n 0) place
+            ap (λ (n : ℕ). slice_index_or c.write_square.new.bytes n 0) place
             ∙ (c.write_square.ensures.modules row col (omega (arith, side)) (omega (arith, side)) ∙ ap (λ (g : Grid). byte_of (colour g row col)) (sym same))
       ];
       others = λ j l. c.write_square.ensures.others j (inr (omega (arith, area, is.area))) ∙ is.others j (omega arith);

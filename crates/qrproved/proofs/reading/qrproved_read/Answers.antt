@@ -1,7 +1,6 @@
-use Rattle.std.proofs.Common.{ℕ, ◌*◌, ◌<◌, ◌≤◌, length, ap, subst, sym, ◌∙◌, inl, inr, arith}
+use Rattle.std.proofs.Common.{rules, ℕ, ◌*◌, ◌<◌, ◌≤◌, length, ap, subst, sym, ◌∙◌, inl, inr, arith}
 use Rattle.{qr_bits.specs.Parsing.Content, qr_matrix.specs.Grid.Grid, qr_symbol.specs.Reading.{IsReading, IsUnread}}
-use Rattle.qrproved.specs.{Modules.square_of_bytes, Steps.Status.read_status}
-use Rattle.qrproved.specs.Reading.{IsSide, IsUnreadAt, HasMoreBytes}
+use Rattle.qrproved.specs.{Modules.square_of_bytes, Steps.Status.read_status, Reading.{IsSide, IsUnreadAt, HasMoreBytes}}
 use Rattle.qrproved.proofs.lemmas.reading.ReadingLemmas.{TellsFaults, refused, read, side-status, room-status}
 use Rattle.qrproved.proofs.reading.qrproved_read.Goals as goal
 use Rattle.qrproved.proofs.reading.qrproved_read.Goals.{In-Err, In-Ok-read_symbol}
@@ -52,10 +51,7 @@ returns-in-Err-clause-segments c =
 -- ---- a square that is read
 
 found : (c : In-Ok-read_symbol) → IsReading (square_of_bytes c.args.side c.args.modules.now) c.in-Ok-read_symbol.parsed
-found c =
-    let same = c.side-side.ensures.value ∙ sym c.in-Some.ensures.2 in
-    let e = rw same at c.in-Ok.ensures in
-    subst (λ (g : Grid). IsReading g c.in-Ok-read_symbol.parsed) e c.in-Ok-read_symbol.ensures.read
+found c = search (rules, read)
 
 statuses : (c : In-Ok-read_symbol) (status : ℕ) → status < 8
     → TellsFaults (IsUnreadAt c.args.modules.now c.args.side) status

@@ -1,7 +1,6 @@
-use Rattle.std.proofs.Common.{◌≡◌, ℕ, ◌*◌, ◌<◌, List, length, false, sym, ap, subst, ◌∙◌, arith}
+use Rattle.std.proofs.Common.{rules, ◌≡◌, ℕ, ◌*◌, ◌<◌, List, length, false, sym, ap, subst, ◌∙◌, arith}
 use Rattle.{qr_layout.specs.Version.side_of, qr_bits.specs.{declared.modes.Mode.TheVariants.Kanji, Modes.may_use}}
-use Rattle.qr_symbol.specs.{declared.symbol.Symbol.Symbol, Series.{squares_of, IsSeries, NeedsParts}}
-use Rattle.qr_symbol.specs.Joining.{AreInterpreted}
+use Rattle.qr_symbol.specs.{declared.symbol.Symbol.Symbol, Series.{squares_of, IsSeries, NeedsParts}, Joining.AreInterpreted}
 use Rattle.qrproved.proofs.lemmas.encoding.EncodingLemmas.{refused-some}
 use Rattle.qrproved.specs.{declared.settings.Settings.Settings, Settings.{interpretation_of, level_of, rule_of}, Modules.HoldsSquares}
 use Rattle.qrproved.proofs.series.qrproved_encode_series.Goals as goal
@@ -29,7 +28,7 @@ returns-else-modules-len-clause-done c _ =
       joined = c.in-Ok.ensures.joined;
       interpreted = subst (λ (s : Settings). AreInterpreted s.interpretation (squares_of symbols)) e c.in-Ok.ensures.interpreted;
       shortest = subst (λ (s : Settings). may_use s.rule Kanji ≡ false → NeedsParts s.version s.level s.rule s.interpretation c.args.input.now (length symbols)) e c.in-Ok.ensures.shortest;
-      count = omega (arith, c.len-in-Ok.ensures, c.deref.ensures.len, ap length c.deref.ensures.value);
+      count = search rules;
       side = c.side-side.ensures.value ∙ ap (λ (s : Settings). side_of s.version) e;
       holds = subst (λ (ss : List Symbol). HoldsSquares c.side-side.result (squares_of ss) c.args.modules.now c.write_squares.new.modules) c.deref.ensures.value c.write_squares.ensures;
     }
@@ -41,7 +40,7 @@ returns-else-modules-len-clause-room c =
     let made = subst (λ (s : Settings). IsSeries s.version s.level s.rule s.interpretation c.args.input.now symbols) e c.in-Ok.ensures.series in
     let side : c.side-side.result ≡ side_of c.args.version = c.side-side.ensures.value ∙ ap (λ (s : Settings). side_of s.version) e in
     let area : c.area.result ≡ side_of c.args.version * side_of c.args.version = c.area.ensures ∙ ap (λ (n : ℕ). n * n) side in
-    let many : c.len.result ≡ length symbols = omega (arith, c.len.ensures, c.deref.ensures.len, ap length c.deref.ensures.value) in (
+    let many : c.len.result ≡ length symbols = search rules in (
       λ h. absurd (omega arith),
       λ w.
           let same = c.series_are_one.ensures c.args.input.now (level_of c.args.level) (rule_of c.args.rule) (interpretation_of c.args.interpretation) c.args.version w.4.symbols symbols w.4.made made in

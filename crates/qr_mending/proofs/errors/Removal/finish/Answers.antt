@@ -21,9 +21,7 @@ returns-then-len-lt2-clause-sum c = λ errors left.
     ]
 
 pub returns-then-location-codewords-clause-sum : goal.returns-then-location-codewords-clause-sum
-returns-then-location-codewords-clause-sum c = λ errors left.
-    let all = left.errors in
-    search (rules, leading-two, last-sum)
+returns-then-location-codewords-clause-sum c = search (rules, leading-two, last-sum)
 
 pub returns-else-location-codewords-clause-sum : goal.returns-else-location-codewords-clause-sum
 returns-else-location-codewords-clause-sum c = λ errors left.

@@ -1,10 +1,9 @@
-use Rattle.std.proofs.Common.{◌∷◌}
-use Rattle.qr_mending.proofs.lemmas.errors.RemovalLemmas.{left-next, next-none}
+use Rattle.qr_mending.proofs.lemmas.errors.{WeightLemmas.coefficient-head, RemovalLemmas.left-next}
+use Rattle.std.proofs.Common.{rules, ◌∷◌}
 use Rattle.qr_mending.proofs.errors.Removal.next_error.Goals as goal
 
 pub returns-then-self-from-ne0-clause-left : goal.returns-then-self-from-ne0-clause-left
 returns-then-self-from-ne0-clause-left c = λ first errors left.
     let now = c.prepare.ensures.left (first ∷ errors) left in
     left-next c.args.location first errors c.prepare.new.self now
-    (next-none c.args.location first errors c.prepare.new.self now c.prepare.ensures.first
-    (λ z. c.if-self-from-ne0.true (cc)))
+    (search (rules, coefficient-head))

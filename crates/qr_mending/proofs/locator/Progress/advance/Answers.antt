@@ -5,7 +5,7 @@ use Rattle.qr_mending.proofs.locator.Progress.advance.Goals as goal
 pub take_in-requires-clause-search : goal.take_in-requires-clause-search
 take_in-requires-clause-search c =
     let progress = c.prepare.ensures.progress c.args.t c.loop-i.invariant.progress in
-    rw c.as_slice.ensures.value (rw (c.prepare.ensures.taken, c.loop-i.invariant.taken) at progress.search)
+    search rules
 
 pub take_in-requires-clause-degree : goal.take_in-requires-clause-degree
 take_in-requires-clause-degree c =

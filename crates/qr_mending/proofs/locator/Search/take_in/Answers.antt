@@ -1,7 +1,5 @@
-use Rattle.std.proofs.Common.{rules, ◌≡◌, ◌+◌, ◌*◌, ◌-◌, drop, ap, sym, ◌∙◌, arith}
-use Rattle.std.proofs.lemmas.List.{take_rest, Elements.All-from_get_or}
+use Rattle.std.proofs.{Common.{rules, ◌≡◌, ◌+◌, ◌*◌, ◌-◌, ◌∙◌, arith}, lemmas.List.{take_rest, Elements.All-from_get_or}}
 use Rattle.qr_field.specs.Polynomial.{IsByte}
-use Rattle.qr_mending.specs.Steps.Polynomial.{discrepancy_of}
 use Rattle.qr_mending.proofs.lemmas.locator.SearchLemmas.{best-next, factor-some, few-bound}
 use Rattle.qr_mending.proofs.locator.Search.take_in.Goals as goal
 
@@ -9,8 +7,7 @@ pub add-requires-clause-some : goal.add-requires-clause-some
 add-requires-clause-some c = search (rules, factor-some)
 
 pub add-requires-2-clause-some : goal.add-requires-2-clause-some
-add-requires-2-clause-some c =
-    factor-some c.div-factor.result c.args.self.now.discrepancy c.dot-discrepancy.result (omega arith) c.div-factor.ensures c.if-discrepancy-eq0.false
+add-requires-2-clause-some c = search (rules, factor-some)
 
 pub returns-then-degree-i-clause-search : goal.returns-then-degree-i-clause-search
 returns-then-degree-i-clause-search c =
@@ -57,11 +54,11 @@ returns-clause-search c =
             sum = rw c.shifted-raised.ensures.terms at c.add-2.ensures.sum;
             monic = search rules;
           });
-      bytes = rw c.coefficients.ensures.value at c.dot-discrepancy.ensures.bytes;
+      bytes = search rules;
       some = omega arith;
       degrees = omega arith;
       before = λ j g. h.best.solved j (omega arith);
       last = λ j g.
           let index : j ≡ i - l = omega arith in
-          ap (λ k. discrepancy_of c.args.self.now.best (drop k s)) index ∙ sym discrepancy;
+          search rules;
     }
