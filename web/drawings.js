@@ -64,7 +64,8 @@ export function squaresInText(drawing) {
   const full = texts.map((text) => text + ' '.repeat(width + (isBlocks ? 0 : width % 2) - [...text].length));
   const rows = width === 0 ? [] : isBlocks ? rowsOfBlocks(full) : rowsOfPairs(full);
   const inverse = rows.map((row) => row.map((module) => (module === UNKNOWN ? UNKNOWN : 1 - module)));
-  // Of ways that are equally like, the one with more symbols: the gap of one symbol less might hold it by chance.
+  // Of several ways with the same likeness, the one with the most squares is taken: in a way with fewer squares,
+  // another symbol may be in a gap.
   const ways = [rows, inverse].flatMap((it) => cutsOf(boxOf(it)));
   return ways.sort((one, other) => likenessOfAll(other) - likenessOfAll(one) || other.length - one.length)[0] ?? [];
 }

@@ -402,7 +402,7 @@ async function showImage(file) {
   if (!file) return;
   let pixels;
   showSquares([]);
-  // A document of ours is parsed; others are read as images.
+  // An SVG document that the library has drawn is parsed; others are read as images.
   const exact = file.type === 'image/svg+xml' ? squaresOfDrawing(await file.text()) : null;
   if (exact) return showSquares(exact);
   try {
