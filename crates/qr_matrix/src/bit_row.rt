@@ -80,12 +80,13 @@ impl BitRow {
         requires { n ≤ 192 }
         ensures { (c : ℕ) → has result c ≡ nat_lt c n }
     {
-        let n = u32::from(n);
-        BitRow([
-            low_bits(n.min(64)),
-            low_bits(n.saturating_sub(64).min(64)),
-            low_bits(n.saturating_sub(128)),
-        ])
+        if n < 64 {
+            return BitRow::below_in(n, 1);
+        }
+        if n < 128 {
+            return BitRow::below_in(n, 2);
+        }
+        BitRow::below_in(n, 3)
     }
 
     /// Returns the row in which bit `c` is bit `c % 6` of `pattern`.
@@ -271,9 +272,15 @@ impl Rows for BitRow {
 
     ghost number = { λ count _. count };
 
+    // Where `words` is a constant, only one word has to be computed, because the other two are constants.
     #[inline(always)]
-    fn below_in(n: u8, _words: u8) -> BitRow {
-        BitRow::below(n)
+    fn below_in(n: u8, words: u8) -> BitRow {
+        let n = u32::from(n);
+        match words {
+            1 => BitRow([low_bits(n), 0, 0]),
+            2 => BitRow([u64::MAX, low_bits(n - 64), 0]),
+            _ => BitRow([u64::MAX, u64::MAX, low_bits(n - 128)]),
+        }
     }
 
     #[inline(always)]

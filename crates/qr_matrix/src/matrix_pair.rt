@@ -1,11 +1,11 @@
 //! Two squares with the same side. Their bit rows are stored side by side in vectors, so that one operation works on 64
 //! modules of each square.
 
-ghost use Rattle.std.specs.Prelude.{Bool, IfOk, List, false, if◌then◌else◌, nat_le, nat_lt, not, true, ℕ, ◌%◌, ◌&&◌, ◌+◌, ◌-◌, ◌/◌, ◌<◌, ◌==◌, ◌||◌, ◌≡◌, ◌≤◌};
+ghost use Rattle.std.specs.Prelude.{Bool, IfOk, List, false, if◌then◌else◌, nat_le, nat_lt, not, true, ℕ, ◌%◌, ◌&&◌, ◌*◌, ◌+◌, ◌-◌, ◌/◌, ◌<◌, ◌==◌, ◌||◌, ◌≡◌, ◌≤◌};
 ghost use Rattle.std.proofs.Common.{rules};
 ghost use Rattle.qr_matrix.specs.Grid.{IsSquare, colour, is_same, light, one_of, square, with_row};
 ghost use Rattle.qr_matrix.specs.BitRow.{has, has_bit};
-ghost use Rattle.qr_matrix.specs.Steps.{IsPair, lane};
+ghost use Rattle.qr_matrix.specs.Steps.{IsPair, NeedsWords, lane};
 
 use crate::bit_row::{BitRow, low_bits};
 use crate::matrix::Matrix;
@@ -103,6 +103,24 @@ impl RowPair {
         }
     }
 
+    // Replaces the first `words` words of each row by those of `bits`.
+    #[inline(always)]
+    pub(crate) fn put_words(&mut self, words: u8, bits: RowPair)
+        requires some { 1 ≤ words }
+        requires three { words ≤ 3 }
+        ensures { (second : Bool) (c : ℕ) → has (lane self.new second) c
+            ≡ (if nat_lt c (64 * words) then has (lane bits second) c else has (lane self.old second) c) }
+    {
+        match words {
+            1 => self.low = bits.low,
+            2 => {
+                self.low = bits.low;
+                self.middle = bits.middle;
+            }
+            _ => *self = bits,
+        }
+    }
+
     // Replaces the bits of word `number` at which `mask` has a 1: in the first row by the bits of `bits.0`, and in the
     // second row by those of `bits.1`.
     #[inline(always)]
@@ -150,15 +168,9 @@ impl Rows for RowPair {
 
     ghost number = { λ counts second. if second then counts.1 else counts.0 };
 
-    // Where `words` is a constant, only one word has to be computed, because the other two are constants.
     #[inline(always)]
     fn below_in(n: u8, words: u8) -> RowPair {
-        let n = u32::from(n);
-        let row = match words {
-            1 => BitRow([low_bits(n), 0, 0]),
-            2 => BitRow([u64::MAX, low_bits(n - 64), 0]),
-            _ => BitRow([u64::MAX, u64::MAX, low_bits(n - 128)]),
-        };
+        let row = BitRow::below_in(n, words);
         RowPair::of(row, row)
     }
 
@@ -273,6 +285,36 @@ impl MatrixPair {
         self.rows[usize::from(row)].put_bits(col, count, bits);
     }
 
+    #[inline(always)]
+    fn set_rows_masked_in(
+        &mut self,
+        first: u8,
+        plain: &Matrix,
+        within: &Matrix,
+        patterns: (u8, u8),
+        words: u8,
+    )
+        requires first_in { first < 12 }
+        requires plain_side { plain.now.side ≡ self.old.first.side }
+        requires within_side { within.now.side ≡ self.old.first.side }
+        requires patterns_in { (patterns.0 < 64) × (patterns.1 < 64) }
+        requires width { NeedsWords self.old.first.side words }
+        ensures { (second : Bool) → one_of self.new second ≡ square self.old.first.side
+            (λ r c. if r % 12 == first then (if colour within.now r c
+            && has_bit (if second then patterns.1 else patterns.0) (c % 6)
+            then not (colour plain.now r c) else colour plain.now r c) else colour (one_of self.old second) r c) }
+    {
+        let pattern = RowPair::of(BitRow::repeated(patterns.0), BitRow::repeated(patterns.1));
+        let side = usize::from(self.side);
+        let mut row = usize::from(first);
+        while row < side {
+            let (bits, region) = (plain.row_in(row, words), within.row_in(row, words));
+            let inverted = RowPair::of(region, region) & pattern;
+            self.rows[row].put_words(words, RowPair::of(bits, bits) ^ inverted);
+            row += 12;
+        }
+    }
+
     /// Copies every twelfth row of `plain`, from row `first` on, into both squares. The module in column c is inverted
     /// if `within` is dark at its place, and bit `c % 6` of the pattern is 1. The pattern is `patterns.0` for the first
     /// square, and `patterns.1` for the second. Bit 0 is the lowest bit.
@@ -293,14 +335,10 @@ impl MatrixPair {
             && has_bit (if second then patterns.1 else patterns.0) (c % 6)
             then not (colour plain.now r c) else colour plain.now r c) else colour (one_of self.old second) r c) }
     {
-        let pattern = RowPair::of(BitRow::repeated(patterns.0), BitRow::repeated(patterns.1));
-        let side = usize::from(self.side);
-        let mut row = usize::from(first);
-        while row < side {
-            let (bits, region) = (plain.bit_row(row), within.bit_row(row));
-            let inverted = RowPair::of(region, region) & pattern;
-            self.rows[row] = RowPair::of(bits, bits) ^ inverted;
-            row += 12;
+        match self.side.div_ceil(64) {
+            1 => self.set_rows_masked_in(first, plain, within, patterns, 1),
+            2 => self.set_rows_masked_in(first, plain, within, patterns, 2),
+            _ => self.set_rows_masked_in(first, plain, within, patterns, 3),
         }
     }
 }

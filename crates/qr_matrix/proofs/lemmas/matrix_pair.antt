@@ -4,3 +4,5 @@ pub mod PairLemmas
 pub mod NeighbourLemmas
 -- Rows with one pattern, which are twelve rows apart.
 pub mod TurnLemmas
+-- The first words of two bit rows, and what is put over them.
+pub mod WordsLemmas

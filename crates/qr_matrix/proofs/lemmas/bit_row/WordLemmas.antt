@@ -72,3 +72,7 @@ up-low b a h =
 -- a bit row is shifted up by one bit word by word, where the highest bit of each word moves into the word above it
 pub three-up : (a b c : ℕ) → a < 2 ^ 64 → b < 2 ^ 64 → c < 2 ^ 64 → three (a * 2 % 2 ^ 64) (bit_or (b * 2 % 2 ^ 64) (a / 2 ^ 63)) (bit_or (c * 2 % 2 ^ 64) (b / 2 ^ 63)) ≡ three a b c * 2 % 2 ^ 192
 three-up a b c ha hb hc = omega (arith, up-low)
+
+-- if x is 2 ^ n - 1, then the bit row whose low word is x, above which all bits are 0, has its n lowest bits set
+pub three-low : (n x : ℕ) → x ≡ 2 ^ n - 1 → three x 0 0 ≡ 2 ^ n - 1
+three-low n x e = omega arith
