@@ -308,7 +308,7 @@ impl MatrixPair {
         let side = usize::from(self.side);
         let mut row = usize::from(first);
         while row < side {
-            let (bits, region) = (plain.row_in(row, words), within.row_in(row, words));
+            let (bits, region) = (plain.bit_row(row), within.bit_row(row));
             let inverted = RowPair::of(region, region) & pattern;
             self.rows[row].put_words(words, RowPair::of(bits, bits) ^ inverted);
             row += 12;

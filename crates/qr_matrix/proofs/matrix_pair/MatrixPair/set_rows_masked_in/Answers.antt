@@ -32,8 +32,8 @@ loop-row-preserved c =
     let p = c.put_words.new.self in
     let e = side-of n first c.args.self.now c.self.view_is false in
     let here : row < length rows = omega (arith, i.long, c.from-side.ensures, c.loop-row-test.true) in
-    let bits = λ (s : Bool) (k : ℕ). both c.of-in-loop-row.result c.row_in-bits.result s c.of-in-loop-row.ensures.first c.of-in-loop-row.ensures.second k in
-    let region = λ (s : Bool) (k : ℕ). both c.of.result c.row_in-region.result s c.of.ensures.first c.of.ensures.second k in
+    let bits = λ (s : Bool) (k : ℕ). both c.of-in-loop-row.result c.bit_row-bits.result s c.of-in-loop-row.ensures.first c.of-in-loop-row.ensures.second k in
+    let region = λ (s : Bool) (k : ℕ). both c.of.result c.bit_row-region.result s c.of.ensures.first c.of.ensures.second k in
     let line : (s : Bool) (r k : ℕ) → dark_in (lanes (set rows row p) s) r k ≡ cond (eqb r row) (has (lane p s) k) (dark_in (lanes rows s) r k) = λ s r k.
     ap (λ z. dark_in z r k) (lanes-set rows row p s) ∙ line-set (lanes rows s) row row (lane p s) refl (omega (arith, lanes-long rows s)) r k in
     let f = λ (s : Bool) (r k : ℕ). cond (colour c.args.within.now r k && has_bit (cond s c.args.patterns.1 c.args.patterns.0) (k % 6)) (not (colour c.args.plain.now r k)) (colour c.args.plain.now r k) in
@@ -44,11 +44,11 @@ loop-row-preserved c =
       so_far = λ s r k l.
           let pattern = each s c.of-pattern.result c.repeated.result c.repeated-2.result c.args.patterns.0 c.args.patterns.1 k (c.of-pattern.ensures.first k) (c.of-pattern.ensures.second k) (c.repeated.ensures k (omega (arith, c.self.invariant.1))) (c.repeated-2.ensures k (omega (arith, c.self.invariant.1))) in
           line s r k ∙ (ap (λ z. cond (eqb r row) (has (lane p s) k) z) (i.so_far s r k l) ∙ passed-step c.args.first row r (has (lane p s) k) (f s r k) (dark_in (lanes first s) r k) i.turn (λ t.
-          masked-one n (64 * c.args.words) k (has (lane p s) k) _ (has (lane c.bitxor.result s) k) _ _ _ _ (omega (arith, c.requires.width.most)) l (c.put_words.ensures s k) (c.bitxor.ensures s k) (bits s k ∙ c.row_in-bits.ensures.colours false k)
-          (c.bitand-inverted.ensures s k ∙ (λ j. (region s k ∙ c.row_in-region.ensures.colours false k) j && pattern j)) ∙ ap (λ z. f s z k) (sym t)));
+          masked-one n (64 * c.args.words) k (has (lane p s) k) _ (has (lane c.bitxor.result s) k) _ _ _ _ (omega (arith, c.requires.width.most)) l (c.put_words.ensures s k) (c.bitxor.ensures s k) (bits s k ∙ c.bit_row-bits.ensures.colours k)
+          (c.bitand-inverted.ensures s k ∙ (λ j. (region s k ∙ c.bit_row-region.ensures.colours k) j && pattern j)) ∙ ap (λ z. f s z k) (sym t)));
       past = λ s. line-inside n row (lanes rows s) (lanes (set rows row p) s) (lane p s) (line s)
           (λ k l. unset k (64 * c.args.words) _ _ _ (c.put_words.ensures s k)
-          (masked-past _ _ _ _ _ (c.bitxor.ensures s k) (c.bitand-inverted.ensures s k) (bits s k ∙ c.row_in-bits.ensures.past false k (omega (arith, c.requires.plain_side))) (region s k ∙ c.row_in-region.ensures.past false k (omega (arith, c.requires.within_side))))
+          (masked-past _ _ _ _ _ (c.bitxor.ensures s k) (c.bitand-inverted.ensures s k) (bits s k ∙ c.bit_row-bits.ensures.past k (omega (arith, c.requires.plain_side))) (region s k ∙ c.bit_row-region.ensures.past k (omega (arith, c.requires.within_side))))
           (row-past n row row (lanes rows s) (lane c.index_mut.result.now s) refl (omega (arith, lanes-long rows s)) (i.past s) (lane-read rows row c.index_mut.result.now s here c.index_mut.ensures.value) k l))
           (i.past s);
     }
