@@ -36,16 +36,16 @@ abbrev pub IsOfNoUse : Grid → FormatCopy → ℕ → Grid → Type 0
 IsOfNoUse unknown copy v g = (l : Level) (mask : ℕ) → IsNearFormat unknown copy g l mask
     → (message changed : List ℕ) → HoldsDamaged unknown v l mask g message changed → ⊥
 
--- The cost by which a level and a mask that are near to the given copy are compared with others, if both copies
--- together cost `cost` with them. The square is read with the level and the mask for which it is the lowest. A higher
--- cost gives a higher one, and between equal costs the one for the first copy is lower [own]
+-- The number by which pairs of a level and a mask are compared. The pair is near to the given copy, and both copies
+-- together cost `cost` with it. The square is read with the pair that has the lowest number. A higher cost gives a
+-- higher number, and between equal costs the number for the first copy is lower [own]
 abbrev pub compared_cost : FormatCopy → ℕ → ℕ
 compared_cost First cost = 2 * cost
 compared_cost Second cost = 2 * cost + 1
 
 -- The square has to be read with the level `l` and the mask `mask`. They are near to a copy of the format information.
 -- Of all pairs of level and mask that are near to a copy, and with which all blocks can be mended, none has a lower
--- compared cost (ISO/IEC 18004:2015, 7.9.1, 12)
+-- number by `compared_cost` (ISO/IEC 18004:2015, 7.9.1, 12)
 pub record HasFormat (unknown : Grid) (v : ℕ) (g : Grid) (l : Level) (mask : ℕ) : Type 0 where
   pub copy : FormatCopy
   pub near : IsNearFormat unknown copy g l mask

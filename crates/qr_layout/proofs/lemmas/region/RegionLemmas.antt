@@ -1,5 +1,5 @@
 -- A module of the encoding region is inside the square, and not in column 6. There are small facts of tests, too.
-use Rattle.std.proofs.{Common.{◌≡◌, ℕ, ◌<◌, true, false, not, ◌||◌, ltb, arith}, lemmas.Bool.{and_parts, Decides.nat_tests}}
+use Rattle.std.proofs.{Common.{◌≡◌, ℕ, ◌<◌, true, not, ◌||◌, ltb, arith}, lemmas.Bool.{and_parts, Decides.nat_tests}}
 use Rattle.qr_layout.specs.{declared.region.Place.Place, Version.side_of}
 use Rattle.qr_layout.specs.Region.{is_corner, is_timing, is_version_information, is_alignment, is_in_region, InRegion}
 

@@ -1,4 +1,4 @@
-use Rattle.std.proofs.{Common.{rules, ◌≡◌, ◌+◌, ◌-◌, ◌<◌, ℕ, Bool, true, false, ◌&&◌, leb, ltb, inl, inr, arith}, lemmas.Bool.{cases_lt, Decides.nat_tests}}
+use Rattle.std.proofs.{Common.{rules, ◌≡◌, ◌+◌, ◌-◌, ◌<◌, ℕ, Bool, false, ◌&&◌, leb, ltb, inl, inr, arith}, lemmas.Bool.{cases_lt, Decides.nat_tests}}
 use Rattle.qr_matrix.{specs.BitRow.has_bit, proofs.lemmas.bit_row.SetLemmas.unset-above}
 use Rattle.qr_matrix.proofs.bit_row.BitRow.set_four.Goals as goal
 
