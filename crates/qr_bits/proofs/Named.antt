@@ -1,7 +1,7 @@
 -- The lemmas that attributes of functions name.
 use Rattle.std.proofs.{Common.{append-nil, append_assoc}, lemmas.List.{take_all, Sums.sum_by_more}}
-use Rattle.qr_bits.proofs.lemmas.{bits.BitLemmas.{byte-first, number-after, power-fits}, folding.FoldingLemmas.length-folded}
-use Rattle.qr_bits.proofs.lemmas.{laws.DataLemmas.length-stream, lower_bound.LeastLemmas.least-held, padding.PaddingLemmas.{pads-even, pads-none, pads-odd}}
+use Rattle.qr_bits.proofs.lemmas.{bits.BitLemmas.{byte-first, number-after, power-fits}, folding.length-folded}
+use Rattle.qr_bits.proofs.lemmas.{laws.DataLemmas.length-stream, lower_bound.least-held, padding.{pads-even, pads-none, pads-odd}}
 
 pub ruleset writing_bits = (byte-first, number-after, power-fits)
 

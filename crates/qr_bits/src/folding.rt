@@ -14,7 +14,7 @@ use std::alloc::{AllocError, Global};
 /// # Errors
 ///
 /// Returns an error if memory is refused.
-#[tactic(auto, using(crate::proofs::lemmas::folding::FoldingLemmas::capitals))]
+#[tactic(auto, using(crate::proofs::lemmas::folding::capitals))]
 pub fn fold(alloc: Global, input: &[u8], rule: Rule) -> Result<Vec<u8>, AllocError>
     ensures bytes { IfOk result (λ v. v.items ≡ folded rule input.now) }
     ensures len { IfOk result (λ v. vec_len v ≡ length input.now) }

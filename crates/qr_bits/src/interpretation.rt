@@ -296,7 +296,7 @@ pub(crate) fn interpreted(
 }
 
 // Returns FNC1 if it is among the items. Only ECI headers can come before it, so the search ends at the first segment.
-#[tactic(auto, unfolding(crate::specs::Interpretation::fnc1_of), using(crate::proofs::lemmas::interpretation::MeaningLemmas::fnc1_next, crate::proofs::lemmas::interpretation::MeaningLemmas::fnc1_end))]
+#[tactic(auto, unfolding(crate::specs::Interpretation::fnc1_of), using(crate::proofs::lemmas::interpretation::fnc1_next, crate::proofs::lemmas::interpretation::fnc1_end))]
 pub(crate) fn fnc1_of(items: &[Item]) -> Option<Fnc1>
     ensures { result ≡ fnc1_of items.now }
 {

@@ -73,7 +73,7 @@ pub fn streams_have_their_bits()
 
 /// If the modes of segments suit their bytes, and the bits of all segments fit a symbol, then the number of characters
 /// of each segment fits its character count indicator.
-#[tactic(auto, using(crate::proofs::lemmas::padding::CountLemmas::counts_fit))]
+#[tactic(auto, using(crate::proofs::lemmas::padding::counts_fit))]
 pub fn counts_fit_where_bits_fit()
     ensures { CountsFitWhereBitsFit }
 {}

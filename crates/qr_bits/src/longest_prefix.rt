@@ -26,7 +26,7 @@ use qr_layout::{Level, Version};
 use std::alloc::Global;
 
 // Whether the rule allows kanji mode (`kanji` is true exactly if it does) and the last two bytes are a kanji pair.
-#[tactic(auto, using(crate::proofs::lemmas::longest_prefix::MirrorLemmas::ends_at, crate::proofs::lemmas::longest_prefix::MirrorLemmas::ends_short))]
+#[tactic(auto, using(crate::proofs::lemmas::longest_prefix::ends_at, crate::proofs::lemmas::longest_prefix::ends_short))]
 #[inline(always)]
 fn ends_with_pair(kanji: bool, rule: Rule, bytes: &[u8]) -> bool
     requires { kanji ≡ may_use rule Mode.Kanji }

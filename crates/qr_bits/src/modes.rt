@@ -135,7 +135,7 @@ pub(crate) fn is_digit(byte: u8) -> bool
     byte.is_ascii_digit()
 }
 
-#[tactic(auto, unfolding(crate::specs::Modes::is_alphanumeric, crate::specs::Modes::characters), using(crate::proofs::lemmas::modes::CharacterLemmas::past_z))]
+#[tactic(auto, unfolding(crate::specs::Modes::is_alphanumeric, crate::specs::Modes::characters), using(crate::proofs::lemmas::modes::past_z))]
 pub(crate) fn is_alphanumeric(byte: u8) -> bool
     ensures { result ≡ is_alphanumeric byte }
 {
@@ -177,7 +177,7 @@ fn place_of(character: u8) -> Option<usize>
 // The number of 13 bits that is written for a kanji pair (ISO/IEC 18004:2015, 7.4.6). The subtraction closes the gap
 // between the two ranges of pairs, and leaves a low byte of at most BC. So it is enough to multiply the high byte by
 // C0, and not by 100: different pairs still have different numbers. (BC, C0 and 100 are hexadecimal.)
-#[tactic(auto, unfolding(crate::specs::Modes::kanji_value), using(crate::proofs::lemmas::modes::KanjiLemmas::least_pair))]
+#[tactic(auto, unfolding(crate::specs::Modes::kanji_value), using(crate::proofs::lemmas::modes::least_pair))]
 pub(crate) fn kanji_value(high: u8, low: u8) -> u16
     requires { IsTrue (is_kanji_pair high low) }
     ensures { result ≡ kanji_value high low }

@@ -1,2 +1,2 @@
 -- The lemmas that other crates use.
-pub use Rattle.qr_parsing.proofs.lemmas.laws.LawLemmas.{one-drawing, series-drawing, symbol-drawing}
+pub use Rattle.qr_parsing.proofs.lemmas.laws.{one-drawing, series-drawing, symbol-drawing}

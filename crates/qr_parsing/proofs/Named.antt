@@ -1,5 +1,5 @@
 -- The lemmas that the attributes of functions name.
-use Rattle.qr_parsing.proofs.lemmas.sheet.SheetLemmas.{small}
+use Rattle.qr_parsing.proofs.lemmas.sheet.{small}
 
 -- Indices of bytes.
 pub ruleset place_facts = (small)

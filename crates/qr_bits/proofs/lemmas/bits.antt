@@ -1,3 +1,2 @@
--- Lists of bits, bytes and numbers.
 pub mod BitLemmas
 pub mod WindowLemmas

@@ -1,8 +1,7 @@
-use Rattle.std.proofs.Common.{◌≡◌, ℕ, ◌+◌, ◌-◌, ◌<◌, ◌≤◌, suc, [], ◌∷◌, length, get_or, take, drop, refl, arith, rules}
-use Rattle.std.proofs.{Math.{Seq.{drop-length, drop-cons}, Nat.le_refl}, lemmas.List.{reverse-append, take_all, length-drop}}
-use Rattle.qr_bits.specs.{Modes.is_kanji_pair, Steps.RunState.begins_with_pair, Steps.BestModes.IsRow}
-use Rattle.qr_bits.specs.{Steps.RunState.is_gs1, declared.interpretation.Interpretation.Interpretation}
-use Rattle.qr_bits.proofs.lemmas.best_modes.TableLemmas.{some-interpretation, best-none, best-more, small-more, small-row, zeros}
+use Rattle.qr_bits.{proofs.lemmas.best_modes.TableLemmas.{some-interpretation, best-none, best-more, small-more, small-row, zeros}, specs.Modes.is_kanji_pair}
+use Rattle.qr_bits.specs.{Steps.{BestModes.IsRow, RunState.{begins_with_pair, is_gs1}}, declared.interpretation.Interpretation.Interpretation}
+use Rattle.std.proofs.{Common.{◌≡◌, ℕ, ◌+◌, ◌-◌, ◌<◌, ◌≤◌, suc, [], ◌∷◌, length, get_or, take, drop, refl, arith, rules}, Math.Nat.le_refl}
+use Rattle.std.proofs.{Math.Seq.{drop-length, drop-cons}, lemmas.List.{reverse-append, take_all, length-drop}}
 use Rattle.qr_bits.proofs.best_modes.best_rows.Goals as goal
 
 -- n rows are in the table, and k bytes have none yet
@@ -22,7 +21,7 @@ loop-i-init c = record {
 }
 
 pub row_of-modes-requires : goal.row_of-modes-requires
-row_of-modes-requires c = small-row c.loop-i.rest _ ((rows _ _ _ c.loop-i.invariant.len).2 c.requires.short) c.loop-i.invariant.small
+row_of-modes-requires c = small-row c.loop-i.rest _ (search (rules, rows)) c.loop-i.invariant.small
 
 pub loop-i-preserved : goal.loop-i-preserved
 loop-i-preserved c =

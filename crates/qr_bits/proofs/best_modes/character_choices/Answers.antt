@@ -1,12 +1,10 @@
-use Rattle.std.proofs.Common.{rules, ◌≡◌, true, false, sym, ◌∙◌}
-use Rattle.qr_bits.specs.declared.{modes.Mode.TheVariants.Alphanumeric, run_state.RunState.TheVariants.Start}
-use Rattle.qr_bits.specs.{Interpretation.is_doubled, Steps.BestModes.in_state, Steps.RunState.{byte_cost, state_after}}
+use Rattle.qr_bits.specs.{Interpretation.is_doubled, Steps.{BestModes.in_state, RunState.{byte_cost, state_after}}}
+use Rattle.{qr_bits.specs.declared.modes.Mode.TheVariants.Alphanumeric, std.proofs.Common.{rules, ◌≡◌, true, false, sym, ◌∙◌}}
 use Rattle.qr_bits.proofs.best_modes.character_choices.Goals as goal
 
 pub returns-then-doubled : goal.returns-then-doubled
 unfolding byte_cost state_after in_state
 returns-then-doubled c = λ i r x pair may doubled.
-    let h = c.args.first_choices.now in
     let two : is_doubled i x Alphanumeric ≡ true = sym doubled ∙ c.if-doubled.true in
     rw (two, ← may) (search rules)
 
@@ -15,4 +13,4 @@ unfolding byte_cost state_after in_state
 returns-else-doubled c = λ i r x pair may doubled.
     let h = c.args.first_choices.now in
     let one : is_doubled i x Alphanumeric ≡ false = sym doubled ∙ c.if-doubled.false in
-    rw (one, ← may) (c.choice_if-else-doubled.ensures (byte_cost h.version Start Alphanumeric) Alphanumeric h.alphanumeric_is, c.next_if-else-doubled.ensures, c.next_if-else-doubled-2.ensures)
+    rw (one, ← may) (search rules)

@@ -1,8 +1,8 @@
-use Rattle.std.proofs.{Common.◌≡◌, Common.◌+◌, Common.◌<◌, Common.◌≤◌, Common.ℕ, Common.min, Common.refl, Common.ap, Common.◌∙◌, Common.arith, Math.Nat.div-lt_iff_lt-mul, Math.Nat.min-eq_left, lemmas.Nat.pow_pos}
-use Rattle.qr_bits.specs.{declared.{modes.Mode.Mode, run_state.RunState.RunState}, Steps.BestModes.{in_state, bits_at, character_choice}}
-use Rattle.qr_bits.specs.{declared.modes.Mode.TheVariants.{Numeric, Byte, Kanji}, Steps.RunState.{state_after, byte_cost, may_begin, may_end, choice_number}}
-use Rattle.qr_bits.specs.declared.run_state.RunState.TheVariants.{Start, Digit1, Digit2, Digit3, Character1, Character2, InBytes, HalfPair, WholePair}
 use Rattle.qr_bits.proofs.lemmas.best_modes.ChoiceLemmas.{byte-used, character-less, half-choice, number-less, row-choice}
+use Rattle.qr_bits.specs.Steps.{BestModes.{in_state, bits_at, character_choice}, RunState.{state_after, byte_cost, may_begin, may_end, choice_number}}
+use Rattle.qr_bits.specs.declared.{modes.Mode.{Mode, TheVariants.{Numeric, Byte, Kanji}}, run_state.RunState.RunState}
+use Rattle.qr_bits.specs.declared.run_state.RunState.TheVariants.{Start, Digit1, Digit2, Digit3, Character1, Character2, InBytes, HalfPair, WholePair}
+use Rattle.std.proofs.{Common.{rules, ◌≡◌, ◌+◌, ◌<◌, ◌≤◌, ℕ, min, refl, ap, ◌∙◌, arith}, Math.Nat.{div-lt_iff_lt-mul, min-eq_left}, lemmas.Nat.pow_pos}
 use Rattle.qr_bits.proofs.best_modes.choices.Goals as goal
 
 under : (a b n : ℕ) → a ≤ b → min a (min b n) ≡ min a n
@@ -19,7 +19,7 @@ minima n a b k d c2 c1 b1 k1 h i j l = (
   swap c2 n _,
   swap c1 n _ ∙ ap (min n) (under c1 a _ i),
   swap b1 n _ ∙ ap (min n) (swap b1 a _ ∙ ap (min a) (under b1 b k j)),
-  swap k1 n _ ∙ ap (min n) (swap k1 a _ ∙ ap (min a) (swap k1 b k ∙ ap (min b) (min-eq_left l))),
+  swap k1 n _ ∙ ap (min n) (search (rules, swap, min-eq_left)),
 )
 
 pub returns-clause-row : goal.returns-clause-row
@@ -36,7 +36,6 @@ returns-clause-row c = λ i r x digit characters.
     let b : c.choice_if-bytes.result ≡ of Start Byte = rw (byte-used r) (c.choice_if-bytes.ensures _ Byte h.byte_is) in
     let d1 = rw digit at c.next_if-digit1.ensures in
     let b1 : c.next_if-in_bytes.result ≡ of InBytes Byte = rw (byte-used r) c.next_if-in_bytes.ensures in
-    let k1 = c.next_if-half_pair.ensures in
     let bk = rw (b, c.choice_if-pairs.ensures _ Kanji h.kanji_is) at c.min-others.ensures in
     let ab = rw (characters.0, bk) at c.min-no_digits.ensures in
     let nbk = rw (n, bk) at c.min-no_characters.ensures in
@@ -52,5 +51,5 @@ returns-clause-row c = λ i r x digit characters.
       | Character2 ↦ row-choice i v r Character2 x t rest _ _ (c.row_for.ensures.modes Character2) refl s ((rw (characters.2, start) at c.min-5.ensures) ∙ m.2)
       | InBytes ↦ row-choice i v r InBytes x t rest _ _ (c.row_for.ensures.modes InBytes) refl s ((rw (b1, start) at c.min-6.ensures) ∙ m.3)
       | HalfPair ↦ half-choice i v r x t _ _ _ (c.row_for.ensures.modes HalfPair) c.next_if-whole_pair.ensures
-      | WholePair ↦ row-choice i v r WholePair x t rest _ _ (c.row_for.ensures.modes WholePair) refl s ((rw (k1, start) at c.min-7.ensures) ∙ m.4)
+      | WholePair ↦ row-choice i v r WholePair x t rest _ _ (c.row_for.ensures.modes WholePair) refl s ((rw (c.next_if-half_pair.ensures, start) at c.min-7.ensures) ∙ m.4)
     ]

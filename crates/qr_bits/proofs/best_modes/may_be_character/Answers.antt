@@ -1,4 +1,4 @@
-use Rattle.std.proofs.{Common.{◌≡◌, ℕ, Bool, true, false, ◌&&◌, ◌==◌, sym, ◌∙◌, arith, rules}, lemmas.Bool.eqb-true}
+use Rattle.std.proofs.{Common.{◌≡◌, ℕ, Bool, true, false, ◌&&◌, ◌==◌, arith, rules}, lemmas.Bool.eqb-true}
 use Rattle.qr_bits.specs.declared.{interpretation.Interpretation.Interpretation, modes.Mode.TheVariants.Alphanumeric, modes.Rule.Rule}
 use Rattle.qr_bits.specs.{Interpretation.{character_for, separator}, Modes.{characters, is_alphanumeric, may_use}, Steps.RunState.{is_gs1, may_begin}}
 use Rattle.qr_bits.proofs.best_modes.may_be_character.Goals as goal
@@ -14,11 +14,7 @@ unfolding may_begin is_alphanumeric characters
 own i r x pair h = search (arith, eqb-true)
 
 pub returns-then-may_begin : goal.returns-then-may_begin
-returns-then-may_begin c = λ i pair g. sym (own i c.args.rule c.args.byte pair (sym (c.may_begin.ensures pair) ∙ c.if-may_begin.true))
+returns-then-may_begin c = search (rules, own)
 
 pub returns-then-byte-eq-SEPARATOR : goal.returns-then-byte-eq-SEPARATOR
-returns-then-byte-eq-SEPARATOR c = λ i pair g.
-    let r = c.args.rule in
-    let x = c.args.byte in
-    let none : may_begin r x pair Alphanumeric ≡ false = sym (c.may_begin.ensures pair) ∙ c.if-may_begin.false in
-    search (rules, character i r x pair none)
+returns-then-byte-eq-SEPARATOR c = search (rules, character)

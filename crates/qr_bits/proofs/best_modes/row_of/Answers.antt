@@ -1,5 +1,5 @@
 use Rattle.std.proofs.{lemmas.Bool.{ne_eqb, false≢true}, Common.{◌≡◌, true, false, ◌&&◌, sym, ◌∙◌, rules}, Math.Bool.and-false}
-use Rattle.qr_bits.specs.{declared.modes.Mode.TheVariants.Alphanumeric, Interpretation.character_for, Steps.RunState.may_begin, Steps.Segmentation.is_escaped}
+use Rattle.qr_bits.specs.{declared.modes.Mode.TheVariants.Alphanumeric, Steps.{RunState.may_begin, Segmentation.is_escaped}}
 use Rattle.qr_bits.proofs.lemmas.best_modes.ChoiceLemmas.{digit-written, own-character}
 use Rattle.qr_bits.proofs.best_modes.row_of.Goals as goal
 
@@ -9,7 +9,7 @@ returns-then-not-pair-clause-row c = λ i g.
     let x = c.args.byte in
     let digit = sym (c.may_begin-digit.ensures false) ∙ c.if-digit.true in
     let own = digit-written i r x false digit in
-    rw c.if-not-pair.true (c.choices.ensures.row i r x (sym digit) (c.character_choices-characters.ensures i r x false (sym own.1) (sym own.0)))
+    rw c.if-not-pair.true (c.choices.ensures.row i r x (sym digit) (search rules))
 
 pub returns-then-not-pair-clause-flag : goal.returns-then-not-pair-clause-flag
 unfolding may_begin
@@ -20,7 +20,7 @@ returns-then-pair-clause-row c = λ i g p.
     let r = c.args.rule in
     let x = c.args.byte in
     let t = c.args.pair in
-    let row = c.choices-row.ensures.row i r x (c.may_begin-digit.ensures t) (c.character_choices-characters-then-pair.ensures i r x t (c.may_be_character-may.ensures i t g) (c.is_doubled-doubled.ensures i g)) in
+    let row = c.choices-row.ensures.row i r x (c.may_begin-digit.ensures t) (search rules) in
     rw (c.flagged.ensures.modes p) (row p)
 
 pub returns-then-may_begin-clause-row : goal.returns-then-may_begin-clause-row
@@ -30,8 +30,7 @@ returns-then-may_begin-clause-row c = λ i g.
     let none : c.may_begin-digit.result ≡ false = search (rules, false≢true) in
     let escaped : (c.args.gs1 && is_escaped Alphanumeric x) ≡ false = search rules in
     let own = own-character i x (rw g at escaped) in
-    let may : true ≡ may_begin r (character_for i x Alphanumeric) false Alphanumeric = search rules in
-    rw c.if-pair.false (c.choices-then-may_begin.ensures.row i r x (sym none ∙ c.may_begin-digit.ensures false) (c.character_choices-characters-then-may_begin.ensures i r x false may (sym own.0)))
+    rw c.if-pair.false (c.choices-then-may_begin.ensures.row i r x (sym none ∙ c.may_begin-digit.ensures false) (c.character_choices-characters-then-may_begin.ensures i r x false (search rules) (sym own.0)))
 
 pub returns-else-may_begin-clause-row : goal.returns-else-may_begin-clause-row
 returns-else-may_begin-clause-row c = λ i g.
@@ -40,5 +39,4 @@ returns-else-may_begin-clause-row c = λ i g.
     let none : c.may_begin-digit.result ≡ false = search (rules, false≢true) in
     let escaped : (c.args.gs1 && is_escaped Alphanumeric x) ≡ false = search rules in
     let own = own-character i x (rw g at escaped) in
-    let may : false ≡ may_begin r (character_for i x Alphanumeric) false Alphanumeric = search rules in
-    rw c.if-pair.false (c.choices-else-may_begin.ensures.row i r x (sym none ∙ c.may_begin-digit.ensures false) (c.character_choices-characters-else-may_begin.ensures i r x false may (sym own.0)))
+    rw c.if-pair.false (c.choices-else-may_begin.ensures.row i r x (sym none ∙ c.may_begin-digit.ensures false) (c.character_choices-characters-else-may_begin.ensures i r x false (search rules) (sym own.0)))

@@ -13,7 +13,6 @@ loop-i-preserved c =
     let i = c.loop-i.i in
     let inv = c.loop-i.invariant in
     let bits = drop at (bits_of xs) in
-    let n = 256 * c.loop-i.high + c.byte_at-low.result in
     let next : at / 8 + (i + 1) ≡ at / 8 + i + 1 = omega arith in
     let place : ((at + 8 * i) / 8 ≡ at / 8 + i) × (at + 8 * i + 8 ≤ 8 * length xs) × ((at + 8 * i) % 8 + (8 - at % 8) ≡ 8) = search rules in
     search (rules, byte-window, drop-drop, bits_of, bytes_of-more, append_assoc)

@@ -1,5 +1,4 @@
-use Rattle.std.proofs.Common.{◌≡◌, ◌+◌, ◌/◌, ◌<◌, ◌++◌, drop, get_or}
-use Rattle.qr_bits.specs.{Bits.bits_of, Parsing.bytes_of}
+use Rattle.{qr_bits.specs.{Bits.bits_of, Parsing.bytes_of}, std.proofs.Common.{◌≡◌, ◌+◌, ◌/◌, ◌<◌, ◌++◌, drop, get_or}}
 use Rattle.qr_bits.proofs.bits.push_bytes_at.Given as goal
 
 -- the bytes so far are appended, and `high` is the first byte of the next two

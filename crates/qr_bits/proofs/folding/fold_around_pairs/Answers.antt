@@ -1,6 +1,5 @@
-use Rattle.std.proofs.{Common.{append_assoc, ◌<◌, append-nil, length, get_or, arith, rules}, lemmas.{Bool.{eqb-false, eqb-true}, List.take_rest}}
-use Rattle.qr_bits.specs.{Folding.folded_around_pairs, Steps.RunState.begins_with_pair}
-use Rattle.qr_bits.proofs.lemmas.folding.FoldingLemmas.{length-folded_around_pairs, uppercase}
+use Rattle.qr_bits.{proofs.lemmas.folding.{length-folded_around_pairs, uppercase}, specs.{Folding.folded_around_pairs, Steps.RunState.begins_with_pair}}
+use Rattle.std.proofs.{Common.{append_assoc, append-nil, get_or, arith, rules}, lemmas.{Bool.eqb-true, List.take_rest}}
 use Rattle.qr_bits.proofs.folding.fold_around_pairs.Goals as goal
 
 pub split_at-requires : goal.split_at-requires
@@ -15,7 +14,6 @@ pub loop-rest-preserved : goal.loop-rest-preserved
 unfolding folded_around_pairs begins_with_pair
 loop-rest-preserved c =
     let rest = c.loop-rest.rest.now in
-    let some : 0 < length rest = search (arith, eqb-false) in
     rw (c.in_ok-push.ensures.items, c.to_ascii_uppercase.ensures.value, uppercase (get_or rest 0 0), take_rest rest 1)
     (search (arith, append_assoc))
 

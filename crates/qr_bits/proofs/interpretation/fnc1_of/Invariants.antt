@@ -1,5 +1,4 @@
-use Rattle.std.proofs.Common.{◌≡◌, drop}
-use Rattle.qr_bits.specs.Interpretation.{fnc1_of}
+use Rattle.{qr_bits.specs.Interpretation.fnc1_of, std.proofs.Common.{◌≡◌, drop}}
 use Rattle.qr_bits.proofs.interpretation.fnc1_of.Given as goal
 
 -- the items so far are ECI headers

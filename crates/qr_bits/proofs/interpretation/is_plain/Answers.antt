@@ -1,7 +1,6 @@
-use Rattle.qr_bits.specs.{Interpretation.{meant_bytes, eci_changes}, declared.interpretation.Item.TheVariants.Data}
-use Rattle.std.proofs.{lemmas.List.drop_all, Common.{◌≡◌, ◌++◌, ◌+◌, ◌∷◌, take, drop, append_assoc, length-append, rules}}
-use Rattle.std.proofs.lemmas.{Bool.eqb-true, List.nil_from_length, List.take-append-drop}
-use Rattle.qr_bits.proofs.lemmas.interpretation.MeaningLemmas.{item-next}
+use Rattle.qr_bits.{proofs.lemmas.interpretation.item-next, specs.{Interpretation.{meant_bytes, eci_changes}, declared.interpretation.Item.TheVariants.Data}}
+use Rattle.std.proofs.{Common.{◌≡◌, ◌++◌, ◌+◌, ◌∷◌, take, drop, append_assoc, length-append, rules}, lemmas.Bool.eqb-true}
+use Rattle.std.proofs.lemmas.List.{drop_all, nil_from_length, take-append-drop}
 use Rattle.qr_bits.proofs.interpretation.is_plain.Goals as goal
 
 pub loop-item-preserved : goal.loop-item-preserved

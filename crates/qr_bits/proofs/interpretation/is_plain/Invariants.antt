@@ -1,5 +1,4 @@
-use Rattle.std.proofs.Common.{◌≡◌, ◌++◌, List, ℕ, drop, length, false}
-use Rattle.qr_bits.specs.Interpretation.{meant_bytes, eci_changes}
+use Rattle.{qr_bits.specs.Interpretation.{meant_bytes, eci_changes}, std.proofs.Common.{◌≡◌, ◌++◌, List, ℕ, drop, length, false}}
 use Rattle.qr_bits.proofs.interpretation.is_plain.Given as goal
 
 -- the items so far are segments, which took the characters `front`

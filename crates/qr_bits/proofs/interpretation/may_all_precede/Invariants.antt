@@ -1,5 +1,4 @@
-use Rattle.std.proofs.Common.{◌≡◌, ◌&&◌, drop}
-use Rattle.qr_bits.specs.Interpretation.{are_fields}
+use Rattle.{qr_bits.specs.Interpretation.are_fields, std.proofs.Common.{◌≡◌, ◌&&◌, drop}}
 use Rattle.qr_bits.proofs.interpretation.may_all_precede.Given as goal
 
 -- what the bytes so far have decided, and what the others decide

@@ -1,5 +1,4 @@
-use Rattle.qr_bits.specs.Interpretation.{meant_bytes, eci_changes}
-use Rattle.std.proofs.{lemmas.List.drop_all, Common.{rules, append-nil}}
+use Rattle.{qr_bits.specs.Interpretation.{meant_bytes, eci_changes}, std.proofs.{Common.{rules, append-nil}, lemmas.List.drop_all}}
 use Rattle.qr_bits.proofs.interpretation.meaning_of.Goals as goal
 
 pub returns-clause-bytes : goal.returns-clause-bytes

@@ -1,5 +1,4 @@
-use Rattle.std.proofs.Common.{◌≡◌, ◌++◌, drop, length, false}
-use Rattle.qr_bits.specs.Interpretation.{meant_bytes, eci_changes}
+use Rattle.{qr_bits.specs.Interpretation.{meant_bytes, eci_changes}, std.proofs.Common.{◌≡◌, ◌++◌, drop, length, false}}
 use Rattle.qr_bits.proofs.interpretation.meaning_of.Given as goal
 
 -- what the items so far stand for, and what the rest does, make the whole

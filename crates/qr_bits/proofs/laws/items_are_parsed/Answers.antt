@@ -1,5 +1,4 @@
-use Rattle.std.proofs.Common.{rules}
-use Rattle.qr_bits.proofs.lemmas.parsing.ItemLemmas.{items-again, items-said}
+use Rattle.{qr_bits.proofs.lemmas.parsing.ItemLemmas.{items-again, items-said}, std.proofs.Common.rules}
 use Rattle.qr_bits.proofs.laws.items_are_parsed.Goals as goal
 
 pub returns : goal.returns

@@ -2,7 +2,7 @@
 use Rattle.std.proofs.Common.{◌≡◌, ℕ, ◌+◌, ◌*◌, ◌/◌, ◌%◌, ◌<◌, ◌≤◌, Bool, true, false, ◌&&◌, min, refl, ◌∙◌, ⊎_elim, arith}
 use Rattle.std.proofs.lemmas.Bool.{cases_lt, cond_both, ne_eqb}
 use Rattle.qr_bits.specs.{declared.interpretation.Interpretation.{Interpretation, TheVariants.{Default, Gs1, Eci}}, Interpretation.{character_for, is_doubled}}
-use Rattle.qr_bits.proofs.lemmas.{interpretation.WrittenLemmas.{doubled-rank, single-byte}, modes.CharacterLemmas.digit-character}
+use Rattle.qr_bits.proofs.lemmas.{interpretation.{doubled-rank, single-byte}, modes.digit-character}
 use Rattle.qr_bits.specs.{declared.modes.{Mode.{Mode, TheVariants.{Numeric, Alphanumeric, Byte, Kanji}}, Rule.Rule}, Segmentation.rank, Modes.may_use}
 use Rattle.qr_bits.specs.declared.run_state.{PerState.PerState, RunState.{RunState, TheVariants.{Start, Character2, InBytes, HalfPair}}}
 use Rattle.qr_bits.specs.Steps.{BestModes.{bits_at, character_choice}, Segmentation.is_escaped}
@@ -22,8 +22,8 @@ taken-one : (may : Mode → Bool) (cost : Mode → ℕ) (m : Mode) (t : Bool) �
 taken-one may cost m t e h = grind arith
 
 taken-min : (may : Mode → Bool) (cost : Mode → ℕ) (a b : ℕ) → (a < 4294967295 → IsTaken may cost a) → (b < 4294967295 → IsTaken may cost b) → min a b < 4294967295 → IsTaken may cost (min a b)
-taken-min may cost a b f g h = ⊎_elim (λ (l : a < b). let e : min a b ≡ a = omega arith in rw e (f (omega arith)))
-    (λ (l : b ≤ a). let e : min a b ≡ b = omega arith in rw e (g (omega arith))) (cases_lt a b)
+taken-min may cost a b f g h = ⊎_elim (search arith)
+    (search arith) (cases_lt a b)
 
 taken-least : (m : Mode → Bool) (f : Mode → ℕ) → least_of m f < 4294967295 → IsTaken m f (least_of m f)
 taken-least m f =

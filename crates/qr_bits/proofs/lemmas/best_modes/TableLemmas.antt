@@ -6,7 +6,7 @@ use Rattle.qr_bits.specs.declared.{interpretation.Interpretation.{Interpretation
 use Rattle.qr_bits.specs.declared.run_state.RunState.TheVariants.{Start, Digit1, Digit2, Digit3, Character1, Character2, InBytes, HalfPair, WholePair}
 use Rattle.qr_bits.specs.Steps.RunState.{is_gs1, state_after, state_in, may_take_in, begins_with_pair, may_begin, may_take, may_end, allowed_in, cost_of, cost_of_all, ranked}
 use Rattle.qr_bits.specs.Steps.BestModes.{in_state, bits_at, mode_at, follow, follow_in, IsRow, IsSmall}
-use Rattle.qr_bits.proofs.lemmas.{run_state.{BestLemmas.{BestBelow, best-step}, AssignmentLemmas.may_end-after}, interpretation.WrittenLemmas.single-byte}
+use Rattle.qr_bits.proofs.lemmas.{run_state.{BestLemmas.BestBelow, AssignmentLemmas.may_end-after}, interpretation.single-byte}
 use Rattle.qr_bits.proofs.lemmas.best_modes.ChoiceLemmas.{byte-used, cost_in-bound, take-begin}
 
 -- data of GS1 have an interpretation, and other data too
@@ -44,9 +44,8 @@ pub best-more : (i : Interpretation) (v : ℕ) (r : Rule) (test : ℕ → ℕ �
     → BestBelow i v r test xs (λ p. follow_in i p xs rows) (bits_at rest)
     → IsRow i v r x (begins_with_pair r test (x ∷ xs)) rest row numbers
     → BestBelow i v r test (x ∷ xs) (λ p. follow_in i p (x ∷ xs) (row ∷ rows)) (bits_at numbers)
-unfolding follow_in
-best-more i v r test x xs rows row rest numbers below choice p ks h =
-    best-step i v r test p x xs _ (bits_at rest) _ _ below (choice p) (rest-after i r test p x xs (mode_at row p) (choice p).is_allowed)
+unfolding follow_in allowed_in cost_of_all
+best-more i v r test x xs rows row rest numbers below choice p ks h = search (arith, rest-after)
 
 -- a byte adds at most 33 bits to the bits of a rest
 pub small-more : (i : Interpretation) (v : ℕ) (r : Rule) (x : ℕ) (pair : Bool) (row : ℕ) (rest numbers : PerState) (n : ℕ)

@@ -1,5 +1,5 @@
 -- Up to 16 bits at any place are a part of three bytes, taken as one number.
-use Rattle.std.proofs.Common.{◌≡◌, ℕ, zero, suc, ◌+◌, ◌-◌, ◌*◌, ◌/◌, ◌%◌, ◌^◌, ◌<◌, ◌≤◌, Bool, List, [], ◌∷◌, ◌++◌, length, get_or, take, drop, refl, ap, arith, append_assoc}
+use Rattle.std.proofs.Common.{◌≡◌, ℕ, zero, suc, ◌+◌, ◌-◌, ◌*◌, ◌/◌, ◌%◌, ◌^◌, ◌<◌, ◌≤◌, Bool, List, [], ◌∷◌, ◌++◌, length, get_or, take, drop, refl, arith, append_assoc}
 use Rattle.std.proofs.lemmas.{List.{drop-drop, drop-append-le, take-append-le, get_or-drop, length-drop}, Nat.{pow-add, pow_pos, shr_split}}
 use Rattle.std.proofs.Math.Nat.{mod-lt, div-div-eq-div-mul}
 use Rattle.qr_bits.specs.{Parsing.bytes_of, Bits.{field, value, bits_of}}
@@ -40,8 +40,7 @@ window : (r w c n : ℕ) (rest : List Bool) → r + w + c ≡ 24 → value (take
 window r w c n rest e =
     let m = n / 2 ^ c in
     let whole : r + (w + c) ≡ 24 = omega arith in
-    let split : field 24 n ≡ field r (n / 2 ^ (w + c)) ++ (field w (m % 2 ^ w) ++ field c n) =
-    cc (ap (λ k. field k n) whole, field-split r (w + c) n, field-split w c n, field-low w m) in
+    let split : field 24 n ≡ field r (n / 2 ^ (w + c)) ++ (field w (m % 2 ^ w) ++ field c n) = search (arith, field-split, field-low) in
     search (arith, append_assoc, drop-field, read-field, mod-lt, pow_pos)
 
 -- the number of w bits from i on, of which c bits of three bytes are left
@@ -56,14 +55,14 @@ value-window bs i w c n inside e h k is =
     let t = three xs in
     let none : q + 0 ≡ q = omega arith in
     let same : (get_or xs 0 0 ≡ get_or bs q 0) × (get_or xs 1 0 ≡ get_or bs (q + 1) 0) × (get_or xs 2 0 ≡ get_or bs (q + 2) 0) =
-    (rw none at (get_or-drop {A = ℕ} q bs 0 0), get_or-drop q bs 1 0, get_or-drop q bs 2 0) in
+    search (arith, get_or-drop) in
     let first : bits_of xs ++ bits_of zeros ≡ field 24 n ++ bits_of t.0 =
     cc (bits_of-append xs zeros, three-bytes (get_or xs 0 0) (get_or xs 1 0) (get_or xs 2 0) t.0 (rw same.1 h) (rw same.2 k)) in
     let len : length (bits_of xs) ≡ 8 * length bs - 8 * q = omega (arith, length-bits_of xs, length-drop q bs) in
     let split : 8 * q + r ≡ i = omega arith in
     let whole : drop i (bits_of bs) ≡ drop r (bits_of xs) = cc (drop-drop r (8 * q) (bits_of bs), bits_of-drop q bs) in
     let padded : drop r (bits_of xs ++ bits_of zeros) ≡ drop r (bits_of xs) ++ bits_of zeros = drop-append-le r (bits_of xs) (bits_of zeros) (omega arith) in
-    let taken : take w (drop r (bits_of xs) ++ bits_of zeros) ≡ take w (drop r (bits_of xs)) = take-append-le w (drop r (bits_of xs)) (bits_of zeros) (omega (arith, length-drop r (bits_of xs))) in
+    let taken : take w (drop r (bits_of xs) ++ bits_of zeros) ≡ take w (drop r (bits_of xs)) = search (arith, take-append-le, bits_of, length-drop) in
     cc (window r w c n (bits_of t.0) e)
 
 -- eight bits lie in two bytes

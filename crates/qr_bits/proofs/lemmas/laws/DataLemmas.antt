@@ -1,14 +1,12 @@
 -- Data codewords: a stream that fits a symbol has one list of them, and a parse returns what they were made of.
+use Rattle.qr_bits.proofs.lemmas.{bits.BitLemmas.length-bits_of, interpretation.plain-meant, padding.{length-header_stream, length-interpretation_stream}}
+use Rattle.qr_bits.proofs.lemmas.{parsing.{ItemLemmas.parse-again, ValueLemmas.{bytes-again, bytes-takes}}, stream.WritingLemmas.length-segments_stream}
+use Rattle.qr_bits.specs.{Bits.bits_of, Header.header_bits, Interpretation.{interpretation_bits, items_in}}
+use Rattle.qr_bits.specs.{Padding.{capacity_of, terminated, filled, pads, padded, IsData}, Parsing.{content_of, plain_content, ends, parse}, Segmentation.bits}
+use Rattle.qr_bits.specs.{Stream.IsStream, declared.{interpretation.Interpretation.{Interpretation, TheVariants.Default}, segmentation.Segment.Segment}}
+use Rattle.{qr_bits.specs.declared.stream.Header.Header, qr_layout.specs.{Blocks.data_codewords_of, declared.level.Level.Level}}
 use Rattle.std.proofs.Common.{◌≡◌, ℕ, zero, suc, ◌+◌, ◌-◌, ◌*◌, ◌/◌, ◌%◌, ◌<◌, ◌≤◌, min, Bool, true, false, All, List, [], ◌++◌, length, replicate, Ok, Option, refl, ap, ⊎_elim, arith, append_assoc, length-append, append-nil}
-use Rattle.std.proofs.lemmas.{Bool.lt-ltb, Bool.cases_lt, Bool.or_right, List.length-replicate, List.drop_all}
-use Rattle.qr_layout.specs.{declared.level.Level.Level, Blocks.data_codewords_of}
-use Rattle.qr_bits.specs.{declared.{segmentation.Segment.Segment, stream.Header.Header}, Parsing.{content_of, plain_content, ends, parse}}
-use Rattle.qr_bits.specs.{Bits.bits_of, Segmentation.bits, Header.header_bits, Stream.IsStream, Interpretation.{interpretation_bits, items_in}}
-use Rattle.qr_bits.specs.declared.interpretation.Interpretation.{Interpretation, TheVariants.Default}
-use Rattle.qr_bits.proofs.lemmas.{interpretation.MeaningLemmas.plain-meant, parsing.ValueLemmas.{bytes-again, bytes-takes}}
-use Rattle.qr_bits.specs.Padding.{capacity_of, terminated, filled, pads, padded, IsData}
-use Rattle.qr_bits.proofs.lemmas.{bits.BitLemmas.length-bits_of, padding.PaddingLemmas.{length-header_stream, length-interpretation_stream}}
-use Rattle.qr_bits.proofs.lemmas.{stream.WritingLemmas.length-segments_stream, parsing.ItemLemmas.parse-again}
+use Rattle.std.proofs.lemmas.{Bool.{lt-ltb, cases_lt, or_right}, List.{length-replicate, drop_all}}
 
 -- The length of a stream is the number of bits of its header and its segments.
 pub length-stream : (v : ℕ) (xs : List ℕ) (segs : List Segment) (h : Option Header) (i : Interpretation) (stream : List Bool) → IsStream v xs segs h i stream → length stream ≡ header_bits h + interpretation_bits i + bits v segs

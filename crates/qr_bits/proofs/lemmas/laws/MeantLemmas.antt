@@ -6,7 +6,7 @@ use Rattle.qr_bits.specs.Interpretation.{plain, items_in, ecis_in, fnc1_in, fnc1
 use Rattle.qr_bits.specs.{Segmentation.IsLeastSegmentation, Steps.Segmentation.written_in, Parsing.content_of}
 use Rattle.qr_bits.proofs.lemmas.{segmentation.CoverLemmas.covers-suits, parsing.FieldLemmas.fields_again}
 use Rattle.qr_bits.proofs.lemmas.segmentation.{BackLemmas.sum_by-runs_of, BytesOnlyLemmas.assignment-length, RunLemmas.{runs-written, segments_of}}
-use Rattle.qr_bits.proofs.lemmas.interpretation.{MeaningLemmas.{meant-plain, ecis-plain}, WrittenLemmas.{fields-drop, fields-take}}
+use Rattle.qr_bits.proofs.lemmas.interpretation.{meant-plain, ecis-plain, fields-drop, fields-take}
 
 fnc1-plain : (segs : List Segment) → fnc1_of (plain segs) ≡ None
 unfolding fnc1_of
@@ -30,8 +30,7 @@ segments-meant : (segs : List Segment) (xs : List ℕ) → are_fields xs ≡ tru
 unfolding meant_bytes written_in segments_of
 segments-meant [] xs h len = sym (nil_from_length xs (omega arith))
 segments-meant (s ∷ ss) xs h len =
-    let later = segments-meant ss (drop s.len xs) (fields-drop s.len xs h) (omega (arith, length-drop s.len xs, sum_by-cons (λ (t : Segment). t.len) s ss)) in
-    search (arith, take-front, drop-front, fields-take, take-append-drop, fields_again)
+    search (arith, take-front, drop-front, fields-take, take-append-drop, fields_again, segments-meant ss (drop s.len xs) (fields-drop s.len xs h) (omega (arith, length-drop s.len xs, sum_by-cons (λ (t : Segment). t.len) s ss)))
 
 -- The characters of the least segmentation stand for the input.
 pub least-meant : (i : Interpretation) (v : ℕ) (r : Rule) (xs ys : List ℕ) (segs : List Segment) (h : Option Header) → MayWrite i xs → IsLeastSegmentation i v r xs ys segs

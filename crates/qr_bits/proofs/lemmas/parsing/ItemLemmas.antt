@@ -1,18 +1,17 @@
 -- A parse reads back every stream of items and every stream of segments, and what it reads is such a stream.
-use Rattle.std.proofs.Common.{◌≡◌, ℕ, ◌<◌, ◌≤◌, Bool, true, false, ◌==◌, nat_le, nat_lt, All, List, [], ◌∷◌, ◌++◌, length, take, drop, Ok, refl, ⊎_elim, arith, lit<, append_assoc, subst, inl, zero, suc, length-append}
-use Rattle.std.proofs.{lemmas.{Bool.{le-ltb, lt-ltb, ltb-true, cases_Bool, eqb-true, and_parts}, List.{length-take-le, take-append-drop}}, Common.Option}
-use Rattle.std.proofs.{lemmas.List.Elements.{All-nil, All-append, All-take, All-drop}, Math.Seq.{take-append_seam, drop-append_seam}}
-use Rattle.qr_bits.specs.declared.interpretation.{Designator.Designator, Item.Item, Item.TheVariants.{Data, Eci, Fnc1First, Fnc1Second}}
-use Rattle.qr_bits.specs.{declared.fault.ParseFault.TheVariants.BadValue, Bits.{field, value}, Interpretation.{is_application_indicator, may_follow}}
-use Rattle.qr_bits.specs.{Stream.{AreItems, DesignatorFits, designator_of, items_stream}, declared.{segmentation.Segment.Segment, stream.Header.Header}}
-use Rattle.qr_bits.specs.Parsing.{leading_number, application_at, designator_at, ends, item_at, items_at, items_of}
-use Rattle.qr_bits.proofs.lemmas.{stream.StreamLemmas.{drop-field, field-read, read-field}, interpretation.MeaningLemmas.{meant-plain, plain-meant}}
-use Rattle.qr_bits.proofs.lemmas.parsing.{ParsingLemmas.{bind-ok, guard-ok, same-ok, ended-empty, not_ended, item-shorter, items-end, items-step}, StreamReadingLemmas.{IsSegment, segment-takes, item-again, number-again, number-takes, opens, other-opens}}
-use Rattle.qr_bits.specs.{declared.interpretation.Interpretation.Interpretation, Stream.{segments_stream, Suits, CountsFit, IsStream}}
+use Rattle.qr_bits.proofs.lemmas.interpretation.{meant-plain, plain-meant}
+use Rattle.qr_bits.proofs.lemmas.parsing.ParsingLemmas.{bind-ok, guard-ok, same-ok, ended-empty, not_ended, item-shorter, items-end, items-step}
+use Rattle.qr_bits.proofs.lemmas.parsing.StreamReadingLemmas.{IsSegment, segment-takes, item-again, number-again, number-takes, opens, other-opens, first-again, first-takes, marked-begins}
+use Rattle.qr_bits.{proofs.lemmas.stream.StreamLemmas.{drop-field, field-read, read-field}, specs.Bits.{field, value}}
+use Rattle.qr_bits.specs.Interpretation.{is_application_indicator, may_follow, plain, designator, interpretation_stream, InterpretationFits, items_in}
+use Rattle.qr_bits.specs.Parsing.{leading_number, application_at, designator_at, ends, item_at, items_at, items_of, first_header, content_of, plain_content, parse}
+use Rattle.qr_bits.specs.Stream.{AreItems, DesignatorFits, designator_of, items_stream, segments_stream, Suits, CountsFit, IsStream}
+use Rattle.qr_bits.specs.declared.{fault.ParseFault.TheVariants.BadValue, interpretation.{Designator.Designator, Interpretation.Interpretation, Item.Item}}
+use Rattle.qr_bits.specs.declared.{interpretation.Item.TheVariants.{Data, Eci, Fnc1First, Fnc1Second}, segmentation.Segment.Segment, stream.Header.Header}
+use Rattle.std.proofs.Common.{◌≡◌, ℕ, ◌<◌, ◌≤◌, Bool, true, false, ◌==◌, nat_le, nat_lt, All, List, [], ◌∷◌, ◌++◌, length, take, drop, Ok, refl, ⊎_elim, arith, lit<, append_assoc, subst, inl, zero, suc, length-append, Option}
+use Rattle.std.proofs.{Math.Seq.{take-append_seam, drop-append_seam}, lemmas.Bool.{le-ltb, lt-ltb, ltb-true, cases_Bool, eqb-true, and_parts}}
+use Rattle.std.proofs.lemmas.List.{length-take-le, take-append-drop, Elements.{All-nil, All-append, All-take, All-drop}}
 use Rattle.qr_bits.specs.declared.interpretation.Interpretation.TheVariants as written
-use Rattle.qr_bits.specs.Interpretation.{plain, designator, interpretation_stream, InterpretationFits, items_in}
-use Rattle.qr_bits.specs.Parsing.{first_header, content_of, plain_content, parse}
-use Rattle.qr_bits.proofs.lemmas.parsing.StreamReadingLemmas.{first-again, first-takes, marked-begins}
 
 -- a designator is read back in as many codewords
 pub number-back : (d : Designator) (rest : List Bool) → DesignatorFits d → designator_at (designator_of d.codewords d.number ++ rest) ≡ Ok (d, rest)

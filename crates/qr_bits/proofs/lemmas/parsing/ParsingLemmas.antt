@@ -2,7 +2,7 @@
 use Rattle.std.proofs.lemmas.{List.{append-nil, append_assoc, length-drop}, Bool.{lt-ltb, le-ltb, ltb-false, or_parts, or_left, and_parts, cases_Bool}}
 use Rattle.qr_bits.specs.{Steps.Parsing.IsFaultOf, Interpretation.may_follow, declared.fault.ParseFault.TheVariants.Memory, Bits.value}
 use Rattle.std.proofs.Common.{◌≡◌, ℕ, zero, suc, ◌+◌, ◌≤◌, Bool, true, false, cond, List, [], ◌∷◌, ◌++◌, length, take, drop, Result, Ok, Err, refl, ⊎_elim, arith}
-use Rattle.qr_bits.specs.declared.{segmentation.Segment.Segment, interpretation.{Designator.Designator, Item.Item}, fault.ParseFault.ParseFault}
+use Rattle.qr_bits.specs.declared.{interpretation.{Designator.Designator, Item.Item}, fault.ParseFault.ParseFault}
 use Rattle.qr_bits.specs.Parsing.{◌>>=◌, IsResultOf, ends, leading_number, payload_at, segment_at, designator_at, application_at, item_at, items_at, items_of, begins_header, header_at}
 use borrow.Author.Tests.{leb-true}
 
@@ -25,11 +25,6 @@ ok a = Ok a
 -- results that are equal contain equal values
 pub same-ok : {A : Type 0} (a b : A) → ok a ≡ ok b → a ≡ b
 same-ok a b h = cc
-
--- a segment has at least the four bits of its indicator
-pub segment-shorter : (v : ℕ) (bits : List Bool) (s : Segment × List ℕ × List Bool) → 4 ≤ length bits → segment_at v bits ≡ Ok s → length s.2 + 4 ≤ length bits
-unfolding segment_at payload_at
-segment-shorter v bits s four h = search (arith, bind-ok, same-ok, number-shorter, length-drop, guard-ok)
 
 -- if the data does not end here, there are four bits
 pub not_ended : (bits : List Bool) → ends bits ≡ false → 4 ≤ length bits
@@ -55,9 +50,8 @@ application-shorter bits a h = search (arith, bind-ok, number-shorter, same-ok)
 
 -- an item has at least the four bits of its indicator
 pub item-shorter : (v : ℕ) (may : Bool) (bits : List Bool) (i : Item × List ℕ × List Bool) → 4 ≤ length bits → item_at v may bits ≡ Ok i → length i.2 + 4 ≤ length bits
-unfolding item_at
-item-shorter v may bits i four h =
-    search (arith, length-drop, bind-ok, designator-shorter, same-ok, application-shorter, segment-shorter)
+unfolding item_at segment_at payload_at
+item-shorter v may bits i four h = search (arith, length-drop, bind-ok, designator-shorter, same-ok, application-shorter, number-shorter, guard-ok)
 
 -- an item, and then the rest
 abbrev pub step : Bool → Result (Item × List ℕ × List Bool) ParseFault → (Bool → List Bool → Result (List Item × List ℕ) ParseFault) → Result (List Item × List ℕ) ParseFault

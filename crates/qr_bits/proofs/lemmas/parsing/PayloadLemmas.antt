@@ -1,10 +1,9 @@
 -- The data of a segment is read group by group.
+use Rattle.qr_bits.{proofs.lemmas.{bits.BitLemmas.value-below, stream.WritingLemmas.three-more}, specs.{Bits.value, Modes.payload_bits}}
+use Rattle.qr_bits.specs.{Parsing.{◌>>=◌, digit, digits_of, character, characters_of}, Steps.Parsing.{IsFaultOf, prepend_read}}
+use Rattle.qr_bits.specs.declared.{fault.ParseFault.{ParseFault, TheVariants.BadValue}, modes.Mode.TheVariants.{Numeric, Alphanumeric}}
 use Rattle.std.proofs.Common.{◌≡◌, ℕ, suc, ◌+◌, ◌/◌, ◌%◌, ◌^◌, ◌<◌, ◌≤◌, Bool, List, ◌∷◌, ◌++◌, length, take, drop, Result, Ok, Err, inr, sym, ap, ◌∙◌, append_assoc, arith}
-use Rattle.std.proofs.lemmas.{Bool.lt-ltb, Bool.le-ltb, List.length-take, List.length-drop, List.drop-drop}
-use Rattle.{std.proofs.Math.Nat.pow-le-pow_right, qr_bits.specs.declared.modes.Mode.TheVariants.{Numeric, Alphanumeric}}
-use Rattle.qr_bits.specs.{declared.fault.ParseFault.{ParseFault, TheVariants.BadValue}, Bits.value, Modes.payload_bits, Steps.Parsing.{IsFaultOf, prepend_read}}
-use Rattle.qr_bits.specs.Parsing.{◌>>=◌, digit, digits_of, character, characters_of}
-use Rattle.qr_bits.proofs.lemmas.{bits.BitLemmas.value-below, stream.WritingLemmas.three-more}
+use Rattle.std.proofs.{Math.Nat.pow-le-pow_right, lemmas.{Bool.{lt-ltb, le-ltb}, List.{length-take, length-drop, drop-drop}}}
 
 -- bits make a number below the power of their width
 pub value-take-below : (w : ℕ) (bs : List Bool) → value (take w bs) < 2 ^ w

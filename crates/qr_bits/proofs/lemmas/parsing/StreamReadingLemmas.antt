@@ -70,7 +70,7 @@ segment-from : (v : ℕ) (m : Mode) (bits : List Bool) (n : ℕ × List Bool) (p
     → IsSegment v bits (record { mode = m; len = byte_count m n.0 }) p.0 p.1
 unfolding segment_stream
 segment-from v m bits n p four e number said =
-    let head = field-read 4 bits four in search (arith, append_assoc, take-append-drop)
+    search (arith, append_assoc, take-append-drop, field-read 4 bits four)
 
 -- if a segment is read, its stream comes first in the bits that were read
 pub segment-takes : (v : ℕ) (bits : List Bool) (s : Segment × List ℕ × List Bool) → 4 ≤ length bits → segment_at v bits ≡ Ok s → IsSegment v bits s.0 s.1 s.2
@@ -98,16 +98,14 @@ item-again v may m xs rest bytes suited fits = item-segment v may _ _ (search (a
 starts : (rest : List Bool) → begins_header (field 4 header_indicator ++ rest) ≡ true
 unfolding begins_header
 starts rest =
-    let there : 4 ≤ length (field 4 header_indicator ++ rest) = search (arith, length-append, length-field) in
-    rw (le-leb 4 (length (field 4 header_indicator ++ rest)) there, read-field 4 header_indicator rest (lit< tt)) refl
+    rw (le-leb 4 (length (field 4 header_indicator ++ rest)) (search (arith, length-append, length-field)), read-field 4 header_indicator rest (lit< tt)) refl
 
 -- if bits begin with the mode indicator of a header, they are its four bits and the others
 started : (bits : List Bool) → begins_header bits ≡ true → bits ≡ field 4 header_indicator ++ drop 4 bits
 unfolding begins_header
 started bits h =
     let p = and_parts (nat_le 4 (length bits)) (value (take 4 bits) == 3) h in
-    let four : 4 ≤ length bits = leb-true 4 (length bits) p.0 in
-    cc (eqb-true _ 3 p.1, field-read 4 bits four, take-append-drop 4 bits)
+    cc (eqb-true _ 3 p.1, field-read 4 bits (leb-true 4 (length bits) p.0), take-append-drop 4 bits)
 
 -- 16 bits at the beginning are three numbers, of 4, 4 and 8 bits
 header-parts : (bits : List Bool) → 16 ≤ length bits
@@ -115,8 +113,7 @@ header-parts : (bits : List Bool) → 16 ≤ length bits
 header-parts bits long =
     let a = field-read 4 bits (omega arith) in
     let b = field-read 4 (drop 4 bits) (omega (arith, length-drop 4 bits)) in
-    let c = field-read 8 (drop 8 bits) (omega (arith, length-drop 8 bits)) in
-    search (arith, take-append-drop 8 (drop 8 bits))
+    search (arith, take-append-drop 8 (drop 8 bits), field-read 8 (drop 8 bits) (omega (arith, length-drop 8 bits)))
 
 -- the stream of a header, with any bits after it, is read as this header
 header-again : (h : Header) (rest : List Bool) → HeaderFits (Some h) → first_header (header_stream (Some h) ++ rest) ≡ Ok (Some h, rest)
@@ -133,9 +130,8 @@ header-again h rest all_fit =
     let after_p : drop 4 behind ≡ l ++ (q ++ rest) = drop-field 4 h.position (l ++ (q ++ rest)) in
     let after_l : drop 8 behind ≡ q ++ rest = cc (drop-drop 4 4 behind, drop-field 4 h.last (q ++ rest)) in
     let after_q : drop 16 behind ≡ rest = cc (drop-drop 8 8 behind, drop-field 8 h.parity rest) in
-    let c = read-field 8 h.parity rest fits.2 in
     let d = drop-field 4 header_indicator behind in
-    search (arith, starts, header-whole, read-field 4 h.position (l ++ (q ++ rest)) fits.0, read-field 4 h.last (q ++ rest) fits.1)
+    search (arith, starts, header-whole, read-field 4 h.position (l ++ (q ++ rest)) fits.0, read-field 4 h.last (q ++ rest) fits.1, read-field 8 h.parity rest fits.2)
 
 none-begins : (v : ℕ) (xs : List ℕ) (segs : List Segment) (tail : List Bool) → ends tail ≡ true → begins_header (segments_stream v xs segs ++ tail) ≡ false
 unfolding begins_header segments_stream ends
@@ -170,15 +166,13 @@ fits-of h a b d = search arith
 header-takes : (bits : List Bool) (r : Header × List Bool) → header_at bits ≡ Ok r → HeaderFits (Some r.0) × (bits ≡ (field 4 r.0.position ++ (field 4 r.0.last ++ field 8 r.0.parity)) ++ r.1)
 unfolding header_at
 header-takes bits r h =
-    let long : 16 ≤ length bits = ltb-false _ _ (guard-ok _ _ _ r h).0 in
     let P : Header × List Bool → Type 0 = λ t. HeaderFits (Some t.0) × (bits ≡ (field 4 t.0.position ++ (field 4 t.0.last ++ field 8 t.0.parity)) ++ t.1) in
     subst P (search (arith, same-ok))
-    (fits-of _ (value-take-below 4 bits) (value-take-below 4 (drop 4 bits)) (value-take-below 8 (drop 8 bits)), header-parts bits long)
+    (fits-of _ (value-take-below 4 bits) (value-take-below 4 (drop 4 bits)) (value-take-below 8 (drop 8 bits)), header-parts bits (ltb-false _ _ (guard-ok _ _ _ r h).0))
 
 -- if a header is read, or none, its stream comes first in the bits that were read
 pub first-takes : (bits : List Bool) (r : Option Header × List Bool) → first_header bits ≡ Ok r → HeaderFits r.0 × (bits ≡ header_stream r.0 ++ r.1)
 unfolding first_header header_stream
 first-takes bits r h = ⊎_elim (λ (e : begins_header bits ≡ true).
     let q = bind-ok (header_at (drop 4 bits)) _ r (rw e at h) in
-    let w = header-takes (drop 4 bits) q.0 q.1 in
-    search (arith, same-ok, append_assoc, started)) (search (arith, same-ok)) (cases_Bool (begins_header bits))
+    search (arith, same-ok, append_assoc, started, header-takes (drop 4 bits) q.0 q.1)) (search (arith, same-ok)) (cases_Bool (begins_header bits))

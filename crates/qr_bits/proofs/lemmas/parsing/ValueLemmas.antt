@@ -4,7 +4,7 @@ use Rattle.std.{proofs.lemmas.{Bool.{lt-ltb, ltb-true, and_parts}, List.{length-
 use Rattle.qr_bits.specs.{declared.modes.Mode.{Mode, TheVariants.{Numeric, Alphanumeric, Byte, Kanji}}, Stream.{character_bits, payload}}
 use Rattle.qr_bits.specs.{Bits.value, Bits.bits_of, Parsing.characters_of, Parsing.bytes_of, Parsing.values_of}
 use Rattle.qr_bits.specs.Modes.{character_count, is_alphanumeric, byte_count, payload_bits, suits, character_value}
-use Rattle.qr_bits.proofs.lemmas.modes.{KanjiLemmas.{pairs-again, pairs-takes}, CharacterLemmas.{character-found, character-again, character-taken}}
+use Rattle.qr_bits.proofs.lemmas.modes.{pairs-again, pairs-takes, character-found, character-again, character-taken}
 use Rattle.qr_bits.proofs.lemmas.parsing.{PayloadLemmas.value-take-below, ParsingLemmas.bind-ok, ParsingLemmas.same-ok}
 use Rattle.qr_bits.proofs.lemmas.stream.StreamLemmas.{more-written, drop-field, read-field, field-read, digits-again, digits-takes, are-digits, chosen-ok, IsWritten}
 
@@ -14,8 +14,7 @@ unfolding characters_of character_bits
 characters-again [] rest h = refl
 characters-again (a ∷ []) rest h =
     let small = character-found a ((and_parts (is_alphanumeric a) true h).0) in
-    let r = read-field 6 (character_value a) rest (omega arith) in
-    search (arith, lt-ltb, character-again)
+    search (arith, lt-ltb, character-again, read-field 6 (character_value a) rest (omega arith))
 characters-again (a ∷ b ∷ xs) rest h =
     let p = and_parts (is_alphanumeric a) _ h in
     let q = and_parts (is_alphanumeric b) _ p.1 in
@@ -24,8 +23,7 @@ characters-again (a ∷ b ∷ xs) rest h =
     let g = 45 * character_value a + character_value b in
     let first : g / 45 ≡ character_value a = omega arith in
     let second : g % 45 ≡ character_value b = omega arith in
-    let r = read-field 11 g (character_bits xs ++ rest) (omega arith) in
-    search (arith, append_assoc, lt-ltb, character-again, characters-again xs rest q.1, drop-field 11 g (character_bits xs ++ rest))
+    search (arith, append_assoc, lt-ltb, character-again, characters-again xs rest q.1, drop-field 11 g (character_bits xs ++ rest), read-field 11 g (character_bits xs ++ rest) (omega arith))
 
 -- if characters of alphanumeric mode are read, they are written as the same bits
 characters-takes : (n : ℕ) (xs : List ℕ) (bs : List Bool) → payload_bits Alphanumeric n ≤ length bs → characters_of n bs ≡ Ok xs → IsWritten Alphanumeric n bs xs

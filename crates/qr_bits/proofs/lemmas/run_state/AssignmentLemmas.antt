@@ -1,11 +1,10 @@
 -- An assignment is valid (`IsAssignment`) exactly if each of its modes is allowed after those before it (`allowed`).
+use Rattle.qr_bits.proofs.lemmas.{best_modes.ChoiceLemmas.{take-begin, state_after-whole}, run_state.BestLemmas.same-rank}
+use Rattle.qr_bits.{proofs.lemmas.segmentation.CoverLemmas.{suits_by, CoversBy}, specs.{Modes.may_use, Segmentation.{rank, prepend_mode, runs_of}}}
+use Rattle.qr_bits.specs.{Steps.RunState.{state_after, begins_with_pair, may_begin, may_take, may_end, allowed}, declared.modes.Mode.{Mode, TheVariants.Kanji}}
+use Rattle.qr_bits.specs.declared.{modes.Rule.Rule, run_state.RunState.{RunState, TheVariants.WholePair}, segmentation.Segment.Segment}
 use Rattle.std.proofs.Common.{◌≡◌, ℕ, suc, ◌+◌, ◌<◌, Bool, true, ◌==◌, ◌&&◌, List, [], ◌∷◌, IsTrue, refl, arith, lit<}
-use Rattle.std.{proofs.lemmas.Bool.{Decides.nat_tests, cond_both, and_parts, and_from, false≢true, eqb-true}, specs.List.list_all}
-use Rattle.qr_bits.specs.declared.{modes.{Mode.{Mode, TheVariants.Kanji}, Rule.Rule}, run_state.RunState.{RunState, TheVariants.{HalfPair, WholePair}}}
-use Rattle.qr_bits.specs.{declared.segmentation.Segment.Segment, Modes.may_use, Segmentation.{rank, prepend_mode, runs_of}}
-use Rattle.qr_bits.specs.Steps.RunState.{state_after, begins_with_pair, may_begin, may_take, may_end, allowed}
-use Rattle.qr_bits.proofs.lemmas.{segmentation.CoverLemmas.{suits_by, CoversBy}, run_state.BestLemmas.same-rank}
-use Rattle.qr_bits.proofs.lemmas.best_modes.ChoiceLemmas.{take-begin, state_after-whole}
+use Rattle.std.{proofs.lemmas.Bool.{cond_both, and_parts, and_from, false≢true, eqb-true, Decides.nat_tests}, specs.List.list_all}
 
 -- a valid assignment, where two bytes are a pair if they pass the test
 abbrev pub IsAssignmentBy : (ℕ → ℕ → Bool) → Rule → List ℕ → List Mode → Type 0
@@ -16,14 +15,10 @@ abbrev Positive : List Segment → Type 0
 Positive [] = Unit {0}
 Positive (s ∷ ss) = (0 < s.len) × Positive ss
 
-Positive-prepend_mode : (m : Mode) (segs : List Segment) → Positive segs → Positive (prepend_mode m segs)
-Positive-prepend_mode m [] h = (lit< tt, tt)
-Positive-prepend_mode m (s ∷ ss) h = search (arith, cond_both)
-
 Positive-runs_of : (ms : List Mode) → Positive (runs_of ms)
 unfolding runs_of
 Positive-runs_of [] = tt
-Positive-runs_of (m ∷ ms) = search (arith, Positive-prepend_mode, Positive-runs_of ms)
+Positive-runs_of (m ∷ ms) = search (arith, cond_both, Positive-runs_of ms)
 
 add-one : (test : ℕ → ℕ → Bool) (m : Mode) (x : ℕ) (xs : List ℕ) (segs : List Segment) → rank m < 3 → suits_by test m (x ∷ []) ≡ true → CoversBy test xs segs → CoversBy test (x ∷ xs) (prepend_mode m segs)
 unfolding CoversBy
@@ -65,11 +60,6 @@ begin-is test r m x pair k = grind arith
 abbrev CanTake : (ℕ → ℕ → Bool) → Rule → List ℕ → List Mode → Type 0
 CanTake test r xs ms = (p : RunState) → may_end p ≡ true → allowed r test p xs ms ≡ true
 
-one-can : (test : ℕ → ℕ → Bool) (r : Rule) (m : Mode) (x : ℕ) (xs : List ℕ) (ms : List Mode) → rank m < 3 → (IsAssignmentBy test r xs ms → CanTake test r xs ms) → IsAssignmentBy test r (x ∷ xs) (m ∷ ms) → CanTake test r (x ∷ xs) (m ∷ ms)
-unfolding allowed runs_of
-one-can test r m x xs ms k rest h p e =
-    search (arith, and_parts, drop-one, Positive-runs_of, and_from, take-begin, begin-is test, may_end-after)
-
 -- the modes of a valid assignment can be taken one after the other
 pub can-take : (test : ℕ → ℕ → Bool) (r : Rule) (xs : List ℕ) (ms : List Mode) → IsAssignmentBy test r xs ms → CanTake test r xs ms
 unfolding CoversBy runs_of allowed may_take may_begin begins_with_pair state_after may_end
@@ -80,7 +70,7 @@ can-take test r (x ∷ y ∷ xs) (Kanji ∷ []) h p e = absurd (false≢true h.1
 can-take test r (x ∷ y ∷ xs) (Kanji ∷ Kanji ∷ ms) h p e =
     search (arith, and_parts, drop-pair, Positive-runs_of, and_from, take-begin, state_after-whole, can-take test r xs ms)
 can-take test r (x ∷ y ∷ xs) (Kanji ∷ m ∷ ms) h p e = search (arith, half)
-can-take test r (x ∷ xs) (m ∷ ms) h p e = one-can test r m x xs ms (lit< tt) (can-take test r xs ms) h p e
+can-take test r (x ∷ xs) (m ∷ ms) h p e = search (arith, and_parts, drop-one, Positive-runs_of, and_from, take-begin, begin-is, may_end-after, can-take test r xs ms)
 
 -- What is allowed is a valid assignment.
 pub is-assignment : (test : ℕ → ℕ → Bool) (r : Rule) (xs : List ℕ) (ms : List Mode) (p : RunState) → may_end p ≡ true → allowed r test p xs ms ≡ true → IsAssignmentBy test r xs ms
@@ -91,8 +81,7 @@ is-assignment test r (x ∷ []) (Kanji ∷ ms) p e h = search arith
 is-assignment test r (x ∷ y ∷ xs) (Kanji ∷ []) p e h = search (arith, false≢true, and_parts)
 is-assignment test r (x ∷ y ∷ xs) (Kanji ∷ Kanji ∷ ms) p e h =
     let parts = and_parts (may_take r p x (may_use r Kanji && test x y) Kanji) _ h in
-    let second : allowed r test HalfPair (y ∷ xs) (Kanji ∷ ms) ≡ true = rw (state_after-whole p e) at parts.1 in
-    search (arith, take-begin, and_parts, and_from, nat_tests, cond_both, same-rank, eqb-true, is-assignment test r xs ms WholePair refl second)
+    search (arith, take-begin, and_parts, and_from, nat_tests, cond_both, same-rank, eqb-true, is-assignment test r xs ms WholePair refl (rw (state_after-whole p e) at parts.1))
 is-assignment test r (x ∷ y ∷ xs) (Kanji ∷ m ∷ ms) p e h = search arith
 is-assignment test r (x ∷ xs) (m ∷ ms) p e h =
     search (arith, may_end-after, and_parts, take-begin, begin-is, and_from, is-assignment test r xs ms (state_after p m) (may_end-after p m (lit< tt)))

@@ -73,8 +73,7 @@ run-first v p m [] = omega (arith, one-run v p m 0)
 run-first v p m (s ∷ ss) =
     cond_both (rank m == rank s.mode) _ _ (λ (r : List Segment). byte_cost v p m + rest_bits v (state_after p m) (s ∷ ss) ≡ rest_bits v p r)
     (search (arith, same-rank, eqb-true, eq-eqb, state_rank-after, cond-true, one-run)) (λ e.
-    let other : goes_on (state_after p m) s.mode ≡ false = rw (state_rank-after p m) e in
-    let f = cond-false (goes_on (state_after p m) s.mode) (cost_of v (state_after p m) (replicate s.len s.mode)) (segment_bits v s) other in
+    let f = cond-false (goes_on (state_after p m) s.mode) (cost_of v (state_after p m) (replicate s.len s.mode)) (segment_bits v s) (rw (state_rank-after p m) e) in
     let one = one-run v p m 0 in
     omega arith)
 

@@ -3,7 +3,7 @@
 use Rattle.std.{proofs.{Common.{◌≡◌, ℕ, ◌<◌, Bool, true, ◌&&◌, List, [], ◌∷◌, length, refl, arith}, lemmas.Bool.{and_parts, false≢true}}, specs.List.list_all}
 use Rattle.qr_bits.specs.declared.{modes.{Mode.{Mode, TheVariants.Kanji}, Rule.Rule}, run_state.RunState.RunState, interpretation.Interpretation.Interpretation}
 use Rattle.qr_bits.specs.{Interpretation.{doubled, characters_in}, Segmentation.rank}
-use Rattle.qr_bits.proofs.lemmas.interpretation.WrittenLemmas.{characters_in-step, doubled-rank, doubled-step, single-byte, unwritten, written-none}
+use Rattle.qr_bits.proofs.lemmas.interpretation.{characters_in-step, doubled-rank, doubled-step, single-byte, unwritten, written-none}
 use Rattle.qr_bits.specs.Steps.RunState.{cost_of, state_after, state_in, may_take_in, allowed, allowed_in, cost_of_all, begins_with_pair, may_begin, may_take}
 
 -- the bits that bytes add are those that their characters add
@@ -24,10 +24,7 @@ kanji-same : (i : Interpretation) (r : Rule) (test : ℕ → ℕ → Bool) (p : 
     → (may_take r p x (begins_with_pair r test (x ∷ characters_in i xs ms)) Kanji && allowed r test (state_after p Kanji) (characters_in i xs ms) (doubled i xs ms))
     ≡ (may_take r p x (begins_with_pair r test (x ∷ xs)) Kanji && allowed_in i r test (state_after p Kanji) xs ms)
 unfolding begins_with_pair may_take state_after allowed_in
-kanji-same i r test p x [] ms h = search (arith, written-none)
-kanji-same i r test p x (y ∷ ys) [] h = rw (h, (unwritten i y ys).1) refl
-kanji-same i r test p x (y ∷ ys) (Kanji ∷ ms) h = search (arith, characters_in-step, single-byte)
-kanji-same i r test p x (y ∷ ys) (m ∷ ms) h = search arith
+kanji-same i r test p x xs ms h = search (arith, written-none, unwritten, characters_in-step, single-byte)
 
 -- the characters of bytes are allowed exactly if the bytes are
 pub allowed-written : (i : Interpretation) (r : Rule) (test : ℕ → ℕ → Bool) (p : RunState) (xs : List ℕ) (ms : List Mode)

@@ -1,10 +1,9 @@
 -- Segments that grow at their end.
-use Rattle.std.proofs.lemmas.{List.{reverse-append, Sums.sum_by-cons}, Bool.{Decides.nat_tests, and_from, cond_both}}
+use Rattle.qr_bits.{proofs.lemmas.best_modes.ChoiceLemmas.on-after, specs.{Modes.may_use, Segmentation.{rank, prepend_mode, runs_of}}}
+use Rattle.qr_bits.specs.Steps.{BestModes.{follow, mode_at}, RunState.{state_after, state_on}, Segmentation.{one_segment, append_mode}}
+use Rattle.qr_bits.specs.declared.{modes.{Mode.Mode, Rule.Rule}, run_state.RunState.RunState, segmentation.Segment.Segment}
 use Rattle.std.proofs.Common.{◌≡◌, ℕ, zero, suc, ◌+◌, true, ◌==◌, List, [], ◌∷◌, ◌++◌, ◌≤◌, ◌<◌, length, replicate, reverse, refl, append_assoc, arith}
-use Rattle.{qr_bits.specs.declared.modes.Mode.Mode, std.specs.List.{list_all, sum_by}}
-use Rattle.qr_bits.{specs.{declared.{modes.Rule.Rule, segmentation.Segment.Segment}, Modes.may_use}, proofs.lemmas.best_modes.ChoiceLemmas.on-after}
-use Rattle.qr_bits.specs.{Segmentation.{rank, prepend_mode, runs_of}, Steps.Segmentation.{one_segment, append_mode}}
-use Rattle.qr_bits.specs.{declared.run_state.RunState.RunState, Steps.RunState.state_after, Steps.RunState.state_on, Steps.BestModes.follow, Steps.BestModes.mode_at}
+use Rattle.std.{proofs.lemmas.{Bool.{and_from, cond_both, Decides.nat_tests}, List.{reverse-append, Sums.sum_by-cons}}, specs.List.{list_all, sum_by}}
 
 -- the runs of modes with one more mode after them
 pub runs_of-push : (ms : List Mode) (m : Mode) → runs_of (ms ++ m ∷ []) ≡ append_mode (runs_of ms) m

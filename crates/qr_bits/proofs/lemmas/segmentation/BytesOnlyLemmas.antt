@@ -1,12 +1,11 @@
 -- If only byte mode may be used, there is one valid assignment: byte mode for each byte.
+use Rattle.qr_bits.proofs.lemmas.{best_modes.ChoiceLemmas.byte-used, interpretation.{length-written, written-bytes}}
+use Rattle.qr_bits.proofs.lemmas.segmentation.{BackLemmas.{sum_by-runs_of, runs_of-replicate, all-used}, CoverLemmas.one-covers}
+use Rattle.qr_bits.{proofs.lemmas.segmentation.SegmentLemmas.{covers-all, least_fits}, specs.Modes.{may_use, count_width}}
+use Rattle.qr_bits.specs.{Segmentation.{HasFit, IsAssignment, IsNotAfter, IsLeastSegmentation, IsLongestFit}, Steps.Segmentation.one_segment}
+use Rattle.qr_bits.specs.declared.{interpretation.Interpretation.Interpretation, modes.{Mode.{Mode, TheVariants.Byte}, Rule.{Rule, TheVariants.BytesOnly}}}
 use Rattle.std.proofs.{Common.{◌≡◌, ℕ, ◌+◌, ◌*◌, ◌<◌, ◌≤◌, min, take, ⊎_elim, true, List, [], ◌∷◌, length, replicate, refl, sym, arith, inr}, Math.Nat.le_refl}
-use Rattle.qr_bits.proofs.lemmas.{best_modes.ChoiceLemmas.byte-used, interpretation.WrittenLemmas.{length-written, written-bytes}}
-use Rattle.std.{proofs.lemmas.{List.length-take-le, Bool.cases_lt}, specs.List.list_all}
-use Rattle.qr_bits.specs.declared.{modes.{Mode.{Mode, TheVariants.Byte}, Rule.{Rule, TheVariants.BytesOnly}}, interpretation.Interpretation.Interpretation}
-use Rattle.qr_bits.specs.Segmentation.{HasFit, IsAssignment, IsNotAfter, IsLeastSegmentation, IsLongestFit}
-use Rattle.qr_bits.specs.{Modes.may_use, Modes.count_width, Steps.Segmentation.one_segment}
-use Rattle.qr_bits.proofs.lemmas.segmentation.{CoverLemmas.one-covers, SegmentLemmas.covers-all, SegmentLemmas.least_fits}
-use Rattle.qr_bits.proofs.lemmas.segmentation.BackLemmas.{sum_by-runs_of, runs_of-replicate, all-used}
+use Rattle.std.{proofs.lemmas.{Bool.cases_lt, List.length-take-le}, specs.List.list_all}
 
 only-bytes : (ks : List Mode) → list_all (may_use BytesOnly) ks ≡ true → ks ≡ replicate (length ks) Byte
 only-bytes [] u = refl
@@ -53,8 +52,7 @@ bytes-longest i v xs room n k e fits most =
       fits = ((least_fits i v BytesOnly (take n xs) _ _ (bytes-least i v (take n xs))).1 room).1 (search arith);
       longest = λ j h fit.
           ⊎_elim (λ (none : j < 1). omega arith) (λ (some : 1 ≤ j).
-          let few = ((least_fits i v BytesOnly (take j xs) _ _ (bytes-least i v (take j xs))).1 room).0 fit in
-          grind (arith, length-take-le)) (cases_lt j 1);
+          grind (arith, length-take-le, ((least_fits i v BytesOnly (take j xs) _ _ (bytes-least i v (take j xs))).1 room).0 fit)) (cases_lt j 1);
     }
 
 -- An input fits where it fits in byte mode alone.

@@ -17,21 +17,17 @@ CoversBy test xs [] = xs ≡ []
 CoversBy test xs (s ∷ ss) =
     (0 < s.len) × (s.len ≤ length xs) × IsTrue (suits_by test s.mode (take s.len xs)) × CoversBy test (drop s.len xs) ss
 
--- with the test for kanji pairs, `suits_by` is `suits`
-pub suits-by : (m : Mode) (xs : List ℕ) → suits m xs ≡ suits_by is_kanji_pair m xs
-suits-by m xs = grind arith
-
 -- segments that cover the bytes cover them one after the other
 pub covers-by : (xs : List ℕ) (segs : List Segment) → Covers xs segs → CoversBy is_kanji_pair xs segs
 unfolding Covers CoversBy Suits
 covers-by xs [] h = h.1
-covers-by xs (s ∷ ss) h = search (arith, All-head, All-tail, suits-by, covers-by (drop s.len xs) ss)
+covers-by xs (s ∷ ss) h = search (arith, All-head, All-tail, covers-by (drop s.len xs) ss)
 
 -- segments that cover the bytes one after the other cover them
 pub by-covers : (xs : List ℕ) (segs : List Segment) → CoversBy is_kanji_pair xs segs → Covers xs segs
 unfolding Covers CoversBy Suits
 by-covers xs [] h = search (arith, All-nil)
-by-covers xs (s ∷ ss) h = search (arith, All-cons, suits-by, by-covers (drop s.len xs) ss h.3)
+by-covers xs (s ∷ ss) h = search (arith, All-cons, by-covers (drop s.len xs) ss h.3)
 
 -- as `CoversBy` with the test for kanji pairs; so other crates see it, as do `in-turn` and `from-turn`
 unfoldable pub CoversInTurn : List ℕ → List Segment → Type 0

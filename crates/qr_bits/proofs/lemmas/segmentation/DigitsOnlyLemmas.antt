@@ -4,7 +4,7 @@ use Rattle.std.proofs.lemmas.Bool.Decides.{nat_tests}
 use Rattle.qr_bits.specs.{declared.{modes.{Mode.{Mode, TheVariants.Numeric}, Rule.Rule}, segmentation.Segment.Segment}, Steps.Segmentation.one_segment}
 use Rattle.qr_bits.specs.{Modes.{is_kanji_pair, suits, may_use, count_width, payload_bits}, declared.interpretation.Interpretation.Interpretation}
 use Rattle.qr_bits.specs.{Interpretation.characters_in, Segmentation.{bits, IsNotAfter, IsLeastSegmentation}}
-use Rattle.qr_bits.proofs.lemmas.{interpretation.WrittenLemmas.{characters-length, written-digits}, segmentation.BytesOnlyLemmas.assignment-length}
+use Rattle.qr_bits.proofs.lemmas.{interpretation.{characters-length, written-digits}, segmentation.BytesOnlyLemmas.assignment-length}
 use Rattle.qr_bits.proofs.lemmas.segmentation.{CoverLemmas.{CoversBy, covers-by, one-covers}, BackLemmas.{runs_of-replicate, all-used}}
 
 digits-bits : (n : ℕ) → payload_bits Numeric n ≡ (10 * n + 2) / 3
@@ -41,8 +41,7 @@ digits-least i v r xs u h =
       replicate (length xs) Numeric,
       record {
         assignment = search (arith, all-used, runs_of-replicate, one-covers);
-        least = λ ks k. let longer = one_segment-more v (length xs) (length (characters_in i xs ks)) (characters-length i xs ks).0 in
-            search (arith, runs_of-replicate, digits-fewest, covers-by);
+        least = λ ks k. search (arith, runs_of-replicate, digits-fewest, covers-by, one_segment-more v (length xs) (length (characters_in i xs ks)) (characters-length i xs ks).0);
         first = search (arith, digits-first, assignment-length);
       },
       rw written.1 (sym (runs_of-replicate Numeric (length xs))),

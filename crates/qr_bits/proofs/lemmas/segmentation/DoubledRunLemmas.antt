@@ -7,7 +7,7 @@ use Rattle.qr_bits.specs.declared.{modes.Mode.{Mode, TheVariants.Alphanumeric}, 
 use Rattle.qr_bits.specs.{declared.interpretation.Interpretation.TheVariants.Gs1, Segmentation.runs_of}
 use Rattle.qr_bits.specs.Interpretation.{character_for, characters_gs1, doubled_gs1, is_doubled, percent}
 use Rattle.qr_bits.specs.Steps.{BestModes.{AreFlagged, follow_in, mode_at}, RunState.{state_after, state_in, state_on}, Segmentation.{append_mode, is_escaped, one_segment}}
-use Rattle.qr_bits.proofs.lemmas.{interpretation.WrittenLemmas.{written-append, written-one}, segmentation.BackLemmas.runs_of-push}
+use Rattle.qr_bits.proofs.lemmas.{interpretation.{written-append, written-one}, segmentation.BackLemmas.runs_of-push}
 
 -- of the bytes `xs` the first `i`, whose modes were read, have the segments `found` and one of `n` characters, and their
 -- characters are `chars` and the bytes from `copied` on; `rows` are left of the table
@@ -42,8 +42,7 @@ separator-character m x h e = grind (arith, eqb-true)
 pub plain-more : (xs chars : List ℕ) (copied i : ℕ) → copied ≤ i → i < length xs
     → chars ++ take ((i + 1) - copied) (drop copied xs) ≡ (chars ++ take (i - copied) (drop copied xs)) ++ get_or xs i 0 ∷ []
 plain-more xs chars copied i h l =
-    let one = take_more (drop copied xs) (i - copied) 0 (omega (arith, length-drop copied xs)) in
-    search (arith, length-drop, get_or-drop, append_assoc)
+    search (arith, length-drop, get_or-drop, append_assoc, take_more (drop copied xs) (i - copied) 0 (omega (arith, length-drop copied xs)))
 
 -- what is written after byte `i` and before the next is nothing
 pub escaped-more : (xs chars : List ℕ) (i : ℕ) → chars ++ take ((i + 1) - (i + 1)) (drop (i + 1) xs) ≡ chars
@@ -70,7 +69,6 @@ written_more {xs} {all} {i} {found} {m} {n} {p} {rows} {chars} {copied} later ro
     let some = bounds.0 in
     let few = bounds.1 in
     let x = get_or xs i 0 in
-    let next : drop i xs ≡ x ∷ drop (i + 1) xs = drop_more xs i 0 inside in
     let more : take (i + 1) xs ≡ take i xs ++ x ∷ [] = take_more xs i 0 inside in
     let len : length (take i xs) ≡ length h.modes = length-take-le i xs (omega arith) ∙ sym h.many in
     let ds = doubled_gs1 (take i xs) h.modes in

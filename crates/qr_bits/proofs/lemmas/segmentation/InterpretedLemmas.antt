@@ -15,11 +15,8 @@ themselves [] ms h = (refl, refl)
 themselves (x ∷ xs) [] h = (refl, refl)
 themselves (x ∷ xs) (m ∷ ms) h = search (arith, itself, themselves xs ms (and_parts (is_itself x) (list_all is_itself xs) h).1)
 
-all-themselves : (xs : List ℕ) → not (list_all is_itself xs) ≡ false → list_all is_itself xs ≡ true
-all-themselves xs h = grind arith
-
 -- if each byte is written as itself, the least segmentation is the same as without an interpretation
 pub least-interpreted : (i : Interpretation) (v : ℕ) (r : Rule) (xs : List ℕ) (segs : List Segment) → (is_gs1 i && not (list_all is_itself xs)) ≡ false → IsLeastSegmentation Default v r xs xs segs → IsLeastSegmentation i v r xs xs segs
 least-interpreted Default v r xs segs w h = h
 least-interpreted (Eci n) v r xs segs w h = search arith
-least-interpreted Gs1 v r xs segs w h = let own = themselves xs h.0 (all-themselves xs w) in search (arith, themselves)
+least-interpreted Gs1 v r xs segs w h = search (arith, themselves, themselves xs h.0 (search arith))

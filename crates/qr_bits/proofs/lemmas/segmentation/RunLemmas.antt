@@ -1,5 +1,5 @@
 -- What is written for runs of bytes in GS1 data.
-use Rattle.std.{proofs.Common.{◌≡◌, ℕ, ◌+◌, Bool, true, cond, List, [], ◌∷◌, length, map, take, drop, refl, arith, suc}, specs.List.list_all}
+use Rattle.std.{proofs.Common.{◌≡◌, ℕ, ◌+◌, true, cond, List, [], ◌∷◌, length, map, take, drop, refl, arith, suc}, specs.List.list_all}
 use Rattle.std.proofs.lemmas.Bool.{and_parts, cond_both, eqb-true}
 use Rattle.qr_bits.specs.declared.{modes.Mode.Mode, segmentation.Segment.Segment, interpretation.Interpretation.TheVariants.Gs1}
 use Rattle.qr_bits.{specs.Interpretation.{escaped, is_doubled, character_for, characters_gs1, doubled_gs1}, proofs.lemmas.run_state.BestLemmas.same-rank}
@@ -23,10 +23,6 @@ written-one : (m : Mode) (x : ℕ) → written m (x ∷ []) ≡ cond (is_doubled
 unfolding escaped
 written-one m x = search (arith, eqb-true)
 
-cond-length : (b : Bool) (c : ℕ) (ys : List ℕ) (m : Mode) (ss : List Segment)
-    → (record { mode = m; len = length (cond b (c ∷ c ∷ ys) (c ∷ ys)) } ∷ ss) ≡ cond b (record { mode = m; len = 1 + (1 + length ys) } ∷ ss) (record { mode = m; len = 1 + length ys } ∷ ss)
-cond-length b c ys m ss = grind arith
-
 prepend-self : (m : Mode) (n : ℕ) (ss : List Segment) → prepend_mode m (record { mode = m; len = n } ∷ ss) ≡ record { mode = m; len = 1 + n } ∷ ss
 prepend-self m n ss = grind arith
 
@@ -34,15 +30,7 @@ prepend-self m n ss = grind arith
 segments-begun : (m : Mode) (x : ℕ) (xs : List ℕ) (ss : List Segment)
     → segments_of (x ∷ xs) (record { mode = m; len = 1 } ∷ ss) ≡ cond (is_doubled Gs1 x m) (prepend_mode m (record { mode = m; len = 1 } ∷ segments_of xs ss)) (record { mode = m; len = 1 } ∷ segments_of xs ss)
 unfolding segments_of
-segments-begun m x xs ss = search (arith, written-one, prepend-self, cond-length)
-
--- one more byte before segments adds one character to them, or two if the byte is doubled
-segments-prepend : (m : Mode) (x : ℕ) (xs : List ℕ) (segs : List Segment)
-    → segments_of (x ∷ xs) (prepend_mode m segs) ≡ cond (is_doubled Gs1 x m) (prepend_mode m (prepend_mode m (segments_of xs segs))) (prepend_mode m (segments_of xs segs))
-unfolding segments_of escaped
-segments-prepend m x xs [] = segments-begun m x xs []
-segments-prepend m x xs (s ∷ ss) =
-    search (arith, same-rank, eqb-true, prepend-self, one-suc, cond-length, segments-begun)
+segments-begun m x xs ss = search (arith, written-one, prepend-self)
 
 -- the characters and segments of an assignment are those of its runs of bytes
 pub runs-written : (xs : List ℕ) (ms : List Mode) → length xs ≡ length ms → (characters_gs1 xs ms ≡ written_in xs (runs_of ms)) × (runs_of (doubled_gs1 xs ms) ≡ segments_of xs (runs_of ms))
@@ -51,4 +39,4 @@ runs-written [] [] h = (refl, refl)
 runs-written [] (m ∷ ms) h = absurd (omega arith)
 runs-written (x ∷ xs) [] h = absurd (omega arith)
 runs-written (x ∷ xs) (m ∷ ms) h =
-    search (arith, segments-prepend, cond_both, same-rank, eqb-true, written-one, one-suc, runs-written xs ms (omega arith))
+    search (arith, cond_both, same-rank, eqb-true, written-one, one-suc, segments-begun, prepend-self, runs-written xs ms (omega arith))

@@ -1,7 +1,7 @@
 -- Lists of segments: their bits, their lengths, and what they cover.
 use Rattle.std.proofs.Common.{◌≡◌, ℕ, ◌+◌, ◌*◌, ◌<◌, ◌≤◌, ◌↔◌, List, [], ◌∷◌, length, get_or, take, drop, refl, ap, arith, IsTrue, All}
 use Rattle.std.{proofs.{lemmas.List.{length-drop, Sums.sum_by-cons, Elements.{All-head, All-tail}}, Math.Seq.drop-cons}, specs.List.sum_by}
-use Rattle.qr_bits.proofs.lemmas.segmentation.CoverLemmas.{CoversBy, suits-by, covers-by, by-covers}
+use Rattle.qr_bits.proofs.lemmas.segmentation.CoverLemmas.{CoversBy, covers-by, by-covers}
 use Rattle.qr_bits.specs.declared.{modes.{Mode.{Mode, TheVariants.Numeric}, Rule.Rule}, interpretation.Interpretation.Interpretation}
 use Rattle.qr_bits.specs.{declared.segmentation.Segment.Segment, Stream.Suits, Modes.{count_width, suits}}
 use Rattle.qr_bits.specs.Segmentation.{segment_bits, bits, Covers, IsNotAfter, IsLeastSegmentation, HasFit}
@@ -37,14 +37,14 @@ covers-all xs segs h = (h.0, suits-length xs segs h.1)
 pub covers-next : (xs : List ℕ) (segs : List Segment) (i : ℕ) (d : Segment) → i < length segs → Covers xs (drop i segs)
     → (0 < (get_or segs i d).len) × ((get_or segs i d).len ≤ length xs) × IsTrue (suits (get_or segs i d).mode (take (get_or segs i d).len xs)) × Covers (drop (get_or segs i d).len xs) (drop (i + 1) segs)
 unfolding CoversBy
-covers-next xs segs i d h c = search (arith, drop-cons, covers-by, by-covers, suits-by)
+covers-next xs segs i d h c = search (arith, drop-cons, covers-by, by-covers)
 
 -- a segment that writes its part, and others that cover the other bytes, together cover all bytes
 pub next-covers : (xs : List ℕ) (segs : List Segment) (i : ℕ) (d : Segment) → i < length segs
     → 0 < (get_or segs i d).len → (get_or segs i d).len ≤ length xs → IsTrue (suits (get_or segs i d).mode (take (get_or segs i d).len xs)) → Covers (drop (get_or segs i d).len xs) (drop (i + 1) segs)
     → Covers xs (drop i segs)
 unfolding CoversBy
-next-covers xs segs i d h a b c e = search (arith, by-covers, drop-cons, covers-by, suits-by)
+next-covers xs segs i d h a b c e = search (arith, by-covers, drop-cons, covers-by)
 
 -- a segment has at least its indicator, its count, and ten bits for three bytes
 pub segment-least : (v : ℕ) (s : Segment) → 10 * s.len + 3 * (4 + count_width v s.mode) ≤ 3 * segment_bits v s

@@ -1,13 +1,12 @@
 -- Fields and digits: what is written is read back, and what is read is written as the same bits.
-use Rattle.std.{proofs.lemmas.{Bool.{Decides.nat_tests, lt-ltb, ltb-true, and_parts}, List.Elements.{All-nil, All-cons}}, specs.List.list_all}
+use Rattle.qr_bits.proofs.lemmas.{bits.BitLemmas.{length-field, value-below}, parsing.ParsingLemmas.{bind-ok, same-ok}, stream.WritingLemmas.three-more}
+use Rattle.qr_bits.specs.{Bits.{field, value_from, value}, Modes.{byte_count, payload_bits, suits, is_digit}, Parsing.{digit, digits_of}}
+use Rattle.qr_bits.specs.{Stream.{digit_bits, payload}, declared.{fault.ParseFault.ParseFault, modes.Mode.{Mode, TheVariants.Numeric}}}
 use Rattle.std.proofs.Common.{◌≡◌, ℕ, zero, suc, ◌+◌, ◌-◌, ◌*◌, ◌/◌, ◌%◌, ◌^◌, ◌<◌, ◌≤◌, Bool, true, false, cond, ◌==◌, All, List, [], ◌∷◌, ◌++◌, length, take, drop, Result, Ok, Err, refl, sym, ◌∙◌, ap, arith, append_assoc}
-use Rattle.std.proofs.{lemmas.List.{length-take-le, length-drop, drop-drop, take-append-drop}, Math.Seq.{take-append_seam, drop-append_seam}}
-use Rattle.std.proofs.{lemmas.Nat.mod-pow-add, Math.Nat.pow-suc, Math.Nat.mod-eq_of_lt}
+use Rattle.std.proofs.{Math.{Nat.{pow-suc, mod-eq_of_lt}, Seq.{take-append_seam, drop-append_seam}}, lemmas.Bool.{lt-ltb, ltb-true, and_parts}}
+use Rattle.std.proofs.lemmas.{Bool.Decides.nat_tests, List.{length-take-le, length-drop, drop-drop, take-append-drop, Elements.{All-nil, All-cons}}}
+use Rattle.std.{proofs.lemmas.Nat.mod-pow-add, specs.List.list_all}
 use borrow.Author.Tests.{leb-true}
-use Rattle.qr_bits.specs.declared.{modes.Mode.Mode, modes.Mode.TheVariants.Numeric, fault.ParseFault.ParseFault}
-use Rattle.qr_bits.specs.{Bits.field, Bits.value_from, Bits.value, Stream.digit_bits, Stream.payload}
-use Rattle.qr_bits.specs.{Modes.{byte_count, payload_bits, suits, is_digit}, Parsing.{digit, digits_of}}
-use Rattle.qr_bits.proofs.lemmas.{bits.BitLemmas.{length-field, value-below}, stream.WritingLemmas.three-more, parsing.ParsingLemmas.{bind-ok, same-ok}}
 
 bit-step : (a d : ℕ) (bs : List Bool) → d < 2 → value_from a ((d == 1) ∷ bs) ≡ value_from (2 * a + d) bs
 bit-step a d bs h = grind arith
@@ -18,8 +17,7 @@ unfolding field
 value_from-field a zero n = omega arith
 value_from-field a (suc w) n =
     let one : 1 + w ≡ suc w = omega arith in
-    let split : n % 2 ^ suc w ≡ n / 2 ^ w % 2 * 2 ^ w + n % 2 ^ w = rw one at (mod-pow-add n 1 w) in
-    bit-step a (n / 2 ^ w % 2) (field w n) (omega arith) ∙ rw (pow-suc 2 w) (omega (arith, value_from-field (2 * a + n / 2 ^ w % 2) w n, rw (pow-suc 2 w) at split))
+    bit-step a (n / 2 ^ w % 2) (field w n) (omega arith) ∙ rw (pow-suc 2 w) (omega (arith, value_from-field (2 * a + n / 2 ^ w % 2) w n, rw (pow-suc 2 w) at (rw one at (mod-pow-add n 1 w))))
 
 value-field : (w n : ℕ) → n < 2 ^ w → value (field w n) ≡ n
 value-field w n h = value_from-field 0 w n ∙ omega (arith, mod-eq_of_lt h)
@@ -36,8 +34,7 @@ value_from-inj a b (false ∷ xs) (false ∷ ys) l e = search (arith, value_from
 
 field-value : (w : ℕ) (bs : List Bool) → length bs ≡ w → field w (value bs) ≡ bs
 field-value w bs h =
-    let s : value bs < 2 ^ w = rw (← h) (value-below bs) in
-    (value_from-inj 0 0 (field w (value bs)) bs (length-field w (value bs) ∙ sym h) (value-field w (value bs) s)).1
+    (value_from-inj 0 0 (field w (value bs)) bs (length-field w (value bs) ∙ sym h) (value-field w (value bs) (rw (← h) (value-below bs)))).1
 
 -- these bytes are digits
 abbrev pub AreDigits : List ℕ → Type 0
@@ -69,15 +66,12 @@ pub digits-again : (xs : List ℕ) (rest : List Bool) → AreDigits xs → digit
 unfolding digits_of digit_bits
 digits-again [] rest h = refl
 digits-again (a ∷ []) rest h =
-    let r = read-field 4 (a - 48) rest (omega arith) in
-    grind (arith, lt-ltb)
+    grind (arith, lt-ltb, read-field 4 (a - 48) rest (omega arith))
 digits-again (a ∷ b ∷ []) rest h =
-    let r = read-field 7 (10 * (a - 48) + (b - 48)) rest (omega arith) in
-    grind (arith, lt-ltb)
+    grind (arith, lt-ltb, read-field 7 (10 * (a - 48) + (b - 48)) rest (omega arith))
 digits-again (a ∷ b ∷ c ∷ xs) rest h =
     let g = 100 * (a - 48) + 10 * (b - 48) + (c - 48) in
-    let r = read-field 10 g (digit_bits xs ++ rest) (omega arith) in
-    search (arith, append_assoc, lt-ltb, digits-again xs rest h.2.2.2, drop-field 10 g (digit_bits xs ++ rest))
+    search (arith, append_assoc, lt-ltb, digits-again xs rest h.2.2.2, drop-field 10 g (digit_bits xs ++ rest), read-field 10 g (digit_bits xs ++ rest) (omega arith))
 
 -- a conditional between a result and a fault that succeeds is the result
 pub chosen-ok : {A : Type 0} (b : Bool) (r : Result A ParseFault) (f : ParseFault) (y : A) → cond b r (Err f) ≡ Ok y → (b ≡ true) × (r ≡ Ok y)

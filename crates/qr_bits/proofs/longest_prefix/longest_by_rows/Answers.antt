@@ -1,10 +1,9 @@
-use Rattle.std.proofs.{Common.{rules, ◌≡◌, ℕ, ◌+◌, ◌≤◌, ◌<◌, [], ◌∷◌, take, length, get_or, arith, ⊎_elim}, lemmas.Bool.cases_lt, Math.Nat.le_refl}
-use Rattle.qr_bits.specs.{declared.interpretation.Interpretation.Interpretation, Steps.RunState.is_gs1}
-use Rattle.qr_bits.specs.{Modes.is_kanji_pair, Steps.RunState.swapped, Steps.BestModes.in_state, Steps.BestModes.IsRow}
 use Rattle.qr_bits.proofs.lemmas.best_modes.TableLemmas.{some-interpretation, best-none, small-more, small-row, zeros}
-use Rattle.qr_bits.proofs.lemmas.longest_prefix.MirrorLemmas.{empty-fits, none-longer, prefix-more, prefix-fits, prefix-least}
+use Rattle.qr_bits.proofs.lemmas.longest_prefix.{empty-fits, none-longer, prefix-more, prefix-fits, prefix-least}
+use Rattle.qr_bits.{proofs.longest_prefix.longest_by_rows.Goals.{then-from-room, else-from-room+else-from-room-2}, specs.Modes.is_kanji_pair}
+use Rattle.qr_bits.specs.{Steps.{BestModes.{in_state, IsRow}, RunState.{is_gs1, swapped}}, declared.interpretation.Interpretation.Interpretation}
+use Rattle.std.proofs.{Common.{rules, ◌≡◌, ℕ, ◌+◌, ◌≤◌, ◌<◌, [], ◌∷◌, take, get_or, arith, ⊎_elim}, Math.Nat.le_refl, lemmas.Bool.cases_lt}
 use Rattle.qr_bits.proofs.longest_prefix.longest_by_rows.Goals as goal
-use Rattle.qr_bits.proofs.longest_prefix.longest_by_rows.Goals.{then-from-room, else-from-room+else-from-room-2}
 
 below : (i l m : ℕ) → i < l → l ≤ m → i ≤ m
 below i l m h e = omega arith
@@ -63,7 +62,6 @@ loop-i-preserved c =
 
 pub returns-after-loop-i : goal.returns-after-loop-i
 returns-after-loop-i c = λ n g.
-    let all : c.loop-i.i ≡ length c.args.input.now = omega arith in
     record {
       inside = omega (arith, c.loop-i.invariant.inside);
       fits = c.loop-i.invariant.fits n g;
@@ -77,8 +75,7 @@ returns-then-from-room-2 c = λ n g.
     let xs = c.args.input.now in
     let i = c.loop-i.i in
     let inv = c.loop-i.invariant in
-    let chosen : IsRow n v r (get_or xs i 0) _ c.loop-i.rest c.row_of.result.0 c.row_of.result.1 = rw c.of-first_choices.ensures at (c.row_of.ensures.row n g) in
-    let b = prefix-more n v r xs i _ inv.best.0 _ _ _ c.loop-i-test.true c.ends_with_pair-pair.ensures (inv.best.1 n g) chosen in
+    let b = prefix-more n v r xs i _ inv.best.0 _ _ _ c.loop-i-test.true c.ends_with_pair-pair.ensures (inv.best.1 n g) (rw c.of-first_choices.ensures at (c.row_of.ensures.row n g)) in
     record {
       inside = omega (arith, c.loop-i-test.true);
       fits = inv.fits n g;

@@ -1,6 +1,4 @@
-use Rattle.qr_bits.proofs.lemmas.segmentation.BytesOnlyLemmas.{bytes-fit}
-use Rattle.std.proofs.{lemmas.List.take_all, Math.Nat.le_refl}
-use Rattle.{std.proofs.Common.arith, qr_bits.proofs.lemmas.segmentation.BytesOnlyLemmas.bytes-longest}
+use Rattle.{qr_bits.proofs.lemmas.segmentation.BytesOnlyLemmas.{bytes-fit, bytes-longest}, std.proofs.{Common.arith, Math.Nat.le_refl, lemmas.List.take_all}}
 use Rattle.qr_bits.proofs.longest_prefix.longest_fit.Goals as goal
 
 pub returns-then-input-most : goal.returns-then-input-most

@@ -1,5 +1,4 @@
-use Rattle.qr_bits.proofs.lemmas.modes.CharacterLemmas.{character-index, character-place}
-use Rattle.std.proofs.Common.{arith, refl, sym, ◌∙◌}
+use Rattle.{qr_bits.proofs.lemmas.modes.{character-index, character-place}, std.proofs.Common.{arith, refl, sym, ◌∙◌}}
 use Rattle.qr_bits.proofs.modes.character_value.Goals as goal
 
 pub unwrap-requires : goal.unwrap-requires

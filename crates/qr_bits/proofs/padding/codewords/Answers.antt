@@ -1,9 +1,8 @@
+use Rattle.qr_bits.proofs.lemmas.padding.{capacity-most, counts_fit, is-data, length-header_stream, length-interpretation_stream}
+use Rattle.qr_bits.proofs.lemmas.segmentation.{CoverLemmas.covers-suits, SegmentLemmas.{covers-all, bits-most, bits-least}}
+use Rattle.qr_bits.proofs.{lemmas.stream.WritingLemmas.length-segments_stream, padding.codewords.Goals.{in-None, in-Some}}
+use Rattle.qr_bits.specs.{Header.{header_bits, header_stream}, Interpretation.interpretation_stream, Stream.{segments_stream, IsStream}}
 use Rattle.std.{proofs.Common.{◌≡◌, ℕ, ◌+◌, ◌*◌, ◌^◌, ◌<◌, ◌≤◌, ◌++◌, refl, arith, length-append, rules}, specs.Cow.cow_slice_items}
-use Rattle.qr_bits.specs.{Header.{header_bits, header_stream}, Stream.{segments_stream, IsStream}, Interpretation.interpretation_stream}
-use Rattle.qr_bits.proofs.lemmas.{segmentation.SegmentLemmas.{covers-all, bits-most, bits-least}, padding.CountLemmas.{capacity-most, counts_fit}}
-use Rattle.qr_bits.proofs.lemmas.{stream.WritingLemmas.length-segments_stream, segmentation.CoverLemmas.covers-suits}
-use Rattle.qr_bits.proofs.lemmas.padding.PaddingLemmas.{is-data, length-header_stream, length-interpretation_stream}
-use Rattle.qr_bits.proofs.padding.codewords.Goals.{in-None, in-Some}
 use Rattle.qr_bits.proofs.padding.codewords.Goals as goal
 
 -- header and segments have at most as many bits as the data codewords, and the input is short

@@ -1,5 +1,4 @@
-use Rattle.std.proofs.Common.{◌≡◌, ◌+◌, ◌-◌, arith, append_assoc, rules}
-use Rattle.qr_bits.{proofs.lemmas.padding.PaddingLemmas.{pads-even, pads-odd}}
+use Rattle.{qr_bits.proofs.lemmas.padding.{pads-even, pads-odd}, std.proofs.Common.{◌≡◌, ◌+◌, ◌-◌, arith, append_assoc, rules}}
 use Rattle.qr_bits.proofs.padding.pad.Goals as goal
 
 pub loop-i-preserved : goal.loop-i-preserved

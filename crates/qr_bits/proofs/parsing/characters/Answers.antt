@@ -4,15 +4,14 @@ use Rattle.qr_bits.proofs.parsing.characters.Goals as goal
 
 pub returns-then-pair-ge-PAIRS : goal.returns-then-pair-ge-PAIRS
 returns-then-pair-ge-PAIRS c =
-    let s = characters-step c.loop-left.left (c.loop-left.left - 2) c.loop-left.reader (omega (arith, c.loop-left-test.true)) in
-    search (rules, fails)
+    search (rules, fails, characters-step c.loop-left.left (c.loop-left.left - 2) c.loop-left.reader (omega (arith, c.loop-left-test.true)))
 
 pub loop-left-preserved : goal.loop-left-preserved
 loop-left-preserved c =
     let g = c.take-pair.ensures in
     let s = characters-step c.loop-left.left (c.loop-left.left - 2) c.loop-left.reader (omega (arith, c.loop-left-test.true)) in
     group-read 11 (c.character.result ∷ c.character-in-loop-left.result ∷ []) c.loop-left.invariant s.0 g.rest c.in_ok-extend_from_slice.ensures.items
-    (rw (c.character.ensures, c.character-in-loop-left.ensures, g.rest, g.value) (s.1 (rw g.value at c.if-pair-ge-PAIRS.false)))
+    (search rules)
 
 pub returns-then-single-ge-SINGLES : goal.returns-then-single-ge-SINGLES
 unfolding characters_of

@@ -1,5 +1,4 @@
-use Rattle.std.proofs.Common.{◌≡◌, true, length}
-use Rattle.qr_bits.{specs.Parsing.items_of, proofs.lemmas.parsing.ParsingLemmas.behind}
+use Rattle.{qr_bits.{proofs.lemmas.parsing.ParsingLemmas.behind, specs.Parsing.items_of}, std.proofs.Common.{◌≡◌, true, length}}
 use Rattle.qr_bits.proofs.parsing.items.Given as goal
 
 -- what was read, and what is left to read, make the whole

@@ -1,5 +1,4 @@
-use Rattle.std.proofs.Common.{◌*◌, drop}
-use Rattle.qr_bits.{specs.{Parsing.pairs_of, Steps.Parsing.prepend_read}, proofs.lemmas.parsing.PayloadLemmas.IsReading}
+use Rattle.{qr_bits.{proofs.lemmas.parsing.PayloadLemmas.IsReading, specs.{Parsing.pairs_of, Steps.Parsing.prepend_read}}, std.proofs.Common.{◌*◌, drop}}
 use Rattle.qr_bits.proofs.parsing.kanji.Given as goal
 
 abbrev pub invariant-loop-left : goal.invariant-loop-left

@@ -1,5 +1,4 @@
-use Rattle.std.proofs.{Common.{rules}, lemmas.Bool.le-ltb, lemmas.Bool.lt-ltb}
-use Rattle.qr_bits.specs.Parsing.{digits_of}
+use Rattle.{qr_bits.specs.Parsing.digits_of, std.proofs.{Common.rules, lemmas.Bool.{le-ltb, lt-ltb}}}
 use Rattle.qr_bits.proofs.parsing.last_digits.Goals as goal
 
 pub returns-then-group-ge-TWO_DIGITS : goal.returns-then-group-ge-TWO_DIGITS

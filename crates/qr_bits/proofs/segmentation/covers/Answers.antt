@@ -6,8 +6,7 @@ pub returns-then-len-eq0 : goal.returns-then-len-eq0
 returns-then-len-eq0 c = (
   λ e. absurd (false≢true e),
   λ k.
-      let next = covers-next c.loop-segment.rest.now c.args.segs.now c.loop-segment.segment-index past_end c.loop-segment-test.true (c.loop-segment.invariant.rest k) in
-      search rules,
+      search (rules, covers-next c.loop-segment.rest.now c.args.segs.now c.loop-segment.segment-index past_end c.loop-segment-test.true (c.loop-segment.invariant.rest k)),
 )
 
 pub returns-then-not-suits : goal.returns-then-not-suits

@@ -12,7 +12,6 @@ unfolding runs_of state_on state_after doubled_gs1 characters_gs1
 loop-modes-init c =
     let input = c.args.input.now in
     let rows = reverse c.in_ok-table.table.items in
-    let none : length input - vec_len c.in_ok-table.table ≡ 0 = omega (arith, c.in_ok-table.ensures.0) in
     record {
       all = follow_in Gs1 Start input rows;
       best = assignment-from-table Gs1 c.args.version c.args.rule input rows c.in_ok-table.ensures.1;
@@ -26,8 +25,7 @@ loop-row-init c =
     let input = c.args.input.now in
     let i = length input - c.len.result - 1 in
     let at : (length input - vec_len l.table ≡ i) × (i < length input) × (length input - vec_len c.pop.new.self ≡ i + 1) × (vec_len c.pop.new.self ≤ length input) =
-    let some = c.in-Some.ensures.len in
-    search rules in
+    search (rules, c.in-Some.ensures.len) in
     let inv : IsWritten input l.invariant.all i l.found.items l.run.mode l.run.len l.run.state l.table.items l.characters.items l.copied = rw at.0 at l.invariant.written in
     let x = get_or input i 0 in
     let m = c.mode_at.result in
@@ -97,10 +95,9 @@ loop-row-preserved c =
     let rows = l.invariant.rows in
     let at : (i < length input) × (length input - vec_len new ≡ i + 1) × (vec_len new ≤ length input) × (vec_len new ≤ vec_len c.pop.new.self) =
     (omega arith, omega arith, omega arith, omega arith) in
-    let x = get_or input i 0 in
     let m = c.mode_at-in-Some-pop_unflagged.result in
     let run = c.in_ok-run-2.ensures in
-    let own = plain-character m x (search (arith, unescaped, reverse-append, drop_more)) in
+    let own = plain-character m (get_or input i 0) (search (arith, unescaped, reverse-append, drop_more)) in
     record {
       all = l.invariant.all;
       best = l.invariant.best;
@@ -114,7 +111,7 @@ loop-row-preserved c =
 pub loop-modes-preserved : goal.loop-modes-preserved
 loop-modes-preserved c =
     let inv = c.loop-row.invariant in
-    rw (c.pop_unflagged.ensures.none c.in_default-pop_unflagged.is) (record { all = inv.all; best = inv.best; rows = inv.rows; written = inv.written })
+    rw (c.pop_unflagged.ensures.none c.in_default-pop_unflagged.is) (search rules)
 
 pub loop-modes-smaller : goal.loop-modes-smaller
 loop-modes-smaller c = rw (c.pop_unflagged.ensures.none c.in_default-pop_unflagged.is) (omega (arith, c.loop-row.invariant.fewer, c.in-Some.ensures.len))
@@ -127,9 +124,8 @@ returns-clause-ok c =
     let input = c.args.input.now in
     let i = length input - vec_len l.table in
     let end : i ≡ length input = omega (arith, c.in_default.ensures.cases.0) in
-    let none : drop (length input) input ≡ [] = drop_all (length input) input (le_refl (length input)) in
     let whole : take i input ≡ input = take_all i input (omega arith) in
-    let all : inv.modes ≡ l.invariant.all = sym (append-nil inv.modes) ∙ (rw (end, none) at inv.led) in (
+    let all : inv.modes ≡ l.invariant.all = sym (append-nil inv.modes) ∙ (rw (end, (drop_all (length input) input (le_refl (length input)))) at inv.led) in (
       inv.modes,
       rw all l.invariant.best,
       c.in_ok-push_segment.ensures ∙ (rw whole at inv.runs),

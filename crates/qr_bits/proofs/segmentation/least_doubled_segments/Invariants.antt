@@ -1,6 +1,5 @@
-use Rattle.std.proofs.Common.{◌-◌, ◌≤◌, List, length, vec_len}
-use Rattle.qr_bits.specs.{declared.{interpretation.Interpretation.TheVariants.Gs1, modes.Mode.Mode}, Segmentation.IsBestAssignment}
-use Rattle.qr_bits.proofs.lemmas.segmentation.DoubledRunLemmas.{IsWritten}
+use Rattle.qr_bits.{proofs.lemmas.segmentation.DoubledRunLemmas.IsWritten, specs.Segmentation.IsBestAssignment}
+use Rattle.{qr_bits.specs.declared.{interpretation.Interpretation.TheVariants.Gs1, modes.Mode.Mode}, std.proofs.Common.{◌-◌, ◌≤◌, List, length, vec_len}}
 use Rattle.qr_bits.proofs.segmentation.least_doubled_segments.Given as goal
 
 abbrev pub invariant-loop-modes : goal.invariant-loop-modes

@@ -21,9 +21,8 @@ unfolding follow
 returns-clause-ok c =
     let i = c.loop-modes.invariant in
     let none : c.loop-modes.table.items ≡ [] = search (arith, nil_from_length) in
-    let whole : i.modes ≡ follow Start (reverse c.in_ok-table.table.items) = sym (append-nil i.modes) ∙ rw none at i.led in
     let xs = c.args.input.now in
     let rows = reverse c.in_ok-table.table.items in
     let many : length rows ≡ length xs = search (arith, length-reverse) in
     let best = assignment-from-table Default c.args.version c.args.rule xs rows c.in_ok-table.ensures.1 in
-    (i.modes, rw (whole, ← follow-default Start xs rows many) best, c.in_ok-push_segment.ensures ∙ i.runs, refl)
+    (i.modes, rw ((sym (append-nil i.modes) ∙ rw none at i.led), ← follow-default Start xs rows many) best, c.in_ok-push_segment.ensures ∙ i.runs, refl)

@@ -1,5 +1,4 @@
-use Rattle.std.proofs.Common.{◌≡◌, ◌++◌, map, drop, take}
-use Rattle.qr_bits.specs.Steps.Segmentation.{marked}
+use Rattle.{qr_bits.specs.Steps.Segmentation.marked, std.proofs.Common.{◌≡◌, ◌++◌, map, drop, take}}
 use Rattle.qr_bits.proofs.segmentation.mark_separators.Given as goal
 
 -- the characters so far are marked, and the others are as they were

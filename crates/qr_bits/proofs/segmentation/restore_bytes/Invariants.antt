@@ -1,5 +1,4 @@
-use Rattle.std.proofs.Common.{drop}
-use Rattle.qr_bits.proofs.lemmas.segmentation.MarkedLemmas.{IsRestored}
+use Rattle.{qr_bits.proofs.lemmas.segmentation.MarkedLemmas.IsRestored, std.proofs.Common.drop}
 use Rattle.qr_bits.proofs.segmentation.restore_bytes.Given as goal
 
 abbrev pub invariant-loop-segment : goal.invariant-loop-segment

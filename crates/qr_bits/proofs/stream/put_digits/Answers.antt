@@ -1,5 +1,4 @@
-use Rattle.std.proofs.{Common.arith, Common.append_assoc, lemmas.List.take_rest}
-use Rattle.qr_bits.proofs.lemmas.stream.WritingLemmas.{all-rest, digits-three}
+use Rattle.{qr_bits.proofs.lemmas.stream.WritingLemmas.{all-rest, digits-three}, std.proofs.{Common.{arith, append_assoc}, lemmas.List.take_rest}}
 use Rattle.qr_bits.proofs.stream.put_digits.Goals as goal
 
 pub loop-rest-preserved : goal.loop-rest-preserved

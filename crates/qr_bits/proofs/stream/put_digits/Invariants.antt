@@ -1,5 +1,4 @@
-use Rattle.std.{proofs.Common.{◌≡◌, ◌++◌, true, length}, specs.List.list_all}
-use Rattle.qr_bits.specs.{Modes.is_digit, Stream.digit_bits}
+use Rattle.{qr_bits.specs.{Modes.is_digit, Stream.digit_bits}, std.{proofs.Common.{◌≡◌, ◌++◌, true, length}, specs.List.list_all}}
 use Rattle.qr_bits.proofs.stream.put_digits.Given as goal
 
 -- what is written and what is left are the whole

@@ -1,5 +1,4 @@
-use Rattle.std.proofs.Common.{◌≡◌, ◌++◌, true, length}
-use Rattle.qr_bits.specs.{Modes.in_twos, Modes.is_kanji_pair, Stream.kanji_bits}
+use Rattle.{qr_bits.specs.{Modes.{in_twos, is_kanji_pair}, Stream.kanji_bits}, std.proofs.Common.{◌≡◌, ◌++◌, true, length}}
 use Rattle.qr_bits.proofs.stream.put_kanji.Given as goal
 
 -- what is written and what is left are the whole

@@ -1,5 +1,4 @@
-use Rattle.std.proofs.Common.{◌≡◌, ◌++◌, ◌<◌, ◌^◌, drop, length}
-use Rattle.qr_bits.specs.{Segmentation.Covers, Stream.segments_stream}
+use Rattle.{qr_bits.specs.{Segmentation.Covers, Stream.segments_stream}, std.proofs.Common.{◌≡◌, ◌++◌, ◌<◌, ◌^◌, drop, length}}
 use Rattle.qr_bits.proofs.stream.put_segments.Given as goal
 
 -- what is written and what is left are the whole

@@ -1,4 +1,4 @@
-use Rattle.qr_parsing.proofs.lemmas.laws.LawLemmas.{series-drawing, symbol-drawing}
+use Rattle.qr_parsing.proofs.lemmas.laws.{series-drawing, symbol-drawing}
 use Rattle.qr_parsing.proofs.laws.drawings_read_back.Goals as goal
 
 pub returns-clause-symbol : goal.returns-clause-symbol

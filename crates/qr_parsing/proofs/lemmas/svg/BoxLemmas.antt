@@ -1,11 +1,11 @@
 -- The boxes of an SVG document are at its dark modules: each box is a run, and each dark module is in one.
-use Rattle.std.proofs.Common.{◌≡◌, ◌≤◌, ◌<◌, ◌+◌, ◌-◌, ◌*◌, ◌∙◌, ◌++◌, ◌&&◌, leb, ltb, ℕ, zero, suc, Bool, true, false, cond, eqb, List, [], length, refl, sym, ap, subst, arith, inl, inr, append-nil, append_assoc}
-use Rattle.std.{proofs.{lemmas.Bool.{cases_lt, eqb-true, false_from_ne_true, Decides.nat_tests}, Math.Bool.or-false}, specs.List.{prefix_len, range_with_len}}
+use Rattle.std.proofs.Common.{◌≡◌, ◌≤◌, ◌<◌, ◌+◌, ◌-◌, ◌*◌, ◌∙◌, ◌++◌, ◌&&◌, leb, ltb, ℕ, zero, suc, Bool, true, false, cond, eqb, List, [], length, refl, sym, ap, subst, arith, append-nil, append_assoc}
+use Rattle.std.{proofs.{lemmas.Bool.{eqb-true, false_from_ne_true, Decides.nat_tests}, Math.Bool.or-false}, specs.List.{prefix_len, range_with_len}}
 use Rattle.std.proofs.lemmas.{Nat.same_from_place, List.Sums.{prefix_len-le-length, prefix_len_passes}, List.FromFn.{get_or-range_with_len, length-range_with_len}}
 use Rattle.qr_matrix.{specs.Grid.Grid, proofs.Facts.{&&-left, &&-right}}
 use Rattle.qr_drawing.{specs.Raster.{is_dark_at, raster_width, texts_below}, proofs.Facts.no-texts}
 use Rattle.qr_drawing.specs.Svg.{begins_run, row_path, run_length, run_path, square_at, stack_path, symbol_path}
-use Rattle.qr_parsing.{specs.Steps.Svg.{IsPath, is_in_boxes, numbers_after}, proofs.lemmas.{sheet.SheetLemmas.small, text.PlaceLemmas.texts-first}}
+use Rattle.qr_parsing.{specs.Steps.Svg.{IsPath, is_in_boxes, numbers_after}, proofs.lemmas.{sheet.small, text.PlaceLemmas.texts-first}}
 use Rattle.qr_parsing.proofs.lemmas.svg.NumberLemmas.{any-false, any-true, any_below, box-read, box_numbers, texts-boxes}
 
 -- ---- runs
@@ -13,10 +13,9 @@ use Rattle.qr_parsing.proofs.lemmas.svg.NumberLemmas.{any-false, any-true, any_b
 -- if more than d numbers from x on pass a test, the longest prefix that passes is longer than d
 prefix-more : (p : ℕ → Bool) (x d n : ℕ) → d < n → ((k : ℕ) → x ≤ k → k ≤ x + d → p k ≡ true) → d < prefix_len p (range_with_len x n)
 prefix-more p x d zero lt pass = absurd (omega arith)
-prefix-more p x zero (suc n) lt pass = rw (pass x (omega arith) (omega arith)) (omega arith)
+prefix-more p x zero (suc n) lt pass = search arith
 prefix-more p x (suc d) (suc n) lt pass =
-    let h = prefix-more p (x + 1) d n (omega arith) (λ k a b. pass k (omega arith) (omega arith)) in
-    rw (pass x (omega arith) (omega arith)) (omega arith)
+    let h = prefix-more p (x + 1) d n (omega arith) (λ k a b. pass k (omega arith) (omega arith)) in search arith
 
 -- a run begins at `from`, and is dark up to x
 record RunTo (margin : ℕ) (g : Grid) (y x : ℕ) : Type 0 where
@@ -28,38 +27,13 @@ record RunTo (margin : ℕ) (g : Grid) (y x : ℕ) : Type 0 where
 -- the next dark place is in the same run, or begins another
 run-next : (margin : ℕ) (g : Grid) (y x : ℕ) (b : Bool) → is_dark_at margin g y x ≡ b → (b ≡ true → RunTo margin g y x) → is_dark_at margin g y (suc x) ≡ true → RunTo margin g y (suc x)
 unfolding begins_run
-run-next margin g y x true e run dark =
-    let h = run refl in
-    let le = h.before in
-    record {
-      from = h.from;
-      before = omega arith;
-      begins = h.begins;
-      dark = λ k a b. elim (cases_lt x k) [
-        | inl l ↦ let f : k ≡ suc x = omega arith in rw f dark
-        | inr l ↦ h.dark k a l
-      ];
-    }
-run-next margin g y x false e run dark =
-    let f : suc x - 1 ≡ x = omega arith in
-    let none : eqb (suc x) 0 ≡ false = grind (arith, nat_tests) in
-    record {
-      from = suc x;
-      before = omega arith;
-      begins = rw (dark, f, e, none) refl;
-      dark = λ k a b. let f : k ≡ suc x = omega arith in rw f dark;
-    }
+run-next margin g y x b e run dark = grind (arith, nat_tests)
 
 -- a dark place is in a run that begins at it or to its left
 run-start : (margin : ℕ) (g : Grid) (y x : ℕ) → is_dark_at margin g y x ≡ true → RunTo margin g y x
 unfolding begins_run
-run-start margin g y zero dark = record {
-  from = 0;
-  before = omega arith;
-  begins = rw dark refl;
-  dark = λ k a b. let e : k ≡ 0 = omega arith in rw e dark;
-}
-run-start margin g y (suc x) dark = run-next margin g y x (is_dark_at margin g y x) refl (run-start margin g y x) dark
+run-start margin g y zero dark = search arith
+run-start margin g y (suc x) dark = search (arith, run-next, run-start margin g y x)
 
 -- the places of a run are dark
 run-dark : (margin : ℕ) (g : Grid) (y x c : ℕ) → x ≤ c → c < x + run_length margin g y x → is_dark_at margin g y c ≡ true
@@ -69,15 +43,12 @@ run-dark margin g y x c le lt =
     let n = raster_width margin g - x in
     let l = prefix_len-le-length p (range_with_len x n) in
     let m = length-range_with_len x n in
-    let e : x + (c - x) ≡ c = omega arith in
-    sym (ap p (get_or-range_with_len x n (c - x) 0 (omega arith) ∙ e)) ∙ prefix_len_passes p (range_with_len x n) (c - x) 0 (omega arith)
+    sym (ap p (get_or-range_with_len x n (c - x) 0 (omega arith) ∙ (omega arith))) ∙ prefix_len_passes p (range_with_len x n) (c - x) 0 (omega arith)
 
 -- a run is no longer than the raster is wide
 run-short : (margin : ℕ) (g : Grid) (y x : ℕ) → run_length margin g y x ≤ raster_width margin g - x
 unfolding run_length
-run-short margin g y x =
-    let m = length-range_with_len x (raster_width margin g - x) in
-    omega (arith, prefix_len-le-length (is_dark_at margin g y) (range_with_len x (raster_width margin g - x)))
+run-short margin g y x = search (arith, length-range_with_len, prefix_len-le-length)
 
 -- ---- the boxes of all rasters, which are `width` wide
 
@@ -109,7 +80,7 @@ unfolding stack_path symbol_path row_path all_numbers
 stack-both R none more margin squares wide few each =
     texts-both R none more (length squares) _ _ (λ k lt. let g = square_at squares k in let w = wide k lt in
     texts-both R none more (raster_width margin g) _ _ (λ y in_y.
-    texts-both R none more (raster_width margin g) _ _ (λ x in_x. each (k * raster_width margin g) g y x (let top : k * raster_width margin g ≤ 16 * 687 = small k (raster_width margin g) 16 687 (omega arith) w in omega arith) (omega arith) w)))
+    texts-both R none more (raster_width margin g) _ _ (search (arith, small))))
 
 -- the numbers that are read from the path are the numbers of all boxes
 pub stack-read : (margin : ℕ) (squares : List Grid) (rest : List ℕ) → ((k : ℕ) → k < length squares → raster_width margin (square_at squares k) ≤ 687) → length squares ≤ 16
@@ -117,7 +88,7 @@ pub stack-read : (margin : ℕ) (squares : List Grid) (rest : List ℕ) → ((k 
 unfolding run_path run_numbers
 stack-read margin squares rest wide few =
     stack-both (λ f g. (rest : List ℕ) → numbers_after 0 false (f ++ rest) ≡ g ++ numbers_after 0 false rest) (λ rest. refl)
-    (λ a b c d h k rest. cc (append_assoc a c rest, h (c ++ rest), k rest, append_assoc b d (numbers_after 0 false rest)))
+    (search (arith, append_assoc))
     margin squares wide few (search (arith, run-short, box_numbers, box-read)) rest
 
 -- the boxes of all squares, one after the other, are a path
@@ -127,7 +98,7 @@ unfolding run_path run_numbers box_numbers
 stack-is-path margin squares bytes wide few path =
     subst (λ n. IsPath n (stack_path margin squares ++ bytes)) (append-nil (all_numbers margin squares))
     (stack-both (λ f g. (numbers bytes : List ℕ) → IsPath numbers bytes → IsPath (g ++ numbers) (f ++ bytes)) (λ numbers bytes p. p)
-    (λ a b c d h k numbers bytes p. rw (append_assoc b d numbers, append_assoc a c bytes) (h (d ++ numbers) (c ++ bytes) (k numbers bytes p)))
+    (search (arith, append_assoc))
     margin squares wide few (search (arith, run-short)) [] bytes path)
 
 -- some box has the place
@@ -139,10 +110,9 @@ all-boxes : (margin : ℕ) (squares : List Grid) (r c : ℕ) → is_in_boxes (al
 unfolding all_numbers any_hits run_numbers hits box_numbers
 all-boxes margin squares r c =
     let W = λ (k : ℕ). raster_width margin (square_at squares k) in
-    let lines = λ (k y : ℕ). run_numbers (k * W k) margin (square_at squares k) y in
     let hit = λ (k y : ℕ). hits (W k) margin r c k (square_at squares k) y in
     ap (λ l. is_in_boxes l r c) (sym (append-nil (all_numbers margin squares)))
-    ∙ (texts-boxes r c (length squares) (λ k. texts_below (W k) (λ y. texts_below (W k) (lines k y))) (λ k. any_below (W k) (λ y. any_below (W k) (hit k y)))
+    ∙ (texts-boxes r c (length squares) (λ k. texts_below (W k) (λ y. texts_below (W k) (run_numbers (k * W k) margin (square_at squares k) y))) (λ k. any_below (W k) (λ y. any_below (W k) (hit k y)))
     (search (arith, texts-boxes, any_below, box_numbers)) []
     ∙ or-false (any_hits margin squares r c))
 
@@ -155,17 +125,7 @@ record Hit (width margin r c k : ℕ) (g : Grid) (y x : ℕ) : Type 0 where
 -- a box that has a place has it in its row and columns
 hits-in : (width margin r c k : ℕ) (g : Grid) (y x : ℕ) → hits width margin r c k g y x ≡ true → Hit width margin r c k g y x
 unfolding hits
-hits-in width margin r c k g y x h =
-    let rest = &&-right (begins_run margin g y x) _ h in
-    let row = &&-left (eqb (k * width + y) r) _ rest in
-    let cols = &&-right (eqb (k * width + y) r) _ rest in
-    let left = &&-left (leb x c) _ cols in
-    let right = &&-right (leb x c) _ cols in
-    record {
-      row = eqb-true (k * width + y) r row;
-      from = grind (arith, nat_tests, left);
-      to = grind (arith, nat_tests, right);
-    }
+hits-in width margin r c k g y x h = search (arith, &&-right, &&-left, eqb-true, nat_tests)
 
 -- a dark module is in a box
 boxes-on : (width margin : ℕ) (squares : List Grid) → ((k : ℕ) → k < length squares → raster_width margin (square_at squares k) ≡ width)
@@ -179,7 +139,6 @@ boxes-on width margin squares same k y x in_k in_y in_x dark =
     let f : s.from + (x - s.from) ≡ x = omega arith in
     let long : x - s.from < prefix_len (is_dark_at margin g y) (range_with_len s.from (raster_width margin g - s.from)) =
     prefix-more (is_dark_at margin g y) s.from (x - s.from) (raster_width margin g - s.from) (omega arith) (λ k a b. s.dark k a (omega arith)) in
-    let e : k * raster_width margin g + y ≡ k * width + y = ap (λ z. k * z + y) w in
     any-true (length squares) k _ in_k (any-true (raster_width margin g) y _ (omega arith) (any-true (raster_width margin g) s.from _ (omega arith)
     (search (arith, nat_tests))))
 
@@ -193,10 +152,7 @@ boxes-off width margin squares same k y x in_k in_y in_x light =
     let g = square_at squares i in
     let hit = hits-in (raster_width margin g) margin (k * width + y) x i g z s h in
     let e : i * width + z ≡ k * width + y = ap (λ v. i * v + z) (sym (same i in_i)) ∙ hit.row in
-    let place = same_from_place i z k y width (omega arith) in_y e in
-    let dark : is_dark_at margin g z x ≡ true = run-dark margin g z s x hit.from hit.to in
-    let d : true ≡ false = sym dark ∙ ((λ t. is_dark_at margin (square_at squares (place.0 t)) (place.1 t) x) ∙ light) in
-    cc))))
+    let place = same_from_place i z k y width (omega arith) in_y e in search (arith, run-dark)))))
 
 -- a place is in a box exactly if its module is dark
 pub boxes-dark : (width margin : ℕ) (squares : List Grid) → ((k : ℕ) → k < length squares → raster_width margin (square_at squares k) ≡ width)

@@ -27,7 +27,6 @@ painted w h y x col bytes old some lt le fits before i in_i = elim (cases_lt i (
 pub painted-two : (w h y x : ℕ) (old : List ℕ) → length old ≡ w * h → 0 < w → y < h → x + 1 < w
     → (i : ℕ) → i < length old → get_or (set (set old (y * w + x) 1) (y * w + (x + 1)) 1) i 0 ≡ cond (eqb (i / w) y && (leb x (i % w) && ltb (i % w) (x + 2))) 1 (get_or old i 0)
 painted-two w h y x old area some in_y in_x i in_i =
-    let one = place-in h w y x in_y (omega arith) in
     let two = place-in h w y (x + 1) in_y in_x in
     let long = length-set old (y * w + x) 1 in
     let first = painted w h y x x old old some (omega arith) (omega arith) (omega arith) (λ i l. none i) in
@@ -64,9 +63,7 @@ pub canvas-is : (w h n : ℕ) (bytes new numbers : List ℕ) → bytes ≡ repli
 canvas-is w h n bytes new numbers e f g painted =
     let k : n ≡ length new = f ∙ sym g in
     ap (λ z. take z (new ++ drop (length new) bytes)) k ∙ (take-append_seam new (drop (length new) bytes)
-    ∙ fill_by_all (λ i. cond (is_in_boxes numbers (i / w) (i % w)) 1 0) new (w * h) 0 g (λ i lt.
-    let long : length bytes ≡ w * h = ap length e ∙ length-replicate (w * h) 0 in
-    search (arith, get_or-replicate, painted)))
+    ∙ fill_by_all (λ i. cond (is_in_boxes numbers (i / w) (i % w)) 1 0) new (w * h) 0 g (search (arith, length-replicate, get_or-replicate, painted)))
 
 -- the byte of each module of a whole raster is on the canvas
 pub canvas-inside : (w high count k y x : ℕ) → 8 ≤ w → count ≡ high / w → k < count → y < w → x < w → (k * w + y) * w + x < w * high

@@ -6,7 +6,7 @@ use Rattle.qr_matrix.specs.Grid.{Grid}
 use Rattle.qr_drawing.specs.{Raster.{is_dark_at, raster_width}, Svg.{background, closing, declaration, foreground, numbered, opening, square_at, stack_path, svg_document}}
 use Rattle.qr_drawing.specs.declared.drawing.Drawing.TheVariants.{Svg}
 use Rattle.qr_parsing.specs.{Parsing.IsDrawingOf, Steps.Sheet.{ShowsOn, bytes_in, count_in, is_dark_byte, is_dark_on, kind_in, width_in}, Steps.Svg.{IsPath, canvas_of, is_in_boxes, numbers_after, numbers_in, path_in}}
-use Rattle.qr_parsing.proofs.lemmas.{sheet.SheetLemmas.{one-width, raster-wide, shows-by, small}, svg.BoxLemmas.{all_numbers, boxes-dark, stack-is-path, stack-read}, svg.NumberLemmas.number-read, svg.PathLemmas.{decimal-passed, path-from}, text.PlaceLemmas.place-in}
+use Rattle.qr_parsing.proofs.lemmas.{sheet.{one-width, raster-wide, shows-by, small}, svg.{BoxLemmas.{all_numbers, boxes-dark, stack-is-path, stack-read}, NumberLemmas.number-read, PathLemmas.{decimal-passed, path-from}}, text.PlaceLemmas.place-in}
 
 -- the numbers before the boxes
 head_numbers : ℕ → ℕ → List ℕ → List ℕ
@@ -39,24 +39,12 @@ document-read w h path numbers a b read =
     let second = decimal h ++ ((codes "\" shape-rendering=\"crispEdges\">\n" ++ codes "<rect x=\"0\" y=\"0\" width=\"") ++ back) in
     let some = λ (n : ℕ) (l : List ℕ). n ∷ l in
     ap (numbers_after 0 false) (document-split w h path)
-    ∙ ap (λ l. 1 ∷ 0 ∷ 8 ∷ 3 ∷ 2000 ∷ 1 ∷ 1 ∷ 0 ∷ 0 ∷ l) (number-read w 32 second a refl
-    ∙ ap (some w) (number-read h 34 _ b refl
-    ∙ ap (λ l. h ∷ 0 ∷ 0 ∷ l) (number-read w 34 _ a refl
-    ∙ ap (some w) (number-read h 34 _ b refl
-    ∙ ap (λ l. h ∷ 0 ∷ l) (read end ∙ append-nil numbers)))))
+    ∙ ap (λ l. 1 ∷ 0 ∷ 8 ∷ 3 ∷ 2000 ∷ 1 ∷ 1 ∷ 0 ∷ 0 ∷ l) (search (arith, number-read, append-nil))
 
 -- the path of a document is from its first `M` on
 document-path : (w h : ℕ) (path : List ℕ) → w ≤ 99999 → h ≤ 99999
     → path_in (declaration ++ opening w h ++ background w h ++ (codes "<path fill=\"#000000\" d=\"" ++ path ++ codes "\"/>\n") ++ closing) ≡ path_in (path ++ (codes "\"/>\n" ++ codes "</svg>\n"))
-document-path w h path a b =
-    let boxes = path ++ (codes "\"/>\n" ++ codes "</svg>\n") in
-    let last = decimal h ++ ((codes "\" fill=\"#ffffff\"/>\n" ++ codes "<path fill=\"#000000\" d=\"") ++ boxes) in
-    let back = decimal w ++ (codes "\" height=\"" ++ last) in
-    ap path_in (document-split w h path)
-    ∙ (decimal-passed w (codes " " ++ (decimal h ++ ((codes "\" shape-rendering=\"crispEdges\">\n" ++ codes "<rect x=\"0\" y=\"0\" width=\"") ++ back))) a
-    ∙ (decimal-passed h ((codes "\" shape-rendering=\"crispEdges\">\n" ++ codes "<rect x=\"0\" y=\"0\" width=\"") ++ back) b
-    ∙ (decimal-passed w (codes "\" height=\"" ++ last) a
-    ∙ decimal-passed h ((codes "\" fill=\"#ffffff\"/>\n" ++ codes "<path fill=\"#000000\" d=\"") ++ boxes) b)))
+document-path w h path a b = search (arith, document-split, decimal-passed)
 
 -- in this module, `text` is a drawing
 module _ (margin : ℕ) (squares : List Grid) (text : List ℕ) (h : IsDrawingOf Svg margin squares text) where

@@ -12,15 +12,8 @@ pub digits-by : {A : Type 0} (first : List ℕ → A) (next : ℕ → List ℕ �
     → (f n : ℕ) (rest : List ℕ) → n < f → n ≤ 99999 → first (decimal n ++ rest) ≡ next n rest
 digits-by first next begin step zero n rest lt le = absurd (omega arith)
 digits-by first next begin step (suc f) n rest lt le = elim (cases_lt n 10) [
-  | inl l ↦ let same : 0 * 10 + n ≡ n = omega arith in cc (decimal_digit n l, begin n rest l)
-  | inr g ↦
-      let whole : n / 10 * 10 + n % 10 ≡ n = omega arith in
-      cc (
-        decimal_step n g (omega arith),
-        append_assoc (decimal (n / 10)) ((48 + n % 10) ∷ []) rest,
-        digits-by first next begin step f (n / 10) ((48 + n % 10) ∷ rest) (omega arith) (omega arith),
-        step (n / 10) (n % 10) rest (omega arith) (omega arith),
-      )
+  | inl l ↦ search (arith, decimal_digit)
+  | inr g ↦ search (arith, decimal_step, append_assoc, digits-by first next begin step f (n / 10) ((48 + n % 10) ∷ rest) (omega arith) (omega arith))
 ]
 
 -- one more digit is read as ten times the number before it, plus the digit
@@ -32,8 +25,7 @@ digit-read m d inside rest lt le = search (arith, nat_tests)
 pub number-read : (n b : ℕ) (rest : List ℕ) → n ≤ 99999 → is_digit b ≡ false → numbers_after 0 false (decimal n ++ (b ∷ rest)) ≡ n ∷ numbers_after 0 false rest
 unfolding numbers_after
 number-read n b rest le e =
-    let digits = digits-by (numbers_after 0 false) (λ m. numbers_after m true) (λ d rest lt. digit-read 0 d false rest lt (omega arith)) (λ m d rest lt le. digit-read m d true rest lt le) (suc n) n (b ∷ rest) (omega arith) le in
-    search arith
+    search (arith, digits-by (numbers_after 0 false) (λ m. numbers_after m true) (λ d rest lt. digit-read 0 d false rest lt (omega arith)) (λ m d rest lt le. digit-read m d true rest lt le) (suc n) n (b ∷ rest) (omega arith) le)
 
 -- the five numbers of a box
 unfoldable pub box_numbers : ℕ → ℕ → ℕ → List ℕ
@@ -65,8 +57,7 @@ leading-digit m d rest lt = search (arith, nat_tests)
 pub leading-read : (n b : ℕ) (rest : List ℕ) → n ≤ 99999 → is_digit b ≡ false → leading 0 (decimal n ++ (b ∷ rest)) ≡ (n, rest)
 unfolding leading
 leading-read n b rest le e =
-    let digits = digits-by (leading 0) leading (λ d rest lt. leading-digit 0 d rest lt) (λ m d rest lt le. leading-digit m d rest lt) (suc n) n (b ∷ rest) (omega arith) le in
-    search arith
+    search (arith, digits-by (leading 0) leading (λ d rest lt. leading-digit 0 d rest lt) (λ m d rest lt le. leading-digit m d rest lt) (suc n) n (b ∷ rest) (omega arith) le)
 
 -- a digit is a byte that is at most 9 more than `0`
 pub digit-by : (b : ℕ) → b < 256 → (b + 208) % 256 ≤ 9 → is_digit b ≡ true
@@ -108,7 +99,7 @@ pub any-true : (n k : ℕ) (p : ℕ → Bool) → k < n → p k ≡ true → any
 unfolding any_below
 any-true zero k p lt e = absurd (omega arith)
 any-true (suc n) zero p lt e = rw e refl
-any-true (suc n) (suc k) p lt e = let h = any-true n k (λ k. p (suc k)) (omega arith) e in rw h (grind (arith, nat_tests))
+any-true (suc n) (suc k) p lt e = rw (any-true n k (λ k. p (suc k)) (omega arith) e) (grind (arith, nat_tests))
 
 -- if no number below n passes, `any_below` is false
 pub any-false : (n : ℕ) (p : ℕ → Bool) → ((k : ℕ) → k < n → p k ≡ false) → any_below n p ≡ false

@@ -62,10 +62,9 @@ no-box numbers bytes h none = grind (arith, box-split, length-append, column-lon
 pub path-start : (text : List ℕ) → drop (position_or_len (λ byte. eqb byte 77) text) text ≡ path_in text
 path-start [] = refl
 path-start (b ∷ bytes) =
-    let h = path-start bytes in
     elim (eqb b 77) as (λ d. drop (cond (not d) (1 + position_or_len (λ byte. eqb byte 77) bytes) 0) (b ∷ bytes) ≡ cond d (b ∷ bytes) (path_in bytes)) [
       | true ↦ refl
-      | false ↦ search arith
+      | false ↦ search (arith, path-start bytes)
     ]
 
 -- the path of a text does not begin at a digit

@@ -6,7 +6,7 @@ use Rattle.qr_matrix.specs.Grid.{Grid}
 use Rattle.qr_drawing.specs.{Raster.{is_dark_at, raster_width, texts_below}, Svg.square_at, Text.ascii_module, declared.drawing.Drawing.Drawing}
 use Rattle.qr_drawing.specs.declared.drawing.Drawing.TheVariants.{Ascii, AsciiInverse}
 use Rattle.qr_parsing.specs.{Parsing.IsDrawingOf, Steps.Sheet.{ShowsOn, bytes_in, count_in, is_dark_byte, is_dark_on, kind_in, place_of, width_in}, Steps.Text.first_line}
-use Rattle.qr_parsing.proofs.lemmas.sheet.SheetLemmas.{raster-wide, separator-light, shows-by}
+use Rattle.qr_parsing.proofs.lemmas.sheet.{raster-wide, separator-light, shows-by}
 use Rattle.qr_parsing.proofs.lemmas.text.PlaceLemmas.{cell-at, cells-length, cells-newline, cells-without, cells_text, position-none, squares-text}
 
 -- a module is two characters

@@ -6,7 +6,7 @@ use Rattle.qr_matrix.specs.Grid.{Grid}
 use Rattle.qr_drawing.specs.{Raster.{is_dark_at, raster_width, texts_below}, Svg.square_at, Text.half_blocks, declared.drawing.Drawing.TheVariants.Utf8}
 use Rattle.qr_drawing.proofs.Facts.{no-texts, texts_below-length}
 use Rattle.qr_parsing.specs.{Parsing.IsDrawingOf, Steps.Sheet.{ShowsOn, bytes_in, count_in, is_dark_byte, is_dark_on, kind_in, place_of, width_in}, Steps.Text.{cells_in, first_line, is_cell}}
-use Rattle.qr_parsing.proofs.lemmas.sheet.SheetLemmas.{raster-wide, separator-light, shows-by}
+use Rattle.qr_parsing.proofs.lemmas.sheet.{raster-wide, separator-light, shows-by}
 use Rattle.qr_parsing.proofs.lemmas.text.PlaceLemmas.{cell-at, cells-filter, cells-first, cells-length, cells-newline, cells_text, position-below, squares-text}
 
 -- of the bytes of a character one is kept, the last

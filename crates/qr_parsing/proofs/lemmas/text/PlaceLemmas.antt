@@ -1,11 +1,10 @@
 -- The bytes of texts by their index. A text consists of the texts of places, or of lines of cells.
+use Rattle.qr_drawing.{proofs.Facts.{no-texts, texts_below-alike, texts-of-items}, specs.{Drawing.HaveOneSide, Raster.{raster_width, texts_below}}}
+use Rattle.{qr_drawing.specs.Svg.square_at, qr_matrix.specs.Grid.{Grid, light}, qr_parsing.{proofs.lemmas.sheet.one-width, specs.Steps.Text.first_line}}
 use Rattle.std.proofs.Common.{◌≡◌, ◌≤◌, ◌<◌, ◌+◌, ◌-◌, ◌*◌, ◌/◌, ◌∙◌, ◌++◌, ℕ, zero, suc, Bool, true, false, eqb, List, [], ◌∷◌, length, get_or, refl, ap, arith, inl, inr, length-append}
-use Rattle.std.{proofs.{Math.Nat.{suc-mul, mul-le-mul_right}, lemmas.Bool.cases_lt}, specs.List.{filter, flat_map, position_or_len, range_with_len}}
-use Rattle.std.proofs.lemmas.List.{get_or_append_left, get_or-append-add, get_or-append_right, Sums.{fails_before_first, position_or_len_is}, Elements.filter-append}
-use Rattle.qr_matrix.specs.Grid.{Grid, light}
-use Rattle.qr_drawing.specs.{Drawing.HaveOneSide, Raster.{raster_width, texts_below}, Svg.square_at}
-use Rattle.qr_drawing.proofs.Facts.{no-texts, texts_below-alike, texts-of-items}
-use Rattle.qr_parsing.{specs.Steps.Text.first_line, proofs.lemmas.sheet.SheetLemmas.one-width}
+use Rattle.std.proofs.{Math.Nat.{suc-mul, mul-le-mul_right}, lemmas.{Bool.cases_lt, List.{get_or_append_left, get_or-append-add, get_or-append_right}}}
+use Rattle.std.proofs.lemmas.List.{Elements.filter-append, Sums.{fails_before_first, position_or_len_is}}
+use Rattle.std.specs.List.{filter, flat_map, position_or_len, range_with_len}
 
 -- the texts from place a + 1 on are the texts of the next places from a on
 shifted : (a n : ℕ) (f : ℕ → List ℕ) → flat_map f (range_with_len (a + 1) n) ≡ flat_map (λ i. f (suc i)) (range_with_len a n)
@@ -22,8 +21,7 @@ pub texts-length : (n len : ℕ) (f : ℕ → List ℕ) → ((k : ℕ) → k < n
 texts-length zero len f h = ap length (no-texts f) ∙ omega arith
 texts-length (suc n) len f h =
     let e = ap length (texts-first n f) ∙ length-append (f 0) (texts_below n (λ i. f (suc i))) in
-    let t = texts-length n len (λ i. f (suc i)) (λ k lt. h (suc k) (omega arith)) in
-    omega (arith, h 0 (omega arith), suc-mul n len)
+    omega (arith, h 0 (omega arith), suc-mul n len, texts-length n len (λ i. f (suc i)) (λ k lt. h (suc k) (omega arith)))
 
 -- byte j of the text i comes after the texts before it and j bytes of its own
 pub text-after : (n i j : ℕ) (f : ℕ → List ℕ) → i < n → j < length (f i) → get_or (texts_below n f) (length (texts_below i f) + j) 0 ≡ get_or (f i) j 0
@@ -55,7 +53,7 @@ text-at n len i j f h lt l = search (arith, texts-length, text-after)
 -- a byte that is in none of the texts is not in all of them together
 pub texts-without : (b n : ℕ) (f : ℕ → List ℕ) → ((k j : ℕ) → k < n → j < length (f k) → eqb (get_or (f k) j 0) b ≡ false)
     → (i : ℕ) → i < length (texts_below n f) → eqb (get_or (texts_below n f) i 0) b ≡ false
-texts-without b zero f h i lt = let e = ap length (no-texts f) in absurd (omega arith)
+texts-without b zero f h i lt = search (arith, no-texts)
 texts-without b (suc n) f h i lt =
     let rest = texts_below n (λ i. f (suc i)) in
     let e = ap length (texts-first n f) ∙ length-append (f 0) rest in
@@ -93,7 +91,7 @@ squares-text lines cell margin squares one =
     let at = λ (w k : ℕ). texts_below (lines w) (λ y. texts_below w (cell (square_at squares k) y) ++ 10 ∷ []) in
     texts-of-items (λ g. texts_below (lines (raster_width margin g)) (λ y. texts_below (raster_width margin g) (cell g y) ++ 10 ∷ [])) squares (light 0)
     ∙ texts_below-alike (length squares) (λ k. at (raster_width margin (square_at squares k)) k) (at (raster_width margin (square_at squares 0)))
-    (λ k lt. ap (λ w. at w k) (one-width margin k squares one lt))
+    (search (arith, one-width))
 
 -- in this module, each cell has `size` bytes
 module _ (count lines width size : ℕ) (cell : ℕ → ℕ → ℕ → List ℕ) (sizes : (k y x : ℕ) → length (cell k y x) ≡ size) where
@@ -156,8 +154,7 @@ cells-first count lines width x j cell some one lt l =
     let a : at < length (line 0 0) = omega (arith, length-append cells (10 ∷ [])) in
     let e : length (texts_below 0 (line 0)) + at ≡ at = omega (arith, ap length (no-texts (line 0))) in
     let b : at < length (texts_below lines (line 0)) = omega (arith, text-inside lines 0 at (line 0) one a) in
-    let c = text-inside count 0 at (λ k. texts_below lines (line k)) some b in
-    search (arith, no-texts, text-after, get_or_append_left)
+    search (arith, no-texts, text-after, get_or_append_left, text-inside count 0 at (λ k. texts_below lines (line k)) some b)
 
 -- a byte that none of the cells has is in no line
 pub cells-without : (b count lines width : ℕ) (cell : ℕ → ℕ → ℕ → List ℕ) → eqb 10 b ≡ false
@@ -171,10 +168,9 @@ cells-without b count lines width cell end none =
     line : (k y j : ℕ) → j < length (texts_below width (cell k y) ++ 10 ∷ []) → eqb (get_or (texts_below width (cell k y) ++ 10 ∷ []) j 0) b ≡ false
     line k y j l =
         let cells = texts_below width (cell k y) in
-        let e = length-append cells (10 ∷ []) in
         elim (cases_lt j (length cells)) [
           | inl lt ↦ ap (λ z. eqb z b) (get_or_append_left cells (10 ∷ []) 0 j lt) ∙ texts-without b width (cell k y) (λ x j lt l. none k y x j l) j lt
-          | inr ge ↦ let f : j ≡ length cells + 0 = omega arith in rw (f, get_or-append-add cells (10 ∷ []) 0 0) end
+          | inr ge ↦ let f : j ≡ length cells + 0 = omega (arith, length-append cells (10 ∷ [])) in rw (f, get_or-append-add cells (10 ∷ []) 0 0) end
         ]
 
 -- a byte that is in a text has a first place

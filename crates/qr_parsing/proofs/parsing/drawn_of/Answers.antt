@@ -1,19 +1,16 @@
-use Rattle.std.proofs.Common.{rules, ◌+◌, ◌-◌, ◌*◌, ◌∙◌, sym, arith}
-use Rattle.qr_parsing.{specs.Steps.Sheet.is_dark_on, proofs.lemmas.parsing.GuessLemmas.{can-be-drawn, guessed}}
+use Rattle.{qr_parsing.{proofs.lemmas.parsing.{can-be-drawn, guessed}, specs.Steps.Sheet.is_dark_on}, std.proofs.Common.{rules, ◌+◌, ◌-◌, ◌*◌, arith}}
 use Rattle.qr_parsing.proofs.parsing.drawn_of.Goals as goal
-use Rattle.qr_parsing.proofs.parsing.drawn_of.Goals.{then-sheet-eq0-via-then-sheet-eq0, then-sheet-eq0-via-else-sheet-eq0+then-sheet-gt-COUNT_MAX}
 
 pub returns-then-margin-gt255 : goal.returns-then-margin-gt255
 returns-then-margin-gt255 c text is kind margin squares h =
     let s = c.args.sheet.now in
-    let g = guessed s.kind s.width s.count s.bytes.now c.margin_of-margin.result text is c.margin_of-margin.ensures.light c.margin_of-margin.ensures.dark kind margin squares h in
-    search rules
+    search (rules, guessed s.kind s.width s.count s.bytes.now c.margin_of-margin.result text is c.margin_of-margin.ensures.light c.margin_of-margin.ensures.dark kind margin squares h)
 
 pub returns-then-sheet-eq0 : goal.returns-then-sheet-eq0
 returns-then-sheet-eq0 c text is kind margin squares h =
     let s = c.args.sheet.now in
     let g = guessed s.kind s.width s.count s.bytes.now c.margin_of-margin.result text is c.margin_of-margin.ensures.light c.margin_of-margin.ensures.dark kind margin squares h in
-    elim c.then-sheet-eq0.branch [ then-sheet-eq0-via-then-sheet-eq0 w ↦ omega arith | then-sheet-eq0-via-else-sheet-eq0+then-sheet-gt-COUNT_MAX w ↦ omega arith ]
+    search rules
 
 pub returns : goal.returns
 returns c text is =
@@ -23,5 +20,5 @@ returns c text is =
       drawable = can-be-drawn (s.width - 2 * m) s.count (λ k row col. is_dark_on s.kind s.width s.bytes.now k (m + row) (m + col)) c.in_ok-squares.squares.items c.in_ok-squares.ensures (omega arith) (omega arith);
       only = λ k n squares h.
           let g = guessed s.kind s.width s.count s.bytes.now m text is c.margin_of-margin.ensures.light c.margin_of-margin.ensures.dark k n squares h in
-          (g.kind_is, g.margin_is, g.squares_are ∙ sym c.in_ok-squares.ensures);
+          search rules;
     }

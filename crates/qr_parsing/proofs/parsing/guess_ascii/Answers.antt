@@ -1,4 +1,4 @@
-use Rattle.qr_parsing.proofs.lemmas.parsing.GuessLemmas.{none-wide}
+use Rattle.qr_parsing.proofs.lemmas.parsing.{none-wide}
 use Rattle.qr_parsing.proofs.parsing.guess_ascii.Goals as goal
 
 pub returns-in_default : goal.returns-in_default

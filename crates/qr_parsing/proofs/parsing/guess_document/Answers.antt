@@ -1,5 +1,5 @@
 use Rattle.std.proofs.Common.{rules, ◌≡◌, ◌/◌, ◌∙◌, length, ap, sym, arith}
-use Rattle.qr_parsing.proofs.lemmas.{svg.{DocumentLemmas.svg-path, CanvasLemmas.canvas-inside}, parsing.GuessLemmas.{kind-shown, none-wide}}
+use Rattle.qr_parsing.proofs.lemmas.{svg.{DocumentLemmas.svg-path, CanvasLemmas.canvas-inside}, parsing.{kind-shown, none-wide}}
 use Rattle.qr_parsing.proofs.parsing.guess_document.Goals as goal
 
 pub returns-in_default : goal.returns-in_default
@@ -14,4 +14,4 @@ invariant_of-sheet-clause-whole c = λ k y x a b l.
     omega (arith, canvas-inside w h c.in-Some.size.count k y x (omega arith) count a b l, ap length c.deref.ensures.value ∙ c.in_ok-canvas.ensures.area)
 
 pub returns : goal.returns
-returns c = search (rules, kind-shown, svg-path, c.args.text.now, c.in-Some.ensures.size)
+returns c = search (rules, kind-shown, svg-path)

@@ -1,5 +1,4 @@
-use Rattle.std.proofs.Common.{◌∙◌}
-use Rattle.qr_parsing.proofs.lemmas.parsing.GuessLemmas.{none-wide}
+use Rattle.{qr_parsing.proofs.lemmas.parsing.none-wide, std.proofs.Common.◌∙◌}
 use Rattle.qr_parsing.proofs.parsing.guess_half_blocks.Goals as goal
 
 pub returns-in_default : goal.returns-in_default

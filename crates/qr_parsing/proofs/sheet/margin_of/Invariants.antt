@@ -1,5 +1,4 @@
-use Rattle.std.proofs.Common.{◌≡◌, ℕ, ◌<◌, false}
-use Rattle.qr_parsing.specs.Steps.Sheet.{is_dark_on}
+use Rattle.{qr_parsing.specs.Steps.Sheet.is_dark_on, std.proofs.Common.{◌≡◌, ℕ, ◌<◌, false}}
 use Rattle.qr_parsing.proofs.sheet.margin_of.Given as goal
 
 -- the modules of the diagonal before the current one are light

@@ -1,5 +1,4 @@
-use Rattle.std.proofs.{Common.arith, lemmas.List.length-replicate, Math.Seq.take-append_seam}
-use Rattle.qr_matrix.proofs.Facts.{square-same}
+use Rattle.{qr_matrix.proofs.Facts.square-same, std.proofs.{Common.arith, Math.Seq.take-append_seam, lemmas.List.length-replicate}}
 use Rattle.qr_parsing.proofs.sheet.square_of.Goals as goal
 
 pub returns : goal.returns

@@ -1,6 +1,4 @@
-use Rattle.std.{proofs.Common.{◌≡◌, ◌+◌, map}, specs.List.range_with_len}
-use Rattle.qr_matrix.specs.Grid.{square}
-use Rattle.qr_parsing.specs.Steps.Sheet.{is_dark_on}
+use Rattle.{qr_matrix.specs.Grid.square, qr_parsing.specs.Steps.Sheet.is_dark_on, std.{proofs.Common.{◌≡◌, ◌+◌, map}, specs.List.range_with_len}}
 use Rattle.qr_parsing.proofs.sheet.squares_of.Given as goal
 
 -- the squares before the current one have been made of the sheet

@@ -1,6 +1,4 @@
-use Rattle.std.proofs.Common.{◌≡◌, ℕ, ◌+◌, ◌*◌, ◌<◌, length, slice_index_or}
-use Rattle.qr_matrix.specs.Bytes.{byte_of}
-use Rattle.qr_parsing.specs.Steps.Sheet.{is_sign}
+use Rattle.{qr_matrix.specs.Bytes.byte_of, qr_parsing.specs.Steps.Sheet.is_sign, std.proofs.Common.{◌≡◌, ℕ, ◌+◌, ◌*◌, ◌<◌, length, slice_index_or}}
 use Rattle.qr_parsing.proofs.sheet.write_by.Given as goal
 
 -- the modules before the current one have been written

@@ -1,6 +1,4 @@
-use Rattle.std.proofs.Common.{◌≡◌, ℕ, ◌+◌, ◌*◌, ◌<◌, length, slice_index_or}
-use Rattle.qr_matrix.specs.Bytes.{byte_of}
-use Rattle.qr_parsing.specs.Steps.Sheet.{is_dark_on}
+use Rattle.{qr_matrix.specs.Bytes.byte_of, qr_parsing.specs.Steps.Sheet.is_dark_on, std.proofs.Common.{◌≡◌, ℕ, ◌+◌, ◌*◌, ◌<◌, length, slice_index_or}}
 use Rattle.qr_parsing.proofs.sheet.write_modules.Given as goal
 
 -- the rows before the current one have been written

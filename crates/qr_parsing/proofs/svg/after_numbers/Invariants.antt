@@ -1,5 +1,4 @@
-use Rattle.std.proofs.Common.{◌≡◌, drop}
-use Rattle.qr_parsing.specs.Steps.Svg.{numbers_in}
+use Rattle.{qr_parsing.specs.Steps.Svg.numbers_in, std.proofs.Common.{◌≡◌, drop}}
 use Rattle.qr_parsing.proofs.svg.after_numbers.Given as goal
 
 -- the numbers of the rest are those of the text without the first `counter`

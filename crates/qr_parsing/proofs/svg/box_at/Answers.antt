@@ -1,4 +1,4 @@
-use Rattle.std.proofs.Common.{rules, ◌≡◌, ◌<◌, ◌+◌, ◌∙◌, ◌∷◌, ℕ, List, decimal, drop, length, get_or, refl, sym, ap, subst, arith, length-drop}
+use Rattle.std.proofs.Common.{rules, ◌≡◌, ◌<◌, ◌+◌, ◌∙◌, ℕ, List, decimal, drop, length, get_or, refl, sym, ap, subst, arith, length-drop}
 use Rattle.std.proofs.lemmas.List.{get_or-drop}
 use Rattle.qr_parsing.{specs.Steps.Svg.IsPath, proofs.lemmas.svg.NumberLemmas.{digits-one, digits-two, digits-three}}
 use Rattle.qr_parsing.proofs.lemmas.svg.PathLemmas.{FirstBox, after-box, after-m, after_column, after_modules, after_row, column-long, first-box, modules-long, no-box, row-long}
@@ -14,8 +14,7 @@ returns-then-at-text-clause-reads c numbers path = search (rules, no-box, length
 pub returns-in_err-x-clause-reads : goal.returns-in_err-x-clause-reads
 returns-in_err-x-clause-reads c numbers path =
     let text = c.args.text.now in
-    let b = found text numbers c.args.at path (omega arith) c.if-text-at-ne77.false in
-    absurd (c.in_err-x.ensures.reads b.x 32 (after_column b.y b.modules b.rest) (omega arith) refl (omega (arith, column-long b.y b.modules b.rest b.modules_in)) (after-m text _ c.args.at b.bytes_are))
+    let b = found text numbers c.args.at path (omega arith) c.if-text-at-ne77.false in search (rules, after_column, column-long, after-m)
 
 pub returns-in_err-y-clause-reads : goal.returns-in_err-y-clause-reads
 unfolding after_column after_row after_modules
@@ -30,7 +29,7 @@ returns-in_err-modules-clause-reads c numbers path =
     let text = c.args.text.now in
     let b = found text numbers c.args.at path (omega arith) c.if-text-at-ne77.false in
     let x : (c.in_ok-x.x ≡ b.x) × (drop c.in_ok-x.after_x text ≡ after_column b.y b.modules b.rest) =
-    c.in_ok-x.ensures.reads b.x 32 (after_column b.y b.modules b.rest) (omega arith) refl (omega (arith, column-long b.y b.modules b.rest b.modules_in)) (after-m text _ c.args.at b.bytes_are) in
+    c.in_ok-x.ensures.reads b.x 32 (after_column b.y b.modules b.rest) (omega arith) refl (search (rules, column-long)) (after-m text _ c.args.at b.bytes_are) in
     search (rules, after_row, row-long, after_modules, modules-long)
 
 pub returns-then-after_modules-back-clause-reads : goal.returns-then-after_modules-back-clause-reads
@@ -39,7 +38,7 @@ returns-then-after_modules-back-clause-reads c numbers path =
     let text = c.args.text.now in
     let b = found text numbers c.args.at path (omega arith) c.if-text-at-ne77.false in
     let x : (c.in_ok-x.x ≡ b.x) × (drop c.in_ok-x.after_x text ≡ after_column b.y b.modules b.rest) =
-    c.in_ok-x.ensures.reads b.x 32 (after_column b.y b.modules b.rest) (omega arith) refl (omega (arith, column-long b.y b.modules b.rest b.modules_in)) (after-m text _ c.args.at b.bytes_are) in
+    c.in_ok-x.ensures.reads b.x 32 (after_column b.y b.modules b.rest) (omega arith) refl (search (rules, column-long)) (after-m text _ c.args.at b.bytes_are) in
     let y : (c.in_ok-y.y ≡ b.y) × (drop c.in_ok-y.after_y text ≡ after_row b.modules b.rest) =
     search (rules, after_row, row-long) in
     let n : (c.in_ok-modules.modules ≡ b.modules) × (drop c.in_ok-modules.after_modules text ≡ after_modules b.modules b.rest) =
@@ -54,7 +53,7 @@ returns-clause-reads c numbers path =
     let text = c.args.text.now in
     let b = found text numbers c.args.at path (omega arith) c.if-text-at-ne77.false in
     let x : (c.in_ok-x.x ≡ b.x) × (drop c.in_ok-x.after_x text ≡ after_column b.y b.modules b.rest) =
-    c.in_ok-x.ensures.reads b.x 32 (after_column b.y b.modules b.rest) (omega arith) refl (omega (arith, column-long b.y b.modules b.rest b.modules_in)) (after-m text _ c.args.at b.bytes_are) in
+    c.in_ok-x.ensures.reads b.x 32 (after_column b.y b.modules b.rest) (omega arith) refl (search (rules, column-long)) (after-m text _ c.args.at b.bytes_are) in
     let y : (c.in_ok-y.y ≡ b.y) × (drop c.in_ok-y.after_y text ≡ after_row b.modules b.rest) =
     search (rules, after_row, row-long) in
     let n : (c.in_ok-modules.modules ≡ b.modules) × (drop c.in_ok-modules.after_modules text ≡ after_modules b.modules b.rest) =
@@ -65,6 +64,6 @@ returns-clause-reads c numbers path =
       b.high,
       b.back,
       b.more,
-      b.numbers_are ∙ (λ i. sym x.0 i ∷ sym y.0 i ∷ sym n.0 i ∷ b.high ∷ b.back ∷ b.more),
+      b.numbers_are ∙ (search rules),
       subst (IsPath b.more) (sym after) b.path,
     )

@@ -1,5 +1,4 @@
-use Rattle.std.proofs.{Common.rules, lemmas.List.length-replicate, Math.Seq.take-append_seam}
-use Rattle.qr_parsing.proofs.lemmas.svg.CanvasLemmas.{canvas-is}
+use Rattle.{qr_parsing.proofs.lemmas.svg.CanvasLemmas.canvas-is, std.proofs.{Common.rules, Math.Seq.take-append_seam, lemmas.List.length-replicate}}
 use Rattle.qr_parsing.proofs.svg.canvas_of.Goals as goal
 
 pub returns : goal.returns

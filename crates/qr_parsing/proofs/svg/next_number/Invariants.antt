@@ -1,5 +1,4 @@
-use Rattle.std.proofs.Common.{◌≡◌, ◌≤◌, false, length}
-use Rattle.qr_parsing.specs.Steps.Svg.{numbers_after, numbers_in}
+use Rattle.{qr_parsing.specs.Steps.Svg.{numbers_after, numbers_in}, std.proofs.Common.{◌≡◌, ◌≤◌, false, length}}
 use Rattle.qr_parsing.proofs.svg.next_number.Given as goal
 
 -- the numbers of the text are those that are read from the rest, if the digits before the rest are read as `number`

@@ -8,8 +8,7 @@ parts : (text rest : List ℕ) (at n byte : ℕ) → drop at text ≡ decimal n 
 parts text rest at n byte is = omega (arith, sym (length-drop at text) ∙ (ap length is ∙ length-append (decimal n) (byte ∷ rest)))
 
 pub returns-then-at-text-clause-reads : goal.returns-then-at-text-clause-reads
-returns-then-at-text-clause-reads c n byte rest le e long is =
-    absurd (omega (arith, parts c.args.text.now rest c.args.at n byte is, decimal_nonempty n, c.if-at-text.true))
+returns-then-at-text-clause-reads c n byte rest le e long is = search (rules, parts, decimal_nonempty)
 
 pub returns-then-digit-gt9-clause-reads : goal.returns-then-digit-gt9-clause-reads
 unfolding leading
@@ -25,7 +24,6 @@ loop-i-preserved c =
     let digit = digit-by here byte_in c.if-digit-gt9.false in
     let lt : place < length text = omega arith in
     let value : c.from.result ≡ here - 48 = omega arith in
-    let next : place + 1 ≡ c.args.at + (c.loop-i.i + 1) = omega arith in
     record {
       small = one-digit-more c.loop-i.number c.from.result c.loop-i.i c.loop-i.invariant.small (omega arith);
       reads = search (rules, drop-one);
@@ -37,5 +35,11 @@ returns-clause-reads c n byte rest le e long is =
     let place = c.args.at + c.loop-i.i in
     let same : ◌≡◌ {A = ℕ × List ℕ} (leading c.loop-i.number (drop place text)) (n, rest) =
     search (rules, leading-read) in
-    let after = ap (λ (p : ℕ × List ℕ). length p.1) same in
-    omega (arith, leading-shorter c.loop-i.number (drop place text), length-drop place text, parts text rest c.args.at n byte is, length-decimal-le 5 n (omega arith) (omega arith) (omega arith))
+    omega (
+      arith,
+      leading-shorter c.loop-i.number (drop place text),
+      length-drop place text,
+      parts text rest c.args.at n byte is,
+      length-decimal-le 5 n (omega arith) (omega arith) (omega arith),
+      ap (λ (p : ℕ × List ℕ). length p.1) same,
+    )

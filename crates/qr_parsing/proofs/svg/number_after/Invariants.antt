@@ -1,5 +1,4 @@
-use Rattle.std.proofs.Common.{◌≡◌, ◌<◌, ◌+◌, ◌^◌, drop}
-use Rattle.qr_parsing.specs.Steps.Svg.{leading}
+use Rattle.{qr_parsing.specs.Steps.Svg.leading, std.proofs.Common.{◌≡◌, ◌<◌, ◌+◌, ◌^◌, drop}}
 use Rattle.qr_parsing.proofs.svg.number_after.Given as goal
 
 -- the number that the text begins with is read on from its first i digits, which have been read as `number`

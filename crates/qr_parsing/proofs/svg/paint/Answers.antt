@@ -19,6 +19,5 @@ loop-col-preserved c i lt =
     let in_col : col < w = omega arith in
     let place = place-in c.args.height w y col c.if-y-height.true in_col in
     let same : length c.loop-col.bytes ≡ length c.args.bytes.now = search (rules, length-set) in
-    let fits : y * w + col < length c.loop-col.bytes = omega arith in
     let in_i : i < length c.loop-col.bytes = omega (arith, length-set c.loop-col.bytes (y * w + col) 1) in
-    painted w c.args.height y c.args.x col c.loop-col.bytes c.args.bytes.now c.requires.some in_col (omega arith) fits c.loop-col.invariant i in_i
+    painted w c.args.height y c.args.x col c.loop-col.bytes c.args.bytes.now c.requires.some in_col (omega arith) (omega arith) c.loop-col.invariant i in_i

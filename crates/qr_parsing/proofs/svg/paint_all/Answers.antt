@@ -1,4 +1,4 @@
-use Rattle.std.proofs.{Common.{rules, ◌≡◌, ◌/◌, ◌%◌, ◌∙◌, cond, drop, get_or, sym, ap, arith}, lemmas.List.Sums.prefix_len-le-length}
+use Rattle.std.proofs.{Common.{rules, ◌≡◌, ◌/◌, ◌%◌, ◌∙◌, drop, get_or, sym, ap, arith}, lemmas.List.Sums.prefix_len-le-length}
 use Rattle.qr_parsing.{specs.Steps.Svg.{is_in_boxes, path_in}, proofs.lemmas.svg.{CanvasLemmas.painted-box, PathLemmas.path-start}}
 use Rattle.qr_parsing.proofs.svg.paint_all.Goals as goal
 
@@ -19,7 +19,7 @@ boxes-preserved c =
             next.2,
             next.4,
             λ i lt. painted-box c.in-Some.dark.x c.in-Some.dark.y c.in-Some.dark.modules next.0 next.1 next.2 (i / w) (i % w) (get_or c.args.bytes.now i 0) (get_or c.boxes.bytes i 0) (get_or c.paint.new.bytes i 0) (is_in_boxes numbers (i / w) (i % w))
-                (before.2 i (omega arith) ∙ ap (λ l. cond (is_in_boxes l (i / w) (i % w)) 1 (get_or c.boxes.bytes i 0)) next.3) (c.paint.ensures i (omega arith)),
+                (search rules) (c.paint.ensures i (omega arith)),
           );
     }
 

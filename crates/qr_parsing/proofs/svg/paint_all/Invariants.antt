@@ -1,5 +1,4 @@
-use Rattle.std.proofs.Common.{◌≡◌, ℕ, ◌<◌, ◌≤◌, ◌-◌, ◌/◌, ◌%◌, cond, List, drop, length, get_or}
-use Rattle.qr_parsing.specs.Steps.Svg.{IsPath, is_in_boxes, path_in}
+use Rattle.{qr_parsing.specs.Steps.Svg.{IsPath, is_in_boxes, path_in}, std.proofs.Common.{◌≡◌, ℕ, ◌<◌, ◌≤◌, ◌-◌, ◌/◌, ◌%◌, cond, List, drop, length, get_or}}
 use Rattle.qr_parsing.proofs.svg.paint_all.Given as goal
 
 -- if the boxes that are left are painted too, the canvas has all boxes

@@ -1,13 +1,11 @@
-use Rattle.std.proofs.Common.{◌∙◌, ap, inl, inr, arith}
 use Rattle.qr_drawing.specs.declared.drawing.Drawing.TheVariants.{Utf8}
-use Rattle.qr_parsing.{specs.Steps.Text.first_line, proofs.lemmas.{parsing.GuessLemmas.too-wide, text.PlaceLemmas.cell-inside}}
+use Rattle.{qr_parsing.{proofs.lemmas.{parsing.too-wide, text.PlaceLemmas.cell-inside}, specs.Steps.Text.first_line}, std.proofs.Common.{rules, ◌∙◌, ap, arith}}
 use Rattle.qr_parsing.proofs.text.cell_sheet.Goals as goal
-use Rattle.qr_parsing.proofs.text.cell_sheet.Goals.{then-width-lt-SIDE_MIN-via-then-width-lt-SIDE_MIN, then-width-lt-SIDE_MIN-via-else-width-lt-SIDE_MIN+then-width-gt-WIDTH_MAX}
 
 pub returns-then-width-lt-SIDE_MIN : goal.returns-then-width-lt-SIDE_MIN
 returns-then-width-lt-SIDE_MIN c text kind cells =
     too-wide text Utf8 c.position_of-width.result kind (c.position_of-width.ensures ∙ ap first_line cells)
-    (elim c.then-width-lt-SIDE_MIN.branch [ then-width-lt-SIDE_MIN-via-then-width-lt-SIDE_MIN w ↦ inl w.if-width-lt-SIDE_MIN.true | then-width-lt-SIDE_MIN-via-else-width-lt-SIDE_MIN+then-width-gt-WIDTH_MAX w ↦ inr w.if-width-gt-WIDTH_MAX.true ])
+    (search rules)
 
 pub invariant_of-result-clause-whole : goal.invariant_of-result-clause-whole
 invariant_of-result-clause-whole c = λ k y x a b l.

@@ -1,5 +1,4 @@
-use Rattle.std.proofs.Common.{◌≡◌, ◌≤◌, length, take}
-use Rattle.qr_parsing.specs.Steps.Text.{cells_in}
+use Rattle.{qr_parsing.specs.Steps.Text.cells_in, std.proofs.Common.{◌≡◌, ◌≤◌, length, take}}
 use Rattle.qr_parsing.proofs.text.write_cells.Given as goal
 
 -- the cells among the bytes before the current one have been written

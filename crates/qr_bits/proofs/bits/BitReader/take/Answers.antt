@@ -1,5 +1,5 @@
-use Rattle.std.proofs.{Common.{◌≡◌, ◌+◌, ◌-◌, ◌*◌, ◌%◌, ◌≤◌, length, take, sym, ap, ◌∙◌, arith, rules}, lemmas.Nat.one_shl}
-use Rattle.qr_bits.{specs.Bits.value, proofs.lemmas.bits.{BitLemmas.left_at, WindowLemmas.value-window}}
+use Rattle.std.proofs.{Common.{◌≡◌, ◌+◌, ◌-◌, ◌*◌, ◌%◌, ◌≤◌, length, arith, rules}, lemmas.Nat.one_shl}
+use Rattle.qr_bits.proofs.lemmas.bits.{BitLemmas.left_at, WindowLemmas.value-window}
 use Rattle.qr_bits.proofs.bits.BitReader.take.Goals as goal
 
 pub invariant_of-self : goal.invariant_of-self
@@ -13,4 +13,4 @@ returns-clause-value c =
     let inside : i + w ≤ 8 * length old.bytes.now = search (rules, left_at) in
     let whole : i % 8 + w + (24 - i % 8 - w) ≡ 24 = omega (arith, c.requires.1) in
     rw (one_shl w 32 (omega (arith, c.requires.1)))
-    (sym (value-window old.bytes.now i w (24 - i % 8 - w) c.three_bytes.result inside whole c.three_bytes.ensures.second c.three_bytes.ensures.third c.three_bytes.ensures.value) ∙ ap (λ bs. value (take w bs)) c.self.view_is)
+    (search (rules, value-window))

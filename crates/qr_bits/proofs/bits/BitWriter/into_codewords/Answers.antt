@@ -1,5 +1,4 @@
-use Rattle.std.proofs.Common.{rules, ◌∙◌}
-use Rattle.qr_bits.proofs.lemmas.bits.BitLemmas.{filled-codewords, filled-up}
+use Rattle.{qr_bits.proofs.lemmas.bits.BitLemmas.{filled-codewords, filled-up}, std.proofs.Common.{rules, ◌∙◌}}
 use Rattle.qr_bits.proofs.bits.BitWriter.into_codewords.Goals as goal
 
 pub returns : goal.returns
