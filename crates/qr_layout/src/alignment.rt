@@ -133,7 +133,7 @@ fn is_in_pattern(centres: &[u8], side: u8, row: u8, col: u8) -> bool
         .any(|a| is_near(*a, row) && is_beside(centres, side, *a, col))
 }
 
-#[tactic(auto, using(crate::proofs::lemmas::alignment::AlignmentLemmas::alignment_parts))]
+#[tactic(auto, using(crate::proofs::lemmas::alignment::alignment_parts))]
 pub(crate) fn is_in_alignment(version: Version, row: u8, col: u8) -> bool
     ensures { result ≡ is_alignment version row col }
 {

@@ -131,7 +131,7 @@ impl Version {
 
     /// Returns the capacity at a level, which is the number of bits of all data codewords: from 72 in version 1 at
     /// level H to 23,648 in version 40 at level L (ISO/IEC 18004:2015, 7.4.10, Table 7).
-    #[tactic(auto, using(crate::proofs::lemmas::blocks::BlockLemmas::capacity_bounds))]
+    #[tactic(auto, using(crate::proofs::lemmas::blocks::capacity_bounds))]
     pub fn capacity(self, level: Level) -> u64
         ensures value { result ≡ capacity_of self level }
         ensures least { 72 ≤ result }

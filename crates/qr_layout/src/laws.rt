@@ -52,7 +52,7 @@ pub fn region_is_counted(version: Version)
 
 /// If rectangles meet the contract of `fixed_rectangles`, the encoding region consists of all modules of the symbol
 /// that are in none of these rectangles and in no alignment pattern.
-#[tactic(auto, using(crate::proofs::lemmas::alignment::AlignmentLemmas::region_outside))]
+#[tactic(auto, using(crate::proofs::lemmas::alignment::region_outside))]
 pub fn region_is_outside(version: Version)
     ensures { (bs : List Rectangle) → AreFixed version bs → (r c : ℕ) → r < side_of version → c < side_of version → is_in_region version r c
         ≡ not (list_any (is_in_rectangle r c) bs || is_alignment version r c) }

@@ -1,15 +1,12 @@
 -- The lemmas that the attributes of functions name.
-use Rattle.qr_field.proofs.lemmas.{galois.ByteLemmas.product-of_zero, galois.PowerLemmas.{power-lt, product-of_powers}}
-use Rattle.qr_field.proofs.lemmas.{laws.DistanceLemmas.difference-same, polynomial.ListLemmas.length-plus}
-use Rattle.qr_layout.proofs.Facts.{blocks-sound, laws-of}
-use Rattle.qr_mending.proofs.lemmas.block.BlockLemmas.{erasures-one, differences-same, mended-same}
-use Rattle.qr_mending.proofs.lemmas.erasures.ErasureLemmas.{errors-more, modified-more, erasures-marked, length-read, errors-self}
-use Rattle.qr_mending.proofs.lemmas.{format.FormatLemmas.{near-one, near-two}, mending.MendingLemmas.unmended-one}
-use Rattle.qr_mending.proofs.lemmas.laws.{DistanceLemmas.symbols-apart, WeakerLemmas.weaker-block}
-use Rattle.qr_mending.proofs.lemmas.locator.SearchLemmas.{add-all, add-begins, add-leading, add-more, add-skip, search-begins, shift-more, shift-leading}
-use Rattle.qr_mending.proofs.lemmas.roots.RootLemmas.{length-rooted, length-rooted_rest, divided-more, rest-more_divided, value-more_divided}
-use Rattle.qr_mending.proofs.lemmas.{errors.RemovalLemmas.sum-more, sums.DigitLemmas.{digits-added, table-at}}
-use Rattle.qr_mending.proofs.lemmas.sums.SumLemmas.{multiple-first, multiple-is, multiple-none, multiple-same, values-none}
+use Rattle.qr_field.proofs.lemmas.{galois.{ByteLemmas.product-of_zero, PowerLemmas.{power-lt, product-of_powers}}, laws.DistanceLemmas.difference-same}
+use Rattle.{qr_field.proofs.lemmas.polynomial.ListLemmas.length-plus, qr_layout.proofs.Facts.{blocks-sound, laws-of}}
+use Rattle.qr_mending.proofs.lemmas.block.{erasures-one, differences-same, mended-same}
+use Rattle.qr_mending.proofs.lemmas.{erasures.{errors-more, modified-more, erasures-marked, length-read, errors-self}, errors.RemovalLemmas.sum-more}
+use Rattle.qr_mending.proofs.lemmas.{format.{near-one, near-two}, laws.{DistanceLemmas.symbols-apart, WeakerLemmas.weaker-block}}
+use Rattle.qr_mending.proofs.lemmas.locator.{add-all, add-begins, add-leading, add-more, add-skip, search-begins, shift-more, shift-leading}
+use Rattle.qr_mending.proofs.lemmas.{mending.unmended-one, roots.{length-rooted, length-rooted_rest, divided-more, rest-more_divided, value-more_divided}}
+use Rattle.qr_mending.proofs.lemmas.sums.{digits-added, table-at, multiple-first, multiple-is, multiple-none, multiple-same, values-none}
 use Rattle.qr_symbol.proofs.Facts.{data-sizes-whole, readings-none, sizes-whole, unjoined-next}
 use Rattle.std.{proofs.lemmas.{List.{take_all, take_rest, take-replicate, Elements.All-from_get_or}, Result.err_from_is_err_and}, specs.Int.Bits.xor_zero_r}
 

@@ -1,5 +1,4 @@
-use Rattle.std.proofs.Common.{◌-◌, arith}
-use Rattle.qr_field.proofs.lemmas.galois.PowerLemmas.{logarithms-lt, logarithms-at}
+use Rattle.{qr_field.proofs.lemmas.galois.PowerLemmas.{logarithms-lt, logarithms-at}, std.proofs.Common.{◌-◌, arith}}
 use Rattle.qr_field.proofs.galois.exponent_of.Goals as goal
 
 pub returns-clause-exponent : goal.returns-clause-exponent

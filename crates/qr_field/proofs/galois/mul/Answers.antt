@@ -1,5 +1,5 @@
 use Rattle.qr_field.{proofs.lemmas.galois.{ProductLemmas.{product-one, product-none, product-definition}, PowerLemmas.product-of_powers}, specs.Galois.product}
-use Rattle.std.proofs.Common.{rules, ◌≡◌, ◌⊎◌, ◌+◌, ◌%◌}
+use Rattle.std.proofs.Common.{rules, ◌≡◌, ◌⊎◌}
 use Rattle.qr_field.proofs.galois.mul.Goals as goal
 
 pub returns-then-a-eq0 : goal.returns-then-a-eq0
@@ -15,6 +15,5 @@ returns c =
     let j = c.exponent_of-2.result in
     let first = c.exponent_of.ensures in
     let second = c.exponent_of-2.ensures in
-    let k : c.if-sum-lt255.exponent ≡ (i + j) % 255 = search rules in
     let e : c.power_of.result ≡ product a b = search (rules, product-of_powers) in
     search (rules, product-definition, product-one)

@@ -1,7 +1,7 @@
 use Rattle.std.{proofs.{Common.{◌≡◌, ℕ, Bool, true, ltb, List, [], ◌∷◌, map, get_or, refl, sym, ◌∙◌}, lemmas.Bool.and_parts}, specs.List.list_all}
 use borrow.Author.Tests.{ltb-true}
 use Rattle.qr_field.{specs.{Galois.{product, remainder_of, carryless}, declared.galois.TheConstants.POWERS}, proofs.lemmas.galois.PowerLemmas.powers-at}
-use Rattle.qr_field.specs.{Polynomial.generator_of, Polynomial.power, Laws.lengths_in_use, Laws.printed_exponents}
+use Rattle.qr_field.specs.{Polynomial.power, Laws.printed_exponents}
 use Rattle.qr_field.proofs.laws.generators_compute.Goals as goal
 
 pub returns-clause-seven : goal.returns-clause-seven
@@ -29,5 +29,4 @@ powers-of-all (es ∷ ess) h = cc (powers-of es (and_parts _ (list_all are_small
 pub returns-clause-printed : goal.returns-clause-printed
 unfolding product remainder_of carryless are_small looked_up
 returns-clause-printed c =
-    let e : map generator_of lengths_in_use ≡ map (map looked_up) printed_exponents = refl in
-    e ∙ sym (powers-of-all printed_exponents refl)
+    refl ∙ sym (powers-of-all printed_exponents refl)

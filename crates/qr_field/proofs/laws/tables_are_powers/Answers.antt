@@ -1,5 +1,4 @@
-use Rattle.std.proofs.Common.{◌-◌, refl, arith}
-use Rattle.qr_field.proofs.lemmas.galois.PowerLemmas.{powers-at, logarithms-lt, logarithms-at}
+use Rattle.{qr_field.proofs.lemmas.galois.PowerLemmas.{powers-at, logarithms-lt, logarithms-at}, std.proofs.Common.{◌-◌, refl, arith}}
 use Rattle.qr_field.proofs.laws.tables_are_powers.Goals as goal
 
 pub returns-clause-powers : goal.returns-clause-powers

@@ -13,7 +13,7 @@ pub below-at : (n : ℕ) (p : ℕ → Bool) → below n p ≡ true → (k : ℕ)
 below-at zero p h k l = absurd (omega arith)
 below-at (suc n) p h k l = elim (cases_lt k n) [
   | inl m ↦ below-at n p (and_parts (p n) _ h).1 k m
-  | inr m ↦ let e : n ≡ k = omega arith in subst (λ (z : ℕ). p z ≡ true) e (and_parts (p n) _ h).0
+  | inr m ↦ subst (λ (z : ℕ). p z ≡ true) (omega arith) (and_parts (p n) _ h).0
 ]
 
 -- functions that test equal below n are equal at each number below n

@@ -1,9 +1,8 @@
 -- The laws of the field of 256 elements: products commute, associate, distribute, and are 0 only if a factor is.
-use Rattle.std.proofs.Common.{◌≡◌, ℕ, ◌+◌, ◌-◌, ◌<◌, sym, ap, ◌∙◌, inl, inr, arith, bit_xor}
+use Rattle.qr_field.proofs.lemmas.galois.{BitLemmas.xor-cancel, ByteLemmas.{product-by_zero, product-of_zero, product-by_one}}
+use Rattle.qr_field.proofs.lemmas.galois.{PowerLemmas.{power-lt, power-add, power-round, exponent-of}, ProductLemmas.{product-lt, product-xor}}
+use Rattle.{qr_field.specs.{Galois.product, Polynomial.power}, std.proofs.Common.{◌≡◌, ℕ, ◌+◌, ◌-◌, ◌<◌, sym, ap, ◌∙◌, inl, inr, arith, bit_xor}}
 use Rattle.std.{proofs.lemmas.{Bool.cases_eq, Nat.xor_of_8}, specs.Int.Bits.xor_zero_r}
-use Rattle.qr_field.{specs.{Galois.product, Polynomial.power}, proofs.lemmas.galois.{BitLemmas.xor-cancel, ProductLemmas.{product-lt, product-xor}}}
-use Rattle.qr_field.proofs.lemmas.galois.ByteLemmas.{product-by_zero, product-of_zero, product-by_one}
-use Rattle.qr_field.proofs.lemmas.galois.PowerLemmas.{power-lt, power-add, power-round, exponent-of}
 
 -- a product is 0 if its first factor is 0
 left-none : (a b : ℕ) → b < 256 → a ≡ 0 → product a b ≡ 0
@@ -18,8 +17,7 @@ right-none a b l e = ap (product a) e ∙ product-by_zero a l
 -- the product of two powers does not depend on their order
 powers-comm : (i j : ℕ) → product (power i) (power j) ≡ product (power j) (power i)
 powers-comm i j =
-    let e : i + j ≡ j + i = omega arith in
-    sym (power-add i j) ∙ (ap power e ∙ power-add j i)
+    sym (power-add i j) ∙ (ap power (omega arith) ∙ power-add j i)
 
 -- the product of two elements does not depend on their order
 pub product-comm : (a b : ℕ) → a < 256 → b < 256 → product a b ≡ product b a
@@ -88,9 +86,8 @@ product-factor a b l m n e =
     let k = i.0 in
     let rest = power (255 - k) in
     let whole : k + (255 - k) ≡ 255 = omega (arith, i.1) in
-    let one : product b rest ≡ 1 = cc (power-add k (255 - k), power-round) in
     sym (product-by_one a l)
-    ∙ (ap (product a) (sym one)
+    ∙ (ap (product a) (sym (cc (power-add k (255 - k), power-round)))
     ∙ (sym (product-assoc a b rest l m (power-lt (255 - k))) ∙ left-none (product a b) rest (power-lt (255 - k)) e))
 
 -- the sum of two elements is 0 only if they are equal

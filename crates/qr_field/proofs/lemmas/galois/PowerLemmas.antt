@@ -1,5 +1,5 @@
 -- Powers of 2 in the field, and the tables of powers and logarithms.
-use Rattle.std.proofs.Common.{◌≡◌, ℕ, zero, suc, ◌+◌, ◌-◌, ◌*◌, ◌/◌, ◌%◌, ◌<◌, ◌≤◌, true, eqb, ltb, get_or, refl, sym, ap, ◌∙◌, arith, lit<}
+use Rattle.std.proofs.Common.{◌≡◌, ℕ, zero, suc, ◌+◌, ◌-◌, ◌*◌, ◌/◌, ◌%◌, ◌<◌, ◌≤◌, true, eqb, ltb, get_or, refl, sym, ap, ◌∙◌, arith}
 use Rattle.qr_field.specs.{declared.galois.TheConstants.{POWERS, LOGARITHMS}, Galois.{carryless, product, remainder_of}, Polynomial.power}
 use borrow.Author.Tests.{ltb-true}
 use Rattle.qr_field.proofs.lemmas.galois.{ByteLemmas.{below, below-at, same-below, product-of_one}, ProductLemmas.{product-lt, product-double}}
@@ -8,12 +8,11 @@ use Rattle.qr_field.proofs.lemmas.galois.{ByteLemmas.{below, below-at, same-belo
 
 -- each power of 2 is a byte
 pub power-lt : (i : ℕ) → power i < 256
-power-lt zero = lit< tt
-power-lt (suc i) = product-lt 2 (power i) (lit< tt)
+power-lt i = grind (arith, product-lt)
 
 -- the power of 2 to a sum is the product of the powers to its terms
 pub power-add : (i j : ℕ) → power (i + j) ≡ product (power i) (power j)
-power-add zero j = let e : zero + j ≡ j = omega arith in ap power e ∙ sym (product-of_one (power j) (power-lt j))
+power-add zero j = ap power (omega arith) ∙ sym (product-of_one (power j) (power-lt j))
 power-add (suc i) j =
     let e : suc i + j ≡ suc (i + j) = omega arith in
     ap power e ∙ (ap (product 2) (power-add i j) ∙ sym (product-double (power i) (power j) (power-lt i)))
@@ -25,19 +24,16 @@ power-round = refl
 
 -- the powers of 2 repeat after 255
 power-rounds : (q r : ℕ) → power (q * 255 + r) ≡ power r
-power-rounds zero r = let e : zero * 255 + r ≡ r = omega arith in ap power e
+power-rounds zero r = ap power (omega arith)
 power-rounds (suc q) r =
     let rest = q * 255 + r in
     let e : suc q * 255 + r ≡ 255 + rest = omega arith in
-    let round : product (power 255) (power rest) ≡ power rest =
-    ap (λ t. product t (power rest)) power-round ∙ product-of_one (power rest) (power-lt rest) in
-    ap power e ∙ (power-add 255 rest ∙ (round ∙ power-rounds q r))
+    ap power e ∙ (power-add 255 rest ∙ ((ap (λ t. product t (power rest)) power-round ∙ product-of_one (power rest) (power-lt rest)) ∙ power-rounds q r))
 
 -- the power of 2 to k is the power to k modulo 255
 pub power-mod : (k : ℕ) → power (k % 255) ≡ power k
 power-mod k =
-    let e : k ≡ k / 255 * 255 + k % 255 = omega arith in
-    sym (ap power e ∙ power-rounds (k / 255) (k % 255))
+    sym (ap power (omega arith) ∙ power-rounds (k / 255) (k % 255))
 
 -- the product of two powers is the power to the sum of their exponents modulo 255
 pub product-of_powers : (a b i j k : ℕ) → i < 255 → power i ≡ a → j < 255 → power j ≡ b →
@@ -84,9 +80,8 @@ logarithms-lt i l =
 pub logarithms-at : (a i : ℕ) → 1 ≤ a → a < 256 → i ≡ a - 1 → power (get_or LOGARITHMS i 0) ≡ a
 logarithms-at a i p l e =
     let k : i < 255 = omega arith in
-    let f : i + 1 ≡ a = omega arith in
     sym (powers-at (get_or LOGARITHMS i 0) (logarithms-lt i k))
-    ∙ (same-below 255 (λ k. get_or POWERS (get_or LOGARITHMS k 0) 0) (λ k. k + 1) logarithms-inverse i k ∙ f)
+    ∙ (same-below 255 (λ k. get_or POWERS (get_or LOGARITHMS k 0) 0) (λ k. k + 1) logarithms-inverse i k ∙ (omega arith))
 
 -- the entry of the table of logarithms at each power is its exponent, computed
 powers-inverse : below 255 (λ i. eqb (get_or LOGARITHMS (get_or POWERS i 0 - 1) 0) i) ≡ true
@@ -106,5 +101,4 @@ powers-apart i j l m e = cc (logarithm-power i l, logarithm-power j m)
 pub exponent-of : (a : ℕ) → (a ≡ 0 → ⊥) → a < 256 → (i : ℕ) × (i < 255) × (power i ≡ a)
 exponent-of a n l =
     let p : 1 ≤ a = omega (arith, n) in
-    let k : a - 1 < 255 = omega arith in
-    (get_or LOGARITHMS (a - 1) 0, logarithms-lt (a - 1) k, logarithms-at a (a - 1) p l refl)
+    (get_or LOGARITHMS (a - 1) 0, logarithms-lt (a - 1) (omega arith), logarithms-at a (a - 1) p l refl)

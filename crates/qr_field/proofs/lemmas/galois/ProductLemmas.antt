@@ -1,5 +1,5 @@
 -- The product of two elements, which `product` computes; that of twice an element is twice the product.
-use Rattle.std.proofs.{lemmas.Nat.xor_comm, Common.{◌≡◌, ◌⊎◌, ℕ, ◌*◌, ◌<◌, sym, ap, ◌∙◌, subst, inl, inr, arith, bit_xor, lit<}}
+use Rattle.std.proofs.{lemmas.Nat.xor_comm, Common.{◌≡◌, ◌⊎◌, ℕ, ◌*◌, ◌<◌, sym, subst, arith, bit_xor, lit<}}
 use Rattle.{std.proofs.lemmas.Nat.xor_of_8, qr_field.specs.Galois.{carryless, prime_modulus, IsProduct, product}}
 use Rattle.qr_field.proofs.lemmas.galois.ByteLemmas.{carryless-two, product-by_zero, product-of_zero}
 use Rattle.qr_field.proofs.lemmas.galois.BitLemmas.{IsCongruent, congruent-next, congruent-double, congruent-times, congruent-xor, carryless-xor, carryless-double, carryless-lt, remainder-is, remainder-one}
@@ -23,8 +23,7 @@ product-definition a b p l e = subst (λ (t : ℕ). IsProduct a b t) (sym e) (pr
 
 -- if one of two elements is 0, their product is 0
 pub product-none : (a b : ℕ) → a < 256 → b < 256 → (a ≡ 0) ⊎ (b ≡ 0) → 0 ≡ product a b
-product-none a b l m (inl e) = sym (ap (λ t. product t b) e ∙ product-of_zero b m)
-product-none a b l m (inr e) = sym (ap (λ t. product a t) e ∙ product-by_zero a l)
+product-none a b l m h = grind (arith, product-of_zero, product-by_zero)
 
 -- ---- products of twice an element
 
@@ -58,25 +57,19 @@ product-double a b l =
     let twice = product 2 a in
     let c = product a b in
     let small : c < 256 = product-lt a b l in
-    let one : IsSame (carryless 8 twice b) (carryless 8 (2 * a) b) =
-    congruent-times 8 prime_modulus 8 twice (2 * a) b
-    (search (arith, xor_comm, double-same a l)) in
     let two : IsSame (carryless 8 (2 * a) b) (2 * c) =
     subst (λ (t : ℕ). IsSame t (2 * c)) (sym (carryless-double 8 a b))
     (congruent-double 8 prime_modulus (carryless 8 a b) c (product-same a b l)) in
     let three : IsSame (carryless 8 (2 * a) b) (product 2 c) =
     congruent-next 8 prime_modulus (carryless 8 (2 * a) b) (2 * c) (product 2 c) two (double-same c small) in
     same-product twice b (product 2 c) (product-lt 2 a (lit< tt)) (product-lt 2 c (lit< tt))
-    (congruent-next 8 prime_modulus (carryless 8 twice b) (carryless 8 (2 * a) b) (product 2 c) one three)
+    (congruent-next 8 prime_modulus (carryless 8 twice b) (carryless 8 (2 * a) b) (product 2 c) (congruent-times 8 prime_modulus 8 twice (2 * a) b (search (arith, xor_comm, double-same a l))) three)
 
 -- the product of a sum by an element is the sum of the products
 pub product-xor : (a b c : ℕ) → a < 256 → b < 256 → bit_xor (product a c) (product b c) ≡ product (bit_xor a b) c
 product-xor a b c l m =
     let p = bit_xor (product a c) (product b c) in
-    let same : IsSame (bit_xor (carryless 8 a c) (carryless 8 b c)) p =
-    congruent-xor 8 prime_modulus (carryless 8 a c) (carryless 8 b c) (product a c) (product b c)
-    (product-same a c l) (product-same b c m) in
     let sum : IsSame (carryless 8 (bit_xor a b) c) p =
-    subst (λ (t : ℕ). IsSame t p) (sym (carryless-xor 8 a b c)) same in
+    subst (λ (t : ℕ). IsSame t p) (sym (carryless-xor 8 a b c)) (congruent-xor 8 prime_modulus (carryless 8 a c) (carryless 8 b c) (product a c) (product b c) (product-same a c l) (product-same b c m)) in
     sym (same-product (bit_xor a b) c p (xor_of_8 a b l m)
     (xor_of_8 (product a c) (product b c) (product-lt a c l) (product-lt b c m)) sum)

@@ -80,13 +80,12 @@ value-lowered i k (c ∷ p) a =
     let lc = All-head IsByte c p a in
     let lp = All-tail IsByte c p a in
     let m = length p in
-    let own = power m in
     let lo = power-lt m in
     let lk = power-lt k in
     let place = power (i * m) in
     let li = power-lt (i * m) in
     let exponent : m + i * m ≡ (i + 1) * m = omega arith in
-    let first = product-assoc c own place lc lo li in
+    let first = product-assoc c (power m) place lc lo li in
     let sum = power-add m (i * m) in
     let second = product-assoc c (power k) place lc lk li in
     search (arith, product-front, product-xor, product-lt, product-by_sum, value-lt, xor-swap, length-lowered, value-lowered i k p lp)
@@ -117,7 +116,6 @@ weight-none (suc k) n (c ∷ p) l h a w r =
           let roots : (i : ℕ) → i < n - 1 → value_at i low ≡ 0 =
           search (arith, power-lt, sum-none, product-front, power-add, value-lowered, xor_self) in
           let tail = weight-none k (n - 1) low (omega (arith, count)) hk (bytes-lowered (length p) p lp) (omega (arith, same, one, w)) roots in
-          let empty : weight p ≡ 0 = sym same ∙ tail in
           absurd (o (sym (search (arith, product-by_one, value-none, xor_zero_r)) ∙ r 0 some))
     ]
 
@@ -127,9 +125,8 @@ weight-none (suc k) n (c ∷ p) l h a w r =
 pub near-same : (n : ℕ) (d e d' e' : List ℕ) → IsCorrection d n e → IsCorrection d' n e' →
     length d ≡ length d' → length d + n ≤ 255 → differences (d ++ e) (d' ++ e') ≤ n → d ≡ d'
 near-same n d e d' e' c c' s l w =
-    let one = length-append d e in
     let two = length-append d' e' in
-    let same : length (d ++ e) ≡ length (d' ++ e') = omega arith in
+    let same : length (d ++ e) ≡ length (d' ++ e') = omega (arith, length-append d e) in
     let sum = plus (d ++ e) (d' ++ e') in
     let bytes = block-bytes d n e c in
     let bytes' = block-bytes d' n e' c' in
@@ -164,8 +161,8 @@ difference-most x y = search (arith, difference-same, difference-other)
 errors-length : (rs : List (Option ℕ)) (xs : List ℕ) → length xs ≤ errors rs xs + length rs
 errors-length [] xs = omega arith
 errors-length (r ∷ rs) [] = omega arith
-errors-length (None ∷ rs) (x ∷ xs) = let e = errors-length rs xs in omega (arith, e)
-errors-length (Some z ∷ rs) (x ∷ xs) = let e = errors-length rs xs in omega (arith, e)
+errors-length (None ∷ rs) (x ∷ xs) = omega (arith, (errors-length rs xs))
+errors-length (Some z ∷ rs) (x ∷ xs) = omega (arith, (errors-length rs xs))
 
 -- xs and ys differ in at most as many places as a reading has erasures, and errors against xs, and against ys
 errors-between : (rs : List (Option ℕ)) (xs ys : List ℕ) →
@@ -173,9 +170,9 @@ errors-between : (rs : List (Option ℕ)) (xs ys : List ℕ) →
 errors-between [] [] ys = omega arith
 errors-between [] (x ∷ xs) [] = omega arith
 errors-between [] (x ∷ xs) (y ∷ ys) = search (arith, difference-most, errors-between [] xs ys)
-errors-between (r ∷ rs) [] ys = let e = errors-length (r ∷ rs) ys in omega (arith, e)
-errors-between (None ∷ rs) (x ∷ xs) [] = let e = errors-length rs xs in omega (arith, e)
-errors-between (Some z ∷ rs) (x ∷ xs) [] = let e = errors-length rs xs in omega (arith, e)
+errors-between (r ∷ rs) [] ys = omega (arith, (errors-length (r ∷ rs) ys))
+errors-between (None ∷ rs) (x ∷ xs) [] = omega (arith, (errors-length rs xs))
+errors-between (Some z ∷ rs) (x ∷ xs) [] = omega (arith, (errors-length rs xs))
 errors-between (None ∷ rs) (x ∷ xs) (y ∷ ys) = search (arith, difference-most, errors-between rs xs ys)
 errors-between (Some z ∷ rs) (x ∷ xs) (y ∷ ys) = grind (arith, difference-same, difference-other, errors-between rs xs ys)
 

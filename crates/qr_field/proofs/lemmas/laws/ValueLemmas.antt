@@ -1,13 +1,12 @@
 -- The values of polynomials at the powers of 2: the value of a product is the product of the values.
+use Rattle.qr_field.proofs.lemmas.galois.{BitLemmas.xor-swap, ByteLemmas.{product-by_zero, product-of_zero, product-by_one, product-of_one}}
+use Rattle.qr_field.proofs.lemmas.galois.{FieldLemmas.{product-assoc, product-swap, product-by_sum}, PowerLemmas.{power-lt, power-add}}
+use Rattle.qr_field.proofs.lemmas.{galois.ProductLemmas.{product-lt, product-xor}, polynomial.ListLemmas.{length-plus, length-times, bytes-scaled}}
+use Rattle.qr_field.{proofs.lemmas.polynomial.PolynomialLemmas.{generator-shape, bytes-times, bytes-generator}, specs.Galois.product}
+use Rattle.qr_field.specs.{Polynomial.{IsByte, plus, zeros, scaled, times, power, generator_of, IsCorrection}, Steps.Polynomial.value_at}
 use Rattle.std.proofs.Common.{◌≡◌, ℕ, zero, suc, ◌+◌, ◌*◌, ◌<◌, List, [], ◌∷◌, ◌++◌, length, refl, sym, ap, ◌∙◌, subst, inl, inr, arith, lit<, bit_xor}
-use Rattle.std.proofs.lemmas.{Nat.xor_of_8, Bool.cases_eq, List.{length-map, Elements.{All-nil, All-cons, All-head, All-tail}}}
-use Rattle.std.specs.{List.All, Int.Bits.{xor_zero_l, xor_zero_r, xor_self}}
-use Rattle.qr_field.specs.{Galois.product, Steps.Polynomial.value_at, Polynomial.{IsByte, plus, zeros, scaled, times, power, generator_of, IsCorrection}}
-use Rattle.qr_field.proofs.lemmas.galois.{BitLemmas.xor-swap, ProductLemmas.{product-lt, product-xor}, PowerLemmas.{power-lt, power-add}}
-use Rattle.qr_field.proofs.lemmas.galois.ByteLemmas.{product-by_zero, product-of_zero, product-by_one, product-of_one}
-use Rattle.qr_field.proofs.lemmas.galois.FieldLemmas.{product-assoc, product-swap, product-by_sum}
-use Rattle.qr_field.proofs.lemmas.polynomial.ListLemmas.{length-plus, length-times, bytes-scaled}
-use Rattle.qr_field.proofs.lemmas.polynomial.PolynomialLemmas.{generator-shape, bytes-times, bytes-generator}
+use Rattle.std.proofs.lemmas.{Bool.cases_eq, List.{length-map, Elements.{All-nil, All-cons, All-head, All-tail}}, Nat.xor_of_8}
+use Rattle.std.specs.{Int.Bits.{xor_zero_l, xor_zero_r, xor_self}, List.All}
 
 -- ---- values
 
@@ -42,10 +41,9 @@ value-plus i k (x ∷ xs) (y ∷ ys) e a b =
     let lxs = All-tail IsByte x xs a in
     let f : length ys ≡ k + length xs = omega (arith, e) in
     let exponent : i * length ys ≡ i * length xs + i * k = ap (λ t. i * t) f ∙ omega arith in
-    let split = power-add (i * length xs) (i * k) in
     let front = product-assoc x (power (i * length xs)) (power (i * k)) lx (power-lt (i * length xs)) (power-lt (i * k)) in
     let head = product-xor x y (power (i * length ys)) lx (All-head IsByte y ys b) in
-    search (arith, product-xor, product-lt, value-lt, xor-swap, length-plus, value-plus i k xs ys f lxs (All-tail IsByte y ys b))
+    search (arith, product-xor, product-lt, value-lt, xor-swap, length-plus, value-plus i k xs ys f lxs (All-tail IsByte y ys b), power-add (i * length xs) (i * k))
 
 -- the value of the product of q and a ∷ g at 2 to the power i is the product of the values of q and of a ∷ g at this power
 value-times : (i : ℕ) (q : List ℕ) (a : ℕ) (g : List ℕ) → All IsByte q → All IsByte (a ∷ g) →
@@ -57,9 +55,8 @@ value-times i (b ∷ q) a g bq bg =
     let v = value_at i (a ∷ g) in
     let place = power (i * length q) in
     let rest = times q (a ∷ g) in
-    let longer : length (0 ∷ rest) ≡ length q + length (scaled b (a ∷ g)) = omega (arith, length-map (a ∷ g) (product b), length-times q a g) in
     let bytes : All IsByte (0 ∷ rest) = All-cons IsByte 0 rest (lit< tt) (bytes-times q (a ∷ g) lq) in
-    let sum = value-plus i (length q) (scaled b (a ∷ g)) (0 ∷ rest) longer (bytes-scaled b (a ∷ g) lb) bytes in
+    let sum = value-plus i (length q) (scaled b (a ∷ g)) (0 ∷ rest) (omega (arith, length-map (a ∷ g) (product b), length-times q a g)) (bytes-scaled b (a ∷ g) lb) bytes in
     let first = product-swap b v place lb (value-lt i (a ∷ g) bg) (power-lt (i * length q)) in
     let both = product-xor (product b place) (value_at i q) v (product-lt b place lb) (value-lt i q lq) in
     cc (sum, value-scaled i b (a ∷ g) lb bg, value-zero i rest, value-times i q a g lq bg)

@@ -66,9 +66,8 @@ pub same-plus : (n : ℕ) (xs ys zs : List ℕ) → n ≤ length ys → n ≤ le
     take n (plus xs ys) ≡ take n (plus xs zs) → take n ys ≡ take n zs
 same-plus n xs ys zs l m e =
     let a = length-take n xs in
-    let b = length-take n ys in
     let d = length-take n zs in
-    cc (take-plus n xs ys, take-plus n xs zs, plus-cancel (take n xs) (take n ys) (omega (arith, a, b)), plus-cancel (take n xs) (take n zs) (omega (arith, a, d)))
+    cc (take-plus n xs ys, take-plus n xs zs, plus-cancel (take n xs) (take n ys) (omega (arith, a, (length-take n ys))), plus-cancel (take n xs) (take n zs) (omega (arith, a, d)))
 
 -- ---- bytes
 
@@ -119,5 +118,4 @@ times-snoc (b ∷ q) f a g =
     let ih = times-snoc q f a g in
     let first = scaled b (a ∷ g) in
     let middle : List ℕ = 0 ∷ times q (a ∷ g) in
-    let last : List ℕ = 0 ∷ (zeros (length q) ++ scaled f (a ∷ g)) in
-    cc (plus_assoc first (middle ++ 0 ∷ []) last, plus-snoc first middle (0 ∷ []) (omega (arith, length-map (a ∷ g) (product b), length-times q a g)))
+    cc (plus_assoc first (middle ++ 0 ∷ []) (0 ∷ (zeros (length q) ++ scaled f (a ∷ g))), plus-snoc first middle (0 ∷ []) (omega (arith, length-map (a ∷ g) (product b), length-times q a g)))

@@ -32,10 +32,8 @@ quotient-one (x ∷ q) (y ∷ r) g a b l e =
     let zy = xor_zero_r (product y 1) in
     let head : bit_xor (product x 1) 0 ≡ bit_xor (product y 1) 0 = ap (λ t. get_or t 0 0) e in
     let same : x ≡ y = cc in
-    let both : take (length q) (plus (scaled x g) (times q (1 ∷ g))) ≡ take (length q) (plus (scaled x g) (times r (1 ∷ g))) =
-    cc in
     let lq = length-times q 1 g in
-    let rest = same-plus (length q) (scaled x g) (times q (1 ∷ g)) (times r (1 ∷ g)) (omega (arith, lq)) (omega (arith, length-times r 1 g, lq)) both in
+    let rest = same-plus (length q) (scaled x g) (times q (1 ∷ g)) (times r (1 ∷ g)) (omega (arith, lq)) (omega (arith, length-times r 1 g, lq)) cc in
     let ih = quotient-one q r g (All-tail IsByte x q a) (All-tail IsByte y r b) (omega arith) rest in
     cc
 
@@ -67,13 +65,12 @@ bytes-generator (suc n) = search (arith, bytes-times, bytes-generator n)
 pub generator-next : (n r : ℕ) (g : List ℕ) → 1 ∷ g ≡ generator_of n → r ≡ power n →
     1 ∷ carried 1 g r ≡ generator_of (n + 1)
 generator-next n r g e f =
-    let b : All IsByte g = All-rest IsByte 1 g (generator_of n) (sym e) (bytes-generator n) in
-    cc (times-root 1 g r (lit< tt) b, suc-eq-add-one n)
+    cc (times-root 1 g r (lit< tt) (All-rest IsByte 1 g (generator_of n) (sym e) (bytes-generator n)), suc-eq-add-one n)
 
 -- one round of the loop adds one coefficient
 pub length-carried : (c : ℕ) (q : List ℕ) (r : ℕ) → length (carried c q r) ≡ length q + 1
 length-carried c [] r = refl
-length-carried c (x ∷ q) r = let e = length-carried x q r in omega (arith, e)
+length-carried c (x ∷ q) r = omega (arith, (length-carried x q r))
 
 -- twice the power of 2 to n is the power to n + 1
 pub power-next : (n r : ℕ) → r ≡ power n → product 2 r ≡ power (n + 1)
@@ -83,8 +80,7 @@ power-next n r e = ap (product 2) e ∙ ap power (suc-eq-add-one n)
 
 -- the error correction codewords of no data codewords are zeros
 pub correction-start : (n : ℕ) → IsCorrection [] n (zeros n)
-correction-start n = let s = generator-shape n in
-    search (arith, All-nil, length-zeros, bytes-zeros)
+correction-start n = search (arith, All-nil, length-zeros, bytes-zeros, generator-shape n)
 
 -- one round of the register makes the error correction codewords of one codeword more
 correction-next : (p : List ℕ) (n b r : ℕ) (rs g : List ℕ) → b < 256 → 1 ∷ g ≡ generator_of n →
@@ -94,9 +90,8 @@ correction-next p n b r rs g l e c =
     let lg : length g ≡ n = omega (arith, ap length e, ap length s.1, s.2) in
     let m = c.multiple in
     let w : times m.quotient (1 ∷ g) ≡ p ++ r ∷ rs = ap (λ t. times m.quotient t) e ∙ m.whole in
-    let la = length-append p (r ∷ rs) in
     let lr : r < 256 = All-head IsByte r rs c.bytes in
-    let d = divide-step p m.quotient b r rs g l lr (omega (arith, length-times m.quotient 1 g, la, ap length w, c.count)) (omega (arith, c.count)) w in
+    let d = divide-step p m.quotient b r rs g l lr (omega (arith, length-times m.quotient 1 g, (length-append p (r ∷ rs)), ap length w, c.count)) (omega (arith, c.count)) w in
     let lm = length-map g (product (bit_xor b r)) in
     let lf = xor_of_8 b r l lr in
     let moved = All-push IsByte rs 0 (All-tail IsByte r rs c.bytes) (lit< tt) in
@@ -120,9 +115,7 @@ correction-step m i n r items moved sum g h l k e er em es c =
     let next : List ℕ = plus (drop 1 items ++ 0 ∷ []) (scaled (bit_xor byte r) g) in
     let one : 0 < length items = omega (arith, c.count) in
     let f : r ∷ drop 1 items ≡ items = cc (get_or_read items 0 r one er 0, drop_more items 0 0 one) in
-    let d : IsCorrection (take i m ++ byte ∷ []) n next =
-    correction-next (take i m) n byte r (drop 1 items) g l e (subst (λ (t : List ℕ). IsCorrection (take i m) n t) (sym f) c) in
-    search (arith, take_more)
+    search (arith, take_more, correction-next (take i m) n byte r (drop 1 items) g l e (subst (λ (t : List ℕ). IsCorrection (take i m) n t) (sym f) c))
 
 -- a generator polynomial is the coefficient 1 followed by its other coefficients
 pub generator-is : (n : ℕ) → 1 ∷ drop 1 (generator_of n) ≡ generator_of n
@@ -136,7 +129,6 @@ correction-one d n e f a b =
     let qa = a.multiple.quotient in
     let qb = b.multiple.quotient in
     let wa : times qa (1 ∷ g) ≡ d ++ e = ap (λ t. times qa t) (sym s.1) ∙ a.multiple.whole in
-    let wb : times qb (1 ∷ g) ≡ d ++ f = ap (λ t. times qb t) (sym s.1) ∙ b.multiple.whole in
     let tb = length-times qb 1 g in
     let lb = length-append d f in
     let na : length qa ≡ length d = omega (arith, length-times qa 1 g, length-append d e, ap length wa, a.count, s.2) in
@@ -153,8 +145,7 @@ correction-after p n register (b ∷ d) g k e a c =
     let register' : List ℕ = plus (drop 1 register ++ 0 ∷ []) (scaled (bit_xor b r) g) in
     let one : 0 < length register = omega (arith, c.count) in
     let f : r ∷ drop 1 register ≡ register = sym (drop_more register 0 0 one) in
-    let before : IsCorrection p n (r ∷ drop 1 register) = subst (λ (t : List ℕ). IsCorrection p n t) (sym f) c in
-    let next = correction-next p n b r (drop 1 register) g (All-head IsByte b d a) e before in
+    let next = correction-next p n b r (drop 1 register) g (All-head IsByte b d a) e (subst (λ (t : List ℕ). IsCorrection p n t) (sym f) c) in
     search (arith, All-tail, append_assoc, correction-after (p ++ b ∷ []) n register' d g k e (All-tail IsByte b d a) next)
 
 -- all data codewords have error correction codewords

@@ -1,5 +1,4 @@
-use Rattle.{std.proofs.Common.{◌≡◌, ◌∷◌}, arrayvec.specs.ArrayVec.array_vec_len}
-use Rattle.qr_field.specs.Polynomial.{power, generator_of}
+use Rattle.{arrayvec.specs.ArrayVec.array_vec_len, qr_field.specs.Polynomial.{power, generator_of}, std.proofs.Common.{◌≡◌, ◌∷◌}}
 use Rattle.qr_field.proofs.polynomial.generator.Given as goal
 
 abbrev pub invariant-loop-i : goal.invariant-loop-i

@@ -1,5 +1,4 @@
-use Rattle.std.proofs.Common.{◌≡◌, ◌*◌, ◌%◌, ◌^◌, arith, bit_and}
-use Rattle.{std.proofs.lemmas.Nat.and_le_r, qr_field.proofs.lemmas.register.RegisterLemmas.doubled-packed}
+use Rattle.{qr_field.proofs.lemmas.register.doubled-packed, std.proofs.{Common.{◌≡◌, ◌*◌, ◌%◌, ◌^◌, arith, bit_and}, lemmas.Nat.and_le_r}}
 use Rattle.qr_field.proofs.register.doubled_word.Goals as goal
 
 pub returns : goal.returns

@@ -1,5 +1,5 @@
 use Rattle.std.proofs.Common.{rules, ◌≡◌, ◌≤◌, ◌-◌, ◌+◌, cond, eqb, ◌/◌, ℕ, arith}
-use Rattle.{std.proofs.lemmas.Bool.Decides.nat_tests, qr_layout.proofs.lemmas.alignment.TableLemmas.centres-agree}
+use Rattle.{std.proofs.lemmas.Bool.Decides.nat_tests, qr_layout.proofs.lemmas.alignment.centres-agree}
 use Rattle.qr_layout.proofs.alignment.centre_list.Goals as goal
 
 first : (n i many : ℕ) → n ≡ 1 → i ≡ n - 1 → many ≡ 0 → many ≡ cond (eqb i 0) 0 ((i + 1) / 7 + 2)
@@ -13,5 +13,4 @@ returns c =
     let n = c.number-number.result in
     let i = c.from.result in
     let many = c.if-number-eq1.many in
-    let e : many ≡ cond (eqb i 0) 0 ((i + 1) / 7 + 2) = search rules in
-    centres-agree c.args.version i many (omega arith) (omega arith) e
+    centres-agree c.args.version i many (omega arith) (omega arith) (search rules)

@@ -1,5 +1,4 @@
-use Rattle.std.proofs.Common.{rules}
-use Rattle.qr_layout.proofs.{lemmas.format.WordLemmas.format-at, format.format_word.Goals.{in-L, in-M, in-Q, in-H}}
+use Rattle.{qr_layout.proofs.{format.format_word.Goals.{in-L, in-M, in-Q, in-H}, lemmas.format.WordLemmas.format-at}, std.proofs.Common.rules}
 use Rattle.qr_layout.proofs.format.format_word.Goals as goal
 
 pub returns : goal.returns

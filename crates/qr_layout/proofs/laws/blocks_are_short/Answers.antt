@@ -1,5 +1,4 @@
-use Rattle.std.proofs.Common.{rules}
-use Rattle.qr_layout.proofs.lemmas.blocks.BlockLemmas.{blocks-short}
+use Rattle.{qr_layout.proofs.lemmas.blocks.blocks-short, std.proofs.Common.rules}
 use Rattle.qr_layout.proofs.laws.blocks_are_short.Goals as goal
 
 pub returns-clause-most : goal.returns-clause-most

@@ -1,5 +1,4 @@
-use Rattle.std.proofs.Common.{rules}
-use Rattle.qr_layout.proofs.lemmas.blocks.BlockLemmas.{damage-stood}
+use Rattle.{qr_layout.proofs.lemmas.blocks.damage-stood, std.proofs.Common.rules}
 use Rattle.qr_layout.proofs.laws.blocks_stand_damage.Goals as goal
 
 pub returns : goal.returns

@@ -1,4 +1,4 @@
-use Rattle.{std.proofs.Common.arith, qr_layout.proofs.lemmas.blocks.BlockLemmas.laws-of}
+use Rattle.{std.proofs.Common.arith, qr_layout.proofs.lemmas.blocks.laws-of}
 use Rattle.qr_layout.proofs.laws.data_is_bounded.Goals as goal
 
 pub returns-clause-small : goal.returns-clause-small

@@ -1,5 +1,4 @@
-use Rattle.std.proofs.Common.{rules}
-use Rattle.qr_layout.proofs.lemmas.role.RolePlaceLemmas.{format-first, format-second, format-only}
+use Rattle.{qr_layout.proofs.lemmas.role.RolePlaceLemmas.{format-first, format-second, format-only}, std.proofs.Common.rules}
 use Rattle.qr_layout.proofs.laws.format_bits_have_places.Goals as goal
 
 pub returns-clause-first : goal.returns-clause-first

@@ -1,5 +1,4 @@
-use Rattle.std.proofs.Common.{rules}
-use Rattle.qr_layout.proofs.lemmas.laws.IndexLemmas.{index-below, index-one, index-onto}
+use Rattle.{qr_layout.proofs.lemmas.laws.{index-below, index-one, index-onto}, std.proofs.Common.rules}
 use Rattle.qr_layout.proofs.laws.indices_are_places.Goals as goal
 
 pub returns-clause-below : goal.returns-clause-below

@@ -1,5 +1,4 @@
-use Rattle.std.proofs.Common.{rules}
-use Rattle.qr_layout.proofs.lemmas.order.OrderLemmas.{order-length, module-count-small}
+use Rattle.{qr_layout.proofs.lemmas.order.OrderLemmas.{order-length, module-count-small}, std.proofs.Common.rules}
 use Rattle.qr_layout.proofs.laws.order_is_full.Goals as goal
 
 pub returns-clause-count : goal.returns-clause-count

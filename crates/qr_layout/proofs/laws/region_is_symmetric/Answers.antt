@@ -1,4 +1,4 @@
-use Rattle.qr_layout.proofs.lemmas.region.SymmetryLemmas.{region-symmetric}
+use Rattle.qr_layout.proofs.lemmas.region.{region-symmetric}
 use Rattle.qr_layout.proofs.laws.region_is_symmetric.Goals as goal
 
 pub returns : goal.returns

@@ -1,5 +1,4 @@
-use Rattle.std.proofs.Common.{rules}
-use Rattle.qr_layout.proofs.lemmas.role.RolePlaceLemmas.{region-role, role-region}
+use Rattle.{qr_layout.proofs.lemmas.role.RolePlaceLemmas.{region-role, role-region}, std.proofs.Common.rules}
 use Rattle.qr_layout.proofs.laws.region_is_the_rest.Goals as goal
 
 pub returns : goal.returns

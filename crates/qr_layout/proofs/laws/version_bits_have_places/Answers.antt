@@ -1,5 +1,4 @@
-use Rattle.std.proofs.Common.{arith}
-use Rattle.qr_layout.proofs.lemmas.role.RolePlaceLemmas.{version-first, version-second, version-only}
+use Rattle.{qr_layout.proofs.lemmas.role.RolePlaceLemmas.{version-first, version-second, version-only}, std.proofs.Common.arith}
 use Rattle.qr_layout.proofs.laws.version_bits_have_places.Goals as goal
 
 pub returns-clause-first : goal.returns-clause-first

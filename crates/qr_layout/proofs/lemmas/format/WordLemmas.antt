@@ -3,7 +3,7 @@ use Rattle.std.proofs.Common.{◌≡◌, ℕ, zero, suc, ◌+◌, ◌-◌, ◌*�
 use Rattle.std.{proofs.lemmas.Bool.{eqb-true}, specs.{Prelude.bit_xor, Int.bit_at}}
 use Rattle.qr_layout.specs.declared.{level.Level.Level, format.TheConstants.{FORMAT_WORDS, VERSION_WORDS}}
 use Rattle.qr_layout.specs.Format.{format_generator, version_generator, word_remainder, format_with, five_bits, format_word_of, version_word_of, level_bits, sum_of_shifts, IsWordRemainder, IsFormatWord, IsVersionWord}
-use Rattle.qr_layout.proofs.lemmas.alignment.TableLemmas.{below, below-at}
+use Rattle.qr_layout.proofs.lemmas.alignment.{below, below-at}
 
 -- the two tables have the same format information at an index
 formats : ℕ → Bool
@@ -27,14 +27,13 @@ all-versions = refl
 pub version-word-at : (v i : ℕ) → 7 ≤ v → v ≤ 40 → i ≡ v - 7 → get_or VERSION_WORDS i 0 ≡ version_word_of v
 unfolding versions
 version-word-at v i a b e =
-    let f : i + 7 ≡ v = omega arith in eqb-true (get_or VERSION_WORDS i 0) (version_word_of (i + 7)) (below-at 34 versions all-versions i (omega arith)) ∙ ap version_word_of f
+    eqb-true (get_or VERSION_WORDS i 0) (version_word_of (i + 7)) (below-at 34 versions all-versions i (omega arith)) ∙ ap version_word_of (omega arith)
 
 -- the format information that the code takes from its table
 pub format-at : (l : Level) (first mask i : ℕ) → first ≡ 8 * level_bits l → level_bits l ≤ 3 → mask < 8 → i ≡ first + mask → get_or FORMAT_WORDS i 0 ≡ format_word_of l mask
 unfolding formats format_word_of
 format-at l first mask i e k h f =
-    let g : i ≡ 8 * level_bits l + mask = omega arith in
-    eqb-true (get_or FORMAT_WORDS i 0) (format_with i) (below-at 32 formats all-formats i (omega arith)) ∙ ap format_with g
+    eqb-true (get_or FORMAT_WORDS i 0) (format_with i) (below-at 32 formats all-formats i (omega arith)) ∙ ap format_with (omega arith)
 
 -- ---- the remainders
 

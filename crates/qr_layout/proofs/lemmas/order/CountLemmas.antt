@@ -1,5 +1,5 @@
 -- The number of places of a square that pass a test is the length of a list that contains just these places, each once.
-use Rattle.std.proofs.Common.{◌≡◌, ◌≢◌, ℕ, zero, suc, ◌+◌, ◌<◌, Bool, true, false, cond, List, [], ◌∷◌, ◌++◌, length, length-append, add-zero, zero-add, refl, sym, ap, ◌∙◌, subst, inl, inr, arith}
+use Rattle.std.proofs.Common.{◌≡◌, ◌≢◌, ℕ, zero, suc, ◌+◌, ◌<◌, Bool, true, cond, List, [], ◌∷◌, ◌++◌, length, length-append, add-zero, zero-add, refl, sym, ap, ◌∙◌, inl, inr, arith}
 use Rattle.std.{proofs.lemmas.{Bool.cases_lt, List.Sums.sum_by_push}, specs.List.{range_with_len, sum_by}}
 use Rattle.qr_layout.specs.{declared.region.Place.Place, Order.places_passing}
 use Rattle.qr_layout.proofs.lemmas.order.ListLemmas.{Mem, Distinct, Mem-at, All-of-Mem, Mem-append, Mem-left, Mem-right, length-le_members}
@@ -18,13 +18,12 @@ range-push a (suc n) = search (arith, range-push (a + 1) n)
 sum-range : (n : ℕ) (f : ℕ → ℕ) → sum_by f (range_with_len 0 n) ≡ sum_below n f
 sum-range zero f = refl
 sum-range (suc n) f =
-    let e = ap (λ xs. sum_by f xs) (range-push 0 n) ∙ sum_by_push f (range_with_len 0 n) (0 + n) in
-    search (arith, zero-add, sum-range n f)
+    search (arith, zero-add, sum-range n f, ap (λ xs. sum_by f xs) (range-push 0 n) ∙ sum_by_push f (range_with_len 0 n) (0 + n))
 
 -- sums of equal terms are equal
 pub sum_below-same : (n : ℕ) (f g : ℕ → ℕ) → ((k : ℕ) → k < n → f k ≡ g k) → sum_below n f ≡ sum_below n g
 sum_below-same zero f g e = refl
-sum_below-same (suc n) f g e = let a = e n (omega arith) in let b = sum_below-same n f g (λ k l. e k (omega arith)) in omega arith
+sum_below-same (suc n) f g e = let b = sum_below-same n f g (λ k l. e k (omega arith)) in omega arith
 
 -- the module at a row and a column
 abbrev at : ℕ → ℕ → Place
@@ -52,9 +51,7 @@ RowFact p r n m = (m.row ≡ r) × (m.col < n) × Passes p m
 
 -- one more column adds its place, if the place passes
 row-cond : (p : ℕ → ℕ → Bool) (r n : ℕ) (t : Bool) (xs : List Place) → (t ≡ true → p r n ≡ true) → ((m : Place) → Mem m xs → RowFact p r n m) → (m : Place) → Mem m (cond t (at r n ∷ xs) xs) → RowFact p r (suc n) m
-row-cond p r n true xs i f m (inl e) = subst (RowFact p r (suc n)) e (refl, omega arith, i refl)
-row-cond p r n true xs i f m (inr k) = let w = f m k in let l = w.1 in (w.0, omega arith, w.2)
-row-cond p r n false xs i f m k = let w = f m k in let l = w.1 in (w.0, omega arith, w.2)
+row-cond p r n t xs i f m k = grind arith
 
 -- each place in the list of a row is in the row and passes
 row-facts : (p : ℕ → ℕ → Bool) (r n : ℕ) (m : Place) → Mem m (row_places p r n) → RowFact p r n m
@@ -69,13 +66,12 @@ row-has-cond r n m t xs i e f l = search arith
 -- each place of a row that passes is in the list
 row-has : (p : ℕ → ℕ → Bool) (r n : ℕ) (m : Place) → RowFact p r n m → Mem m (row_places p r n)
 unfolding row_places
-row-has p r zero m w = absurd (let l = w.1 in omega arith)
+row-has p r zero m w = absurd (omega arith)
 row-has p r (suc n) m w = row-has-cond r n m (p r n) (row_places p r n) (λ e. (ap (λ z. p z n) (sym w.0) ∙ ap (λ z. p m.row z) (sym e)) ∙ w.2) w.0 (λ l. row-has p r n m (w.0, l, w.2)) w.1
 
 -- one more place of a row was not in the list before
 row-distinct-cond : (r n : ℕ) (t : Bool) (xs : List Place) → ((m : Place) → Mem m xs → m.col < n) → Distinct xs → Distinct (cond t (at r n ∷ xs) xs)
-row-distinct-cond r n true xs f d = search (arith, All-of-Mem)
-row-distinct-cond r n false xs f d = d
+row-distinct-cond r n t xs f d = grind (arith, All-of-Mem)
 
 -- no place of a row is in the list twice
 row-distinct : (p : ℕ → ℕ → Bool) (r n : ℕ) → Distinct (row_places p r n)
@@ -103,17 +99,17 @@ grid-facts : (p : ℕ → ℕ → Bool) (r s : ℕ) (m : Place) → Mem m (grid_
 unfolding grid_places
 grid-facts p zero s m k = absurd k
 grid-facts p (suc r) s m k = elim (Mem-append m (row_places p r s) (grid_places p r s) k) [
-  | inl l ↦ let w = row-facts p r s m l in let a = w.0 in (omega arith, w.1, w.2)
+  | inl l ↦ let w = row-facts p r s m l in (omega arith, w.1, w.2)
   | inr l ↦ search (arith, grid-facts p r s m l)
 ]
 
 -- each place of the square that passes is in the list
 grid-has : (p : ℕ → ℕ → Bool) (r s : ℕ) (m : Place) → GridFact p r s m → Mem m (grid_places p r s)
 unfolding grid_places
-grid-has p zero s m w = absurd (let l = w.0 in omega arith)
+grid-has p zero s m w = absurd (omega arith)
 grid-has p (suc r) s m w = elim (cases_lt m.row r) [
   | inl l ↦ search (arith, Mem-right, grid-has p r s m (l, w.1, w.2))
-  | inr l ↦ Mem-left m (row_places p r s) (grid_places p r s) (row-has p r s m ((let a = w.0 in omega arith), w.1, w.2))
+  | inr l ↦ Mem-left m (row_places p r s) (grid_places p r s) (row-has p r s m ((omega arith), w.1, w.2))
 ]
 
 -- no place of the square is in the list twice
@@ -136,5 +132,4 @@ places-sum s p = search (arith, sum-range, sum_below-same)
 -- the length of a list of the places that pass, each once, is the count
 pub count-of : (s : ℕ) (p : ℕ → ℕ → Bool) (ms : List Place) → Distinct ms → ((m : Place) → Mem m ms → (m.row < s) × (m.col < s) × (p m.row m.col ≡ true)) → ((m : Place) → m.row < s → m.col < s → p m.row m.col ≡ true → Mem m ms) → length ms ≡ places_passing s p
 count-of s p ms d f g =
-    let a = length-le_members ms (grid_places p s s) d (λ m k. grid-has p s s m (f m k)) in
-    search (arith, length-le_members, grid_places, grid-distinct, grid-facts, grid-length, places-sum)
+    search (arith, length-le_members, grid_places, grid-distinct, grid-facts, grid-length, places-sum, length-le_members ms (grid_places p s s) d (λ m k. grid-has p s s m (f m k)))

@@ -1,11 +1,10 @@
 -- The number of modules of the encoding region, computed: for each row only the rectangles that meet the row are checked.
+use Rattle.qr_layout.{proofs.lemmas.{alignment.{region-taken, below}, order.CountLemmas.{sum_below, sum_below-same, places-sum}}, specs.Alignment.centres_of}
+use Rattle.qr_layout.specs.{Order.places_passing, Rectangles.is_in_rectangle, Region.is_in_region, Steps.Rectangles.taken_rectangles}
+use Rattle.qr_layout.specs.{Version.{total_codewords_of, remainder_bits_of, module_count_of, side_of}, declared.region.Rectangle.Rectangle}
 use Rattle.std.proofs.Common.{◌≡◌, ℕ, zero, suc, ◌+◌, ◌-◌, ◌<◌, ◌≤◌, min, max, Bool, true, false, not, ◌&&◌, cond, eqb, ltb, leb, List, [], ◌∷◌, refl, ap, ◌∙◌, inl, inr, arith}
-use Rattle.std.proofs.Math.Nat.{min-eq_left, min-eq_right, max-eq_left, max-eq_right}
-use Rattle.std.{proofs.lemmas.Bool.{cases_lt, Decides.nat_tests}, specs.List.{list_any, filter}}
-use Rattle.qr_layout.specs.{Region.is_in_region, declared.region.Rectangle.Rectangle, Order.places_passing}
-use Rattle.qr_layout.specs.Version.{total_codewords_of, remainder_bits_of, module_count_of}
-use Rattle.qr_layout.specs.{Rectangles.is_in_rectangle, Steps.Rectangles.taken_rectangles, Version.side_of, Alignment.centres_of}
-use Rattle.qr_layout.proofs.lemmas.{alignment.{AlignmentLemmas.region-taken, TableLemmas.below}, order.CountLemmas.{sum_below, sum_below-same, places-sum}}
+use Rattle.std.proofs.{Math.Nat.{min-eq_left, min-eq_right, max-eq_left, max-eq_right}, lemmas.Bool.{cases_lt, Decides.nat_tests}}
+use Rattle.std.specs.List.{list_any, filter}
 
 -- the row goes through the rectangle
 abbrev pub is_in_rows : ℕ → Rectangle → Bool

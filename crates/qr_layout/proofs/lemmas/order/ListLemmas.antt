@@ -73,8 +73,7 @@ pub length-le_members : {X : Type 0} (xs ys : List X) → Distinct xs → ((x : 
 length-le_members [] ys d f = omega arith
 length-le_members (x ∷ xs) ys d f =
     let w = split x ys (f x (inl refl)) in
-    let g = length-le_members xs (w.0 ++ w.1) d.1 (λ z m. Mem-other x z w.0 w.1 (Mem-at (λ y. x ≢ y) xs z d.0 m) (subst (λ zs. Mem z zs) w.2 (f z (inr m)))) in
-    search (arith, length-mid)
+    search (arith, length-mid, length-le_members xs (w.0 ++ w.1) d.1 (λ z m. Mem-other x z w.0 w.1 (Mem-at (λ y. x ≢ y) xs z d.0 m) (subst (λ zs. Mem z zs) w.2 (f z (inr m)))))
 
 -- an item that a list contains is in the list
 pub Mem-of-Contains : {X : Type 0} (xs : List X) (x : X) → Contains xs x → Mem x xs
@@ -108,7 +107,4 @@ one-rising R a (x ∷ xs) (y ∷ ys) r s f g =
       | inl e ↦ e
       | inr m ↦ elim (g y (inl refl)) [ inl e ↦ sym e | inr n ↦ search (arith, Mem-at) ]
     ] in
-    let t = one-rising R a xs ys r.1 s.1
-    (λ z m. elim (f z (inr m)) [ inl k ↦ search (arith, Mem-at) | inr n ↦ n ])
-    (λ z m. elim (g z (inr m)) [ inl k ↦ search (arith, Mem-at) | inr n ↦ n ]) in
-    λ i. sym e i ∷ t i
+    λ i. sym e i ∷ (one-rising R a xs ys r.1 s.1 (λ z m. elim (f z (inr m)) [ inl k ↦ search (arith, Mem-at) | inr n ↦ n ]) (λ z m. elim (g z (inr m)) [ inl k ↦ search (arith, Mem-at) | inr n ↦ n ])) i

@@ -1,12 +1,12 @@
 -- A version has one order, and the length of the order is the number of modules of the encoding region.
-use Rattle.std.proofs.Common.{◌≡◌, ℕ, ◌+◌, ◌≤◌, true, leb, eqb, List, [], ◌∷◌, ◌++◌, ◌&&◌, length, refl, sym, ◌∙◌, subst, inl, inr, arith}
-use Rattle.{std.proofs.lemmas.Bool.{and_parts, eqb-true}, qr_layout.specs.declared.region.Place.Place}
-use borrow.Author.Tests.{leb-true}
-use Rattle.qr_layout.specs.{Order.{key_of, is_before, IsOrder, places_passing, index_of}, Version.{total_codewords_of, remainder_bits_of, module_count_of}}
-use Rattle.qr_layout.specs.{Region.is_in_region, Region.InRegion, Version.side_of, Alignment.centres_of, Laws.region_size}
-use Rattle.qr_layout.proofs.lemmas.{alignment.TableLemmas.{below, below-from}, region.RegionLemmas.{row-in, col-in}}
+use Rattle.qr_layout.proofs.lemmas.{alignment.{below, below-from}, order.{CountLemmas.count-of, FastCountLemmas.{region-count, agrees, agrees-40}}}
 use Rattle.qr_layout.proofs.lemmas.order.ListLemmas.{Mem, Rises, Distinct, Mem-at, All-of-Mem, All-rec, Mem-left, Mem-right, Mem-append, Rises-of-pairs, one-rising, Mem-of-Contains}
-use Rattle.qr_layout.proofs.lemmas.order.{CountLemmas.count-of, PathLemmas.before-parts, FastCountLemmas.{region-count, agrees, agrees-40}}
+use Rattle.qr_layout.{proofs.lemmas.region.{row-in, col-in}, specs.{Alignment.centres_of, Laws.region_size}}
+use Rattle.qr_layout.specs.{Order.{key_of, is_before, IsOrder, places_passing, index_of}, Region.{is_in_region, InRegion}}
+use Rattle.qr_layout.specs.{Version.{total_codewords_of, remainder_bits_of, module_count_of, side_of}, declared.region.Place.Place}
+use Rattle.std.proofs.Common.{◌≡◌, ℕ, ◌+◌, ◌≤◌, true, leb, eqb, List, [], ◌∷◌, ◌++◌, ◌&&◌, length, refl, sym, ◌∙◌, subst, inl, inr, arith}
+use Rattle.std.proofs.lemmas.Bool.{and_parts, eqb-true, Decides.nat_tests}
+use borrow.Author.Tests.{leb-true}
 
 -- a list that rises has no item twice
 Rises-distinct : {X : Type 0} (R : X → X → Type 0) → ((x y : X) → R x y → R y x → ⊥) → (xs : List X) → Rises R xs → Distinct xs
@@ -19,7 +19,8 @@ Before v m n = is_before (key_of v m) (key_of v n) ≡ true
 
 -- no two modules are each before the other
 asym : (v : ℕ) (m n : Place) → Before v m n → Before v n m → ⊥
-asym v m n h k = search (arith, before-parts)
+unfolding is_before
+asym v m n h k = search (arith, nat_tests)
 
 -- each item of the order is in the region
 pub order-mem : (v : ℕ) (ms : List Place) → IsOrder v ms → (m : Place) → Mem m ms → InRegion v m
@@ -98,11 +99,10 @@ index-at v front back m o =
     (λ x k. let w = order-mem v whole o x (Mem-left x front (m ∷ back) k) in (row-in v x w, col-in v x w, (rw (w, (Rises-front (Before v) front back m rises x k)) refl)))
     (λ x a b k.
     let w : is_in_region v x.row x.col ≡ true = (and_parts _ (is_before (key_of v x) (key_of v m)) k).0 in
-    let l = (and_parts (is_in_region v x.row x.col) (is_before (key_of v x) (key_of v m)) k).1 in
     elim (Mem-append x front (m ∷ back) (order-has v whole o x w)) [
       | inl j ↦ j
       | inr j ↦ elim j [
         | inl e ↦ search (arith, asym)
-        | inr i ↦ absurd (asym v x m l (Rises-after (Before v) front back m rises x i))
+        | inr i ↦ absurd (asym v x m ((and_parts (is_in_region v x.row x.col) (is_before (key_of v x) (key_of v m)) k).1) (Rises-after (Before v) front back m rises x i))
       ]
     ]))

@@ -1,6 +1,6 @@
 -- The cursors of the walk: a step leaves one fewer, and a cursor with fewer left has a later key. v is a version.
 use Rattle.std.proofs.{Common.{◌≡◌, ℕ, ◌+◌, ◌-◌, ◌*◌, ◌<◌, ◌≤◌, Bool, true, ◌⊎◌, arith}, Math.Nat.mul-le-mul_right, lemmas.Bool.Decides.nat_tests}
-use Rattle.qr_layout.specs.{declared.order.Cursor.Cursor, Version.side_of, Order.{Key, key_of, is_before}}
+use Rattle.qr_layout.specs.{declared.order.Cursor.Cursor, Version.side_of, Order.{key_of, is_before}}
 use Rattle.qr_layout.specs.Steps.Order.{half_of, place_of, rows_before_of, left_of, next_of, IsCursor}
 
 -- if p is positive, then w is at most p * w
@@ -42,21 +42,7 @@ mul-lt p q w k = search (arith, mul-le-mul_right)
 before-arith : (h p q w x y : ℕ) → p ≤ h → q ≤ h → x < w → y < w → q * w - y < p * w - x → 0 < q → (h - p < h - q) ⊎ ((h - p ≡ h - q) × (x < y))
 before-arith h p q w x y a b c d e f = search (arith, mul-lt)
 
--- keys are ordered by strip, then by row, then by column
-abbrev KeysRise : Key → Key → Type 0
-KeysRise a b = (a.strip < b.strip) ⊎ ((a.strip ≡ b.strip) × ((a.rows_before < b.rows_before) ⊎ ((a.rows_before ≡ b.rows_before) × (a.column < b.column))))
-
--- if the test `is_before a b` passes, then `KeysRise a b` holds
-pub before-parts : (a b : Key) → is_before a b ≡ true → KeysRise a b
-unfolding is_before
-before-parts a b h = grind (arith, nat_tests)
-
--- if `KeysRise a b` holds, then the test `is_before a b` passes
-before-test : (a b : Key) → KeysRise a b → is_before a b ≡ true
-unfolding is_before
-before-test a b h = grind (arith, nat_tests)
-
 -- if cursor b has fewer cursors left than cursor a, then the module at b has a later key than the module at a
 pub is_before-left : (v : ℕ) (a b : Cursor) → IsCursor v a → IsCursor v b → 0 < a.strips_left → 0 < b.strips_left → left_of (side_of v) b < left_of (side_of v) a → is_before (key_of v (place_of a)) (key_of v (place_of b)) ≡ true
-unfolding left_of
-is_before-left v a b i j k l m = search (arith, half_of-bound, key_of-place, before-test, before-arith, nat_tests)
+unfolding left_of is_before
+is_before-left v a b i j k l m = search (arith, half_of-bound, key_of-place, before-arith, nat_tests)

@@ -1,12 +1,11 @@
 -- The modules that the walk visits are the order of the version. Here v is a version, and s the side of its square.
-use Rattle.std.proofs.Common.{◌≡◌, ℕ, zero, suc, ◌+◌, ◌-◌, ◌*◌, ◌<◌, ◌≤◌, Bool, true, false, cond, List, [], ◌∷◌, ◌++◌, length, get_or, refl, sym, ap, ◌∙◌, subst, inl, inr, arith}
-use Rattle.std.{proofs.Math.Nat.mul-le-mul_right, specs.List.{AllPairs, AllByRecursion, Contains}}
-use Rattle.std.proofs.lemmas.{Bool.cases_lt, Bool.Decides.nat_tests, List.Elements.All-from_recursion}
-use Rattle.qr_layout.specs.{declared.{region.Place.Place, order.Cursor.Cursor}, Order.{key_of, is_before, IsOrder, IsOrderAfter}}
-use Rattle.qr_layout.specs.Steps.Order.{half_of, place_of, left_of, next_of, IsCursor, places_among, to_come, first_cursor, cursor_at}
-use Rattle.qr_layout.specs.{Region.is_in_region, Region.InRegion, Version.side_of}
-use Rattle.qr_layout.proofs.lemmas.{order.ListLemmas.Rises, region.RegionLemmas.{row-in, col-in, col-not_timing}}
-use Rattle.qr_layout.proofs.lemmas.order.PathLemmas.{half_of-bound, mul-lt, mul-le_one, next-left, next-IsCursor, is_before-left}
+use Rattle.qr_layout.proofs.lemmas.order.{ListLemmas.Rises, PathLemmas.{half_of-bound, mul-lt, mul-le_one, next-left, next-IsCursor, is_before-left}}
+use Rattle.qr_layout.{proofs.lemmas.region.{row-in, col-in, col-not_timing}, specs.Order.{key_of, is_before, IsOrder, IsOrderAfter}}
+use Rattle.qr_layout.specs.{Region.{is_in_region, InRegion}, Steps.Order.{place_of, left_of, next_of, IsCursor, places_among, to_come, first_cursor, cursor_at}}
+use Rattle.qr_layout.specs.{Version.side_of, declared.{order.Cursor.Cursor, region.Place.Place}}
+use Rattle.std.proofs.Common.{◌≡◌, ℕ, zero, suc, ◌+◌, ◌-◌, ◌*◌, ◌<◌, ◌≤◌, Bool, true, false, cond, List, [], ◌∷◌, ◌++◌, refl, sym, ap, ◌∙◌, subst, inl, inr, arith}
+use Rattle.std.proofs.{Math.Nat.mul-le-mul_right, lemmas.{Bool.{cases_lt, Decides.nat_tests}, List.Elements.All-from_recursion}}
+use Rattle.std.specs.List.{AllPairs, AllByRecursion, Contains}
 
 -- ---- lists
 
@@ -15,21 +14,17 @@ All-weaker_rec : {X : Type 0} (P Q : X → Type 0) → ((x : X) → P x → Q x)
 All-weaker_rec P Q f [] h = tt
 All-weaker_rec P Q f (x ∷ xs) h = (f x h.0, All-weaker_rec P Q f xs h.1)
 
--- if P holds for each item of xs, then P holds for the item at each index k of xs
-All-at : {X : Type 0} (P : X → Type 0) (xs : List X) → AllByRecursion P xs → (k : ℕ) (d : X) → k < length xs → P (get_or xs k d)
-All-at P xs h = All-from_recursion P xs h
-
 -- if each item of xs has the relation R to all items after it, then R holds for each pair of rising indices of xs
 AllPairs-from_rises : {X : Type 0} (R : X → X → Type 0) (xs : List X) → Rises R xs → AllPairs R xs
 AllPairs-from_rises R [] h i j d a b = absurd (omega arith)
 AllPairs-from_rises R (x ∷ xs) h zero zero d a b = absurd (omega arith)
-AllPairs-from_rises R (x ∷ xs) h zero (suc j) d a b = All-at (R x) xs h.0 j d (omega arith)
+AllPairs-from_rises R (x ∷ xs) h zero (suc j) d a b = search (arith, All-from_recursion)
 AllPairs-from_rises R (x ∷ xs) h (suc i) zero d a b = absurd (omega arith)
 AllPairs-from_rises R (x ∷ xs) h (suc i) (suc j) d a b = AllPairs-from_rises R xs h.1 i j d (omega arith) (omega arith)
 
 -- if the list xs contains m, then the list x ∷ xs contains m
 Contains-tail : {X : Type 0} (x m : X) (xs : List X) → Contains xs m → Contains (x ∷ xs) m
-Contains-tail x m xs h = (suc h.0, (let l = h.1 in omega arith), h.2)
+Contains-tail x m xs h = (suc h.0, (omega arith), h.2)
 
 -- ---- cursors
 
@@ -42,10 +37,6 @@ strips-positive s a n e = search arith
 same-arith : (p q w x y : ℕ) → x < w → y < w → 0 < p → 0 < q → p * w - x ≡ q * w - y → (p ≡ q) × (x ≡ y)
 same-arith p q w x y a b k l e = search (arith, mul-lt, mul-le_one)
 
--- two halves a and b with the same number are the same half
-half_of-same : (a b : Bool) → half_of a ≡ half_of b → a ≡ b
-half_of-same a b e = grind (arith, nat_tests)
-
 -- a cursor a in a strip has at least one cursor left, because a itself is counted
 left-positive : (v : ℕ) (a : Cursor) → IsCursor v a → 0 < a.strips_left → 0 < left_of (side_of v) a
 unfolding left_of
@@ -54,7 +45,7 @@ left-positive v a i k = search (arith, mul-le_one, half_of-bound, nat_tests)
 -- two cursors a and b with equally many cursors left are the same cursor
 same-cursor : (v : ℕ) (a b : Cursor) → IsCursor v a → IsCursor v b → 0 < a.strips_left → 0 < b.strips_left → left_of (side_of v) a ≡ left_of (side_of v) b → a ≡ b
 unfolding left_of
-same-cursor v a b i j k l e = grind (arith, half_of-bound, same-arith, nat_tests, half_of-same)
+same-cursor v a b i j k l e = search (arith, half_of-bound, same-arith, nat_tests)
 
 -- ---- the walk, n cursors at a time
 
@@ -72,23 +63,17 @@ places-suc v n a = refl
 abbrev Stop : ℕ → ℕ → Place → Type 0
 Stop v n m = (b : Cursor) × IsCursor v b × (0 < b.strips_left) × (left_of (side_of v) b ≤ n) × (place_of b ≡ m) × InRegion v m
 
--- what holds for a module that is put in front, and for each module of xs, holds for each of both
-stops-cond : (v n top : ℕ) (a : Cursor) (t : Bool) (xs : List Place) → (t ≡ true → Stop v top (place_of a)) → AllByRecursion (Stop v top) xs → AllByRecursion (Stop v top) (cond t (place_of a ∷ xs) xs)
-stops-cond v n top a true xs f h = (f refl, h)
-stops-cond v n top a false xs f h = h
-
 -- each module that the walk yields from a cursor a with n cursors left is at a cursor with at most n cursors left
 stops : (v n top : ℕ) (a : Cursor) → IsCursor v a → left_of (side_of v) a ≡ n → n ≤ top → AllByRecursion (Stop v top) (places_among v n a)
 stops v zero top a i e l = rw places-nil tt
 stops v (suc n) top a i e l =
     let k = strips-positive (side_of v) a n e in
     let d = next-left (side_of v) a k i.row_in in
-    search (arith, places-suc, stops-cond, next-IsCursor, stops v n top (next_of (side_of v) a) (next-IsCursor v a i k) (omega arith) (omega arith))
+    search (arith, places-suc, next-IsCursor, stops v n top (next_of (side_of v) a) (next-IsCursor v a i k) (omega arith) (omega arith))
 
 -- a rising list still rises with an item in front that has the relation to each of its items
 rises-cond : (R : Place → Place → Type 0) (x : Place) (t : Bool) (xs : List Place) → AllByRecursion (R x) xs → Rises R xs → Rises R (cond t (x ∷ xs) xs)
-rises-cond R x true xs h k = (h, k)
-rises-cond R x false xs h k = k
+rises-cond R x t xs h k = grind arith
 
 -- the modules that the walk yields from a cursor a with n cursors left have rising keys
 rises : (v n : ℕ) (a : Cursor) → IsCursor v a → left_of (side_of v) a ≡ n → Rises (λ m n. is_before (key_of v m) (key_of v n) ≡ true) (places_among v n a)
@@ -98,7 +83,7 @@ rises v (suc n) a i e =
     let k = strips-positive s a n e in
     let d = next-left s a k i.row_in in
     let j = next-IsCursor v a i k in
-    let f : (m : Place) → Stop v n m → is_before (key_of v (place_of a)) (key_of v m) ≡ true = λ m w. subst (λ (z : Place). is_before (key_of v (place_of a)) (key_of v z) ≡ true) w.4 (is_before-left v a w.0 i w.1 k w.2 (let l = w.3 in omega arith)) in
+    let f : (m : Place) → Stop v n m → is_before (key_of v (place_of a)) (key_of v m) ≡ true = λ m w. subst (λ (z : Place). is_before (key_of v (place_of a)) (key_of v z) ≡ true) w.4 (is_before-left v a w.0 i w.1 k w.2 (omega arith)) in
     rw places-suc (rises-cond (λ m n. is_before (key_of v m) (key_of v n) ≡ true) (place_of a) (is_in_region v a.row (place_of a).col) _ (All-weaker_rec (Stop v n) _ f _ (stops v n n (next_of s a) j (omega arith) (omega arith))) (rises v n (next_of s a) j (omega arith)))
 
 -- if the list xs contains m, then the list xs with x in front, if the test t passes, contains m
@@ -112,9 +97,8 @@ finds v zero a b i e j l h t = let p = left-positive v b j l in absurd (omega ar
 finds v (suc n) a b i e j l h t =
     let s = side_of v in
     let k = strips-positive s a n e in
-    let d = next-left s a k i.row_in in
     elim (cases_lt (left_of s b) (suc n)) [
-      | inl m ↦ rw places-suc (contains-cond (place_of a) (place_of b) (is_in_region v a.row (place_of a).col) _ (finds v n (next_of s a) b (next-IsCursor v a i k) (omega arith) j l (omega arith) t))
+      | inl m ↦ rw places-suc (contains-cond (place_of a) (place_of b) (is_in_region v a.row (place_of a).col) _ (finds v n (next_of s a) b (next-IsCursor v a i k) (omega (arith, next-left s a k i.row_in)) j l (omega arith) t))
       | inr m ↦ grind (arith, same-cursor, places-suc)
     ]
 
@@ -175,9 +159,8 @@ reaches v zero a b i e j l h = let p = left-positive v b j l in absurd (omega ar
 reaches v (suc n) a b i e j l h =
     let s = side_of v in
     let k = strips-positive s a n e in
-    let d = next-left s a k i.row_in in
     elim (cases_lt (left_of s b) (suc n)) [
-      | inl m ↦ rw places-suc (reach-cond v (place_of a) (is_in_region v a.row (place_of a).col) _ _ (reaches v n (next_of s a) b (next-IsCursor v a i k) (omega arith) j l (omega arith)))
+      | inl m ↦ rw places-suc (reach-cond v (place_of a) (is_in_region v a.row (place_of a).col) _ _ (reaches v n (next_of s a) b (next-IsCursor v a i k) (omega (arith, next-left s a k i.row_in)) j l (omega arith)))
       | inr m ↦ search (arith, same-cursor)
     ]
 
@@ -186,8 +169,7 @@ pub to_come-next : (v : ℕ) (a : Cursor) → IsCursor v a → 0 < a.strips_left
 unfolding to_come
 to_come-next v a i k =
     let s = side_of v in
-    let d = next-left s a k i.row_in in
-    let e : left_of s a ≡ suc (left_of s (next_of s a)) = omega arith in
+    let e : left_of s a ≡ suc (left_of s (next_of s a)) = omega (arith, next-left s a k i.row_in) in
     search (arith, places-suc)
 
 -- the modules that the walk yields after the cursor of module m are the modules that come after m in the order

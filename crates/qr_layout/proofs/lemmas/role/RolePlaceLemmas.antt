@@ -6,7 +6,7 @@ use Rattle.qr_layout.{specs.declared.role.Role.TheVariants.{Fixed, FormatBit, Ve
 use Rattle.qr_layout.specs.Region.{is_alignment, is_corner, is_in_region, is_timing, is_version_information, ring_of}
 use Rattle.qr_layout.specs.Role.{finder_ring, is_alignment_light, pattern_colour, is_dark_module, role_of}
 use Rattle.qr_layout.specs.Format.{first_place, second_place, version_place, mirror_of, is_at, format_bit_at, version_bit_at}
-use Rattle.qr_layout.proofs.lemmas.alignment.{TableLemmas.{below, below-at, below-from}, AlignmentLemmas.{region-free, region-parts}}
+use Rattle.qr_layout.proofs.lemmas.alignment.{below, below-at, below-from, region-free, region-parts}
 use Rattle.qr_layout.proofs.lemmas.format.BitPlaceLemmas.{either, first-at, bit_here, stands, format-at, format_in_column_8, format_in_row_8, version_at}
 
 -- the choice of a role, over what its parts say
@@ -31,7 +31,7 @@ either-place m n k h = search (arith, either, at-place)
 -- a bit of the format information that is found is at one of its two places
 found-format : (s : ℕ) (m : Place) (i : ℕ) → format_bit_at s m.row m.col ≡ Some i → (i < 15) × ((m ≡ first_place i) ⊎ (m ≡ second_place s i))
 unfolding format_bit_at
-found-format s m i h = let w = first-at 15 (λ i. is_at (first_place i) m.row m.col || is_at (second_place s i) m.row m.col) i h in search (arith, either-place)
+found-format s m i h = search (arith, either-place, first-at 15 (λ i. is_at (first_place i) m.row m.col || is_at (second_place s i) m.row m.col) i h)
 
 -- a bit of the format information is only at its two places
 pub format-only : (v : ℕ) (m : Place) (i : ℕ) → role_of v m.row m.col ≡ FormatBit i → (i < 15) × ((m ≡ first_place i) ⊎ (m ≡ second_place (side_of v) i))
@@ -134,11 +134,7 @@ record IsFree (a : Option Bool) (t : Bool) (f g : Option ℕ) : Type 0 where
 
 -- if the role is the region, the place has no colour and no bit and is not the dark module
 with-region : (a : Option Bool) (t : Bool) (f g : Option ℕ) → role_with a t f g ≡ Region → IsFree a t f g
-with-region (Some x) t f g h = cc
-with-region None true f g h = cc
-with-region None false (Some j) g h = cc
-with-region None false None (Some j) h = cc
-with-region None false None None h = search arith
+with-region a t f g h = grind arith
 
 -- the choice of a colour, over its tests
 abbrev colour_with : Bool → Bool → Bool → Bool → Bool → Bool → Bool → Bool → Bool → Option Bool
@@ -154,17 +150,7 @@ record IsOffPatterns (x y z w e : Bool) : Type 0 where
 
 -- if a place has no colour, each of these tests fails
 colour-none : (x y z w e b d p q : Bool) → colour_with x y z w e b d p q ≡ None → IsOffPatterns x y z w e
-colour-none true y z w e b d p q h = cc
-colour-none false true z w e b d p q h = cc
-colour-none false false true w e b d p q h = cc
-colour-none false false false true e b d p q h = cc
-colour-none false false false false true b d p q h = cc
-colour-none false false false false false b d p q h = search arith
-
--- a place without a colour is outside the function patterns
-pattern-none : (v r c : ℕ) → pattern_colour v r c ≡ None → IsOffPatterns (ltb (finder_ring (side_of v) r c) 4) (eqb (finder_ring (side_of v) r c) 4) (eqb r 6) (eqb c 6) (is_alignment v r c)
-unfolding pattern_colour
-pattern-none v r c h = search (arith, colour-none)
+colour-none x y z w e b d p q h = grind arith
 
 -- a place off the finder and timing patterns has the colour of an alignment pattern, or none
 pub off-pattern : (v r c : ℕ) → 5 ≤ finder_ring (side_of v) r c → (r ≡ 6 → ⊥) → (c ≡ 6 → ⊥) → pattern_colour v r c ≡ cond (is_alignment v r c) (Some (not (is_alignment_light v r c))) None
@@ -232,7 +218,7 @@ corner-far s r c l w = omega (arith, left w.off_left, right w.off_right, down w.
 
 -- a place off the corners is not the dark module
 corner-not_dark : (s r c : ℕ) → 21 ≤ s → IsOffCorners s r c → is_dark_module s r c ≡ false
-corner-not_dark s r c l w = let b = w.off_below in grind (arith, nat_tests)
+corner-not_dark s r c l w = grind (arith, nat_tests)
 
 -- a place off the corners has no bit of the format information
 corner-no_format : (s r c : ℕ) → 21 ≤ s → IsOffCorners s r c → format_bit_at s r c ≡ None
@@ -258,21 +244,9 @@ corner-no_format s r c l w =
 timing-free : (r c : ℕ) → (r ≡ 6 → ⊥) → (c ≡ 6 → ⊥) → is_timing r c ≡ false
 timing-free r c h k = grind (arith, nat_tests)
 
--- a place on no timing pattern is not in row 6
-timing-row : (r c : ℕ) → is_timing r c ≡ false → r ≡ 6 → ⊥
-timing-row r c h e = grind (arith, nat_tests)
-
--- a place on no timing pattern is not in column 6
-timing-column : (r c : ℕ) → is_timing r c ≡ false → c ≡ 6 → ⊥
-timing-column r c h e = grind (arith, nat_tests)
-
 -- a place that has no bit of the version information is in no copy of it
 version-free : (v r c : ℕ) → version_bit_at v r c ≡ None → is_version_information v r c ≡ false
 version-free v r c h = truth _ (λ t. let e = rw t at (version_at v r c) in cc)
-
--- a place in no copy has no bit of the version information
-free-version : (v r c : ℕ) → is_version_information v r c ≡ false → version_bit_at v r c ≡ None
-free-version v r c h = version_at v r c ∙ rw h refl
 
 -- ---- the law
 
@@ -297,10 +271,9 @@ not-six n h e = grind (arith, nat_tests)
 
 -- a module with the role Region is in the encoding region
 pub role-region : (v r c : ℕ) → 1 ≤ v → r < side_of v → c < side_of v → role_of v r c ≡ Region → is_in_region v r c ≡ true
+unfolding pattern_colour
 role-region v r c l i j h =
-    let s = side_of v in
-    let w = with-region (pattern_colour v r c) (is_dark_module s r c) (format_bit_at s r c) (version_bit_at v r c) (sym (role-with v r c) ∙ h) in
-    search (arith, not-six, corners-free, ring-far, region-free, timing-free, version-free, pattern-none v r c w.no_pattern)
+    search (arith, with-region, role-with, not-six, corners-free, ring-far, region-free, timing-free, version-free, colour-none)
 
 -- a place off the corners, the timing patterns and the version information is in an alignment pattern or in the region
 pub off-role : (v r c : ℕ) → 1 ≤ v → r < side_of v → c < side_of v → is_corner (side_of v) r c ≡ false → is_timing r c ≡ false → is_version_information v r c ≡ false
@@ -310,8 +283,8 @@ off-role v r c l i j ha ht hv =
     let o = off-corners s r c (omega arith) i j ha in
     let far = corner-far s r c (omega arith) o in
     role-with v r c
-    ∙ (ap (λ a. role_with a (is_dark_module s r c) (format_bit_at s r c) (version_bit_at v r c)) (off-pattern v r c far (timing-row r c ht) (timing-column r c ht))
-    ∙ by-alignment (is_alignment v r c) (not (is_alignment_light v r c)) (is_dark_module s r c) (format_bit_at s r c) (version_bit_at v r c) (corner-not_dark s r c (omega arith) o) (corner-no_format s r c (omega arith) o) (free-version v r c hv))
+    ∙ (ap (λ a. role_with a (is_dark_module s r c) (format_bit_at s r c) (version_bit_at v r c)) (off-pattern v r c far (search (arith, nat_tests)) (search (arith, nat_tests)))
+    ∙ by-alignment (is_alignment v r c) (not (is_alignment_light v r c)) (is_dark_module s r c) (format_bit_at s r c) (version_bit_at v r c) (corner-not_dark s r c (omega arith) o) (corner-no_format s r c (omega arith) o) (search (arith, version_at)))
   where
     by-alignment : (e q t : Bool) (f g : Option ℕ) → t ≡ false → f ≡ None → g ≡ None → role_with (cond e (Some q) None) t f g ≡ cond e (Fixed q) Region
     by-alignment e q t f g x y z = grind (arith, nat_tests)

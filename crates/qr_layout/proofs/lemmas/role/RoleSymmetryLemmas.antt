@@ -4,7 +4,7 @@ use Rattle.std.proofs.Common.{◌≡◌, ℕ, ◌-◌, ◌%◌, ◌<◌, ◌≤�
 use Rattle.qr_layout.specs.{declared.role.Role.{Role, TheVariants.{Fixed, FormatBit, VersionBit, Region}}, Version.side_of}
 use Rattle.qr_layout.specs.Role.{finder_ring, is_alignment_light, pattern_colour, is_dark_module, role_of}
 use Rattle.qr_layout.specs.{Format.{first_place, second_place, is_at, format_bit_at, version_bit_at}, Alignment.{centres_of, is_corner_pair}, Region.ring_of}
-use Rattle.qr_layout.proofs.lemmas.{alignment.AlignmentLemmas.{any-places, list_any-same}, region.SymmetryLemmas.{any-pairs, alignment-symmetric}}
+use Rattle.qr_layout.proofs.lemmas.{alignment.{any-places, list_any-same}, region.{any-pairs, alignment-symmetric}}
 use Rattle.qr_layout.proofs.lemmas.format.BitPlaceLemmas.{first-at, format_in_column_8, format_in_row_8, format_off}
 
 -- ---- the patterns

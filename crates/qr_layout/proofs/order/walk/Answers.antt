@@ -1,5 +1,4 @@
-use Rattle.std.proofs.Common.{rules}
-use Rattle.{qr_layout.proofs.lemmas.order.{OrderLemmas.order-length, WalkLemmas.walk-order}}
+use Rattle.{qr_layout.proofs.lemmas.order.{OrderLemmas.order-length, WalkLemmas.walk-order}, std.proofs.Common.rules}
 use Rattle.qr_layout.proofs.order.walk.Goals as goal
 
 pub returns-clause-order : goal.returns-clause-order

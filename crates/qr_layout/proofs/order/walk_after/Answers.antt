@@ -1,5 +1,4 @@
-use Rattle.qr_layout.proofs.lemmas.order.{PathLemmas.next-IsCursor, WalkLemmas.{after, after-strips, after-cursor}}
-use Rattle.std.proofs.Common.{rules}
+use Rattle.{qr_layout.proofs.lemmas.order.{PathLemmas.next-IsCursor, WalkLemmas.{after, after-strips, after-cursor}}, std.proofs.Common.rules}
 use Rattle.qr_layout.proofs.order.walk_after.Goals as goal
 
 pub next-next-requires-clause-strips_left : goal.next-next-requires-clause-strips_left

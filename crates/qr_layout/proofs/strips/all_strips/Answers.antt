@@ -1,5 +1,4 @@
-use Rattle.std.proofs.Common.{rules}
-use Rattle.qr_layout.proofs.lemmas.strips.StripLemmas.{strips-order, strips-inside}
+use Rattle.{qr_layout.proofs.lemmas.strips.{strips-order, strips-inside}, std.proofs.Common.rules}
 use Rattle.qr_layout.proofs.strips.all_strips.Goals as goal
 
 pub returns-clause-order : goal.returns-clause-order

@@ -1,5 +1,4 @@
-use Rattle.std.proofs.Common.{rules, ◌∙◌, sym}
-use Rattle.qr_mending.proofs.lemmas.block.BlockLemmas.{mended-same, mended-one}
+use Rattle.{qr_mending.proofs.lemmas.block.{mended-same, mended-one}, std.proofs.Common.{rules, ◌∙◌, sym}}
 use Rattle.qr_mending.proofs.block.mend.Goals as goal
 
 pub returns-in_default-clause-only : goal.returns-in_default-clause-only

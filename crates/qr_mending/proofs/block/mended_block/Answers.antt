@@ -1,6 +1,5 @@
+use Rattle.{qr_field.specs.Polynomial.{IsByte, plus}, qr_mending.proofs.lemmas.block.{all-leading, search-mended, errors-few}}
 use Rattle.std.proofs.{Common.{rules, ◌∙◌, refl, arith}, lemmas.List.Elements.All-from_get_or}
-use Rattle.qr_field.specs.Polynomial.{IsByte, plus}
-use Rattle.qr_mending.proofs.lemmas.block.BlockLemmas.{all-leading, search-mended, errors-few}
 use Rattle.qr_mending.proofs.block.mended_block.Goals as goal
 
 pub advance-requires-clause-progress : goal.advance-requires-clause-progress

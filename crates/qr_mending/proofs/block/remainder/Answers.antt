@@ -1,7 +1,6 @@
-use Rattle.std.proofs.Common.{◌-◌, ◌∙◌, length, length-drop, sym, arith}
-use Rattle.std.proofs.lemmas.{Bool.Decides.Decides-eqb, List.{take_rest, Elements.All-from_get_or}, Slice.Eq.slice_eq-Decides}
-use Rattle.qr_field.specs.Polynomial.{IsByte}
-use Rattle.qr_mending.proofs.lemmas.block.BlockLemmas.{block-found, remainder-values}
+use Rattle.{qr_field.specs.Polynomial.IsByte, qr_mending.proofs.lemmas.block.{block-found, remainder-values}}
+use Rattle.std.proofs.{Common.{◌-◌, ◌∙◌, length, length-drop, sym, arith}, lemmas.{Bool.Decides.Decides-eqb, List.{take_rest, Elements.All-from_get_or}}}
+use Rattle.std.proofs.lemmas.Slice.Eq.{slice_eq-Decides}
 use Rattle.qr_mending.proofs.block.remainder.Goals as goal
 
 pub returns-then-eq-clause-block : goal.returns-then-eq-clause-block

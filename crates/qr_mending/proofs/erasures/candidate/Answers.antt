@@ -1,6 +1,5 @@
-use Rattle.std.proofs.{Common.{rules, arith}, lemmas.List.Elements.All-from_get_or}
-use Rattle.{qr_field.specs.Polynomial.IsByte, qr_mending.proofs.lemmas.erasures.ErasureLemmas.candidate-mended}
-use Rattle.qr_mending.{proofs.lemmas.{block.BlockLemmas.all-leading, roots.RootLemmas.rooted-leading}, specs.Steps.Polynomial.all_of}
+use Rattle.{qr_field.specs.Polynomial.IsByte, qr_mending.proofs.lemmas.{block.all-leading, erasures.candidate-mended, roots.rooted-leading}}
+use Rattle.{qr_mending.specs.Steps.Polynomial.all_of, std.proofs.{Common.{rules, arith}, lemmas.List.Elements.All-from_get_or}}
 use Rattle.qr_mending.proofs.erasures.candidate.Goals as goal
 
 pub without_errors-requires-clause-leading : goal.without_errors-requires-clause-leading

@@ -1,5 +1,4 @@
-use Rattle.std.proofs.Common.{◌≡◌, ◌+◌, ◌≤◌, drop, length}
-use Rattle.{qr_field.specs.Distance.errors, qr_mending.specs.Erasures.read_of}
+use Rattle.{qr_field.specs.Distance.errors, qr_mending.specs.Erasures.read_of, std.proofs.Common.{◌≡◌, ◌+◌, ◌≤◌, drop, length}}
 use Rattle.qr_mending.proofs.erasures.count_misread.Given as goal
 
 abbrev pub invariant-loop-k : goal.invariant-loop-k

@@ -1,6 +1,6 @@
 use Rattle.std.proofs.Common.{rules, ◌∙◌, length, ap, arith}
-use Rattle.qr_mending.{specs.Erasures.{read_of, IsMendedWithErasures}, proofs.lemmas.block.BlockLemmas.erasures-one}
-use Rattle.qr_mending.proofs.lemmas.erasures.ErasureLemmas.{read-none, length-read, erasures-marked, errors-self, unerased-mended, unerased-only, unerased-refused}
+use Rattle.qr_mending.{specs.Erasures.{read_of, IsMendedWithErasures}, proofs.lemmas.block.erasures-one}
+use Rattle.qr_mending.proofs.lemmas.erasures.{read-none, length-read, erasures-marked, errors-self, unerased-mended, unerased-only, unerased-refused}
 use Rattle.qr_mending.proofs.erasures.mend_with_erasures.Goals as goal
 
 pub returns-then-erasures-eq0-clause-mended : goal.returns-then-erasures-eq0-clause-mended

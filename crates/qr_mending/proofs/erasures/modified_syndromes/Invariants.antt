@@ -1,6 +1,5 @@
+use Rattle.{arrayvec.specs.ArrayVec.array_vec_len, qr_field.specs.Polynomial.IsByte, qr_mending.specs.Steps.{Errors.weighted, Sums.HasValues}}
 use Rattle.std.{proofs.Common.{◌≡◌, ℕ, List}, specs.List.All}
-use Rattle.{arrayvec.specs.ArrayVec.array_vec_len, qr_field.specs.Polynomial.IsByte}
-use Rattle.qr_mending.specs.Steps.{Sums.HasValues, Errors.weighted}
 use Rattle.qr_mending.proofs.erasures.modified_syndromes.Given as goal
 
 abbrev pub invariant-loop-i : goal.invariant-loop-i

@@ -1,5 +1,5 @@
 use Rattle.std.proofs.Common.{rules, ◌≡◌, ◌-◌, ◌∙◌, ap, length, take, refl, sym, arith}
-use Rattle.qr_mending.proofs.lemmas.{errors.RemovalLemmas.{refill-same}, roots.RootLemmas.{divided}}
+use Rattle.qr_mending.proofs.lemmas.{errors.RemovalLemmas.refill-same, roots.divided}
 use Rattle.qr_mending.proofs.errors.divide_out.Goals as goal
 
 pub loop-rest-preserved : goal.loop-rest-preserved

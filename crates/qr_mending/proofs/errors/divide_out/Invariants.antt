@@ -1,5 +1,4 @@
-use Rattle.std.proofs.Common.{◌≡◌, ◌≢◌, ◌<◌, ◌≤◌, ℕ, length}
-use Rattle.{qr_field.specs.Polynomial.IsByte, qr_mending.specs.Steps.{Sums.eval, Roots.HasLeadingOne}}
+use Rattle.{qr_field.specs.Polynomial.IsByte, qr_mending.specs.Steps.{Roots.HasLeadingOne, Sums.eval}, std.proofs.Common.{◌≡◌, ◌≢◌, ◌<◌, ◌≤◌, ℕ, length}}
 use Rattle.qr_mending.proofs.errors.divide_out.Given as goal
 
 abbrev pub invariant-loop-rest : goal.invariant-loop-rest

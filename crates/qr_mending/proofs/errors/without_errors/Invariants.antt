@@ -1,6 +1,5 @@
+use Rattle.{arrayvec.specs.ArrayVec.array_vec_len, qr_field.specs.Polynomial.plus, qr_mending.specs.Steps.Errors.{AreErrors, AreLeft, IsRemoval}}
 use Rattle.std.proofs.Common.{◌≡◌, ℕ, ◌-◌, ◌++◌, List, take, drop, length}
-use Rattle.{arrayvec.specs.ArrayVec.array_vec_len, qr_field.specs.Polynomial.plus}
-use Rattle.qr_mending.specs.Steps.Errors.{AreErrors, AreLeft, IsRemoval}
 use Rattle.qr_mending.proofs.errors.without_errors.Given as goal
 
 -- the errors of the codewords before the current one are removed, and the search has the others left

@@ -1,5 +1,4 @@
-use Rattle.std.proofs.Common.{◌≡◌, ◌≤◌}
-use Rattle.qr_matrix.specs.{BitRow.has_bit, Sums.count_below}
+use Rattle.{qr_matrix.specs.{BitRow.has_bit, Sums.count_below}, std.proofs.Common.{◌≡◌, ◌≤◌}}
 use Rattle.qr_mending.proofs.format.count_bits.Given as goal
 
 abbrev pub invariant-loop-i : goal.invariant-loop-i

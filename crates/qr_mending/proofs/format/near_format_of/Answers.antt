@@ -1,6 +1,6 @@
-use Rattle.std.proofs.{Common.{◌≡◌, ℕ, ◌<◌, [], ◌∷◌, get_or, inl, inr, arith}, lemmas.Bool.cases_lt}
 use Rattle.{qr_layout.specs.declared.level.Level.{Level, TheVariants.{L, M, Q, H}}, qr_matrix.specs.Grid.Grid}
-use Rattle.qr_mending.specs.{declared.format.FormatCopy.FormatCopy, Format.IsNearFormat}
+use Rattle.qr_mending.specs.{Format.IsNearFormat, declared.format.FormatCopy.FormatCopy}
+use Rattle.std.proofs.{Common.{rules, ◌≡◌, ℕ, ◌<◌, [], ◌∷◌, get_or, inl, inr, arith}, lemmas.Bool.cases_lt}
 use Rattle.qr_mending.proofs.format.near_format_of.Goals as goal
 
 -- the level with the number k
@@ -29,4 +29,4 @@ returns c =
     let u = c.args.scan.now.unknown.now in
     let g = c.args.scan.now.matrix.now in
     every u c.args.copy g
-    (λ k l. c.loop-level.invariant u g c.args.copy c.read-bits.ensures k (omega arith))
+    (search rules)

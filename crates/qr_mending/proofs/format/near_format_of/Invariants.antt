@@ -1,6 +1,5 @@
-use Rattle.{std.proofs.Common.{ℕ, ◌<◌, [], ◌∷◌, get_or}, qr_matrix.specs.Grid.Grid}
-use Rattle.qr_mending.specs.{declared.format.FormatCopy.FormatCopy, Format.IsNearFormat, Steps.Format.AreBitsOf}
-use Rattle.qr_layout.specs.declared.level.Level.TheVariants.{L, M, Q, H}
+use Rattle.{qr_layout.specs.declared.level.Level.TheVariants.{L, M, Q, H}, qr_matrix.specs.Grid.Grid}
+use Rattle.{qr_mending.specs.{Format.IsNearFormat, Steps.Format.AreBitsOf, declared.format.FormatCopy.FormatCopy}, std.proofs.Common.{ℕ, ◌<◌, [], ◌∷◌, get_or}}
 use Rattle.qr_mending.proofs.format.near_format_of.Given as goal
 
 abbrev pub invariant-loop-level : goal.invariant-loop-level

@@ -1,6 +1,4 @@
-use Rattle.std.proofs.Common.{rules}
-use Rattle.qr_layout.proofs.Facts.{blocks-sound}
-use Rattle.qr_mending.proofs.lemmas.laws.BoundLemmas.{changes-few, correctable-bounds}
+use Rattle.{qr_layout.proofs.Facts.blocks-sound, qr_mending.proofs.lemmas.laws.BoundLemmas.{changes-few, correctable-bounds}, std.proofs.Common.rules}
 use Rattle.qr_mending.proofs.laws.changes_are_bounded.Goals as goal
 
 pub returns : goal.returns

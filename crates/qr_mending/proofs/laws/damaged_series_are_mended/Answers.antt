@@ -1,5 +1,4 @@
-use Rattle.qr_symbol.{specs.Series.squares_of, proofs.Facts.series-joined}
-use Rattle.qr_mending.proofs.lemmas.series.SeriesLemmas.{damaged-joined, mended-to}
+use Rattle.{qr_mending.proofs.lemmas.series.{damaged-joined, mended-to}, qr_symbol.{proofs.Facts.series-joined, specs.Series.squares_of}}
 use Rattle.qr_mending.proofs.laws.damaged_series_are_mended.Goals as goal
 
 pub returns : goal.returns

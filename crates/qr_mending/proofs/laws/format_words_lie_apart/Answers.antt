@@ -1,6 +1,5 @@
-use Rattle.{std.proofs.Common.refl, qr_matrix.specs.BitRow.has_bit}
-use Rattle.qr_layout.specs.Format.{format_word_of, word_remainder}
-use Rattle.qr_mending.proofs.lemmas.format.FormatLemmas.{costs-apart, words-apart}
+use Rattle.{qr_layout.specs.Format.{format_word_of, word_remainder}, qr_matrix.specs.BitRow.has_bit, qr_mending.proofs.lemmas.format.{costs-apart, words-apart}}
+use Rattle.std.proofs.Common.{refl}
 use Rattle.qr_mending.proofs.laws.format_words_lie_apart.Goals as goal
 
 pub returns : goal.returns

@@ -1,5 +1,4 @@
-use Rattle.std.proofs.Common.{rules}
-use Rattle.qr_mending.proofs.lemmas.mending.MendingLemmas.{alone-format, sure-format}
+use Rattle.{qr_mending.proofs.lemmas.mending.{alone-format, sure-format}, std.proofs.Common.rules}
 use Rattle.qr_mending.proofs.laws.formats_are_found.Goals as goal
 
 pub returns : goal.returns

@@ -1,4 +1,4 @@
-use Rattle.{std.proofs.Common.arith, qr_mending.proofs.lemmas.mending.MendingLemmas.mended-one}
+use Rattle.{std.proofs.Common.arith, qr_mending.proofs.lemmas.mending.mended-one}
 use Rattle.qr_mending.proofs.laws.mended_messages_are_one.Goals as goal
 
 pub returns : goal.returns

@@ -1,5 +1,4 @@
-use Rattle.{qr_mending.specs.Mending.{IsMendedReading, IsUnmended}, qr_symbol.proofs.Facts.exactly}
-use Rattle.qr_mending.proofs.lemmas.mending.MendingLemmas.{mended-not-refused, unmended-one}
+use Rattle.{qr_mending.{proofs.lemmas.mending.{mended-not-refused, unmended-one}, specs.Mending.{IsMendedReading, IsUnmended}}, qr_symbol.proofs.Facts.exactly}
 use Rattle.qr_mending.proofs.laws.mendings_are_refused_exactly.Goals as goal
 
 pub returns : goal.returns

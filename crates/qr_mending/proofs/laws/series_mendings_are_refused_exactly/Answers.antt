@@ -1,7 +1,5 @@
-use Rattle.{qr_matrix.specs.Grid.light, qr_mending.proofs.lemmas.mending.MendingLemmas.unmended-one}
-use Rattle.qr_symbol.proofs.Facts.{exactly, joined-refused, unjoined-one}
-use Rattle.qr_mending.specs.{Mending.IsUnmended, Series.{IsMendedContent, IsMendedSeries, IsUnmendedSeries}}
-use Rattle.qr_mending.proofs.lemmas.series.SeriesLemmas.{content-one, content-refused}
+use Rattle.{qr_matrix.specs.Grid.light, qr_mending.{proofs.lemmas.{mending.unmended-one, series.{content-one, content-refused}}, specs.Mending.IsUnmended}}
+use Rattle.{qr_mending.specs.Series.{IsMendedContent, IsMendedSeries, IsUnmendedSeries}, qr_symbol.proofs.Facts.{exactly, joined-refused, unjoined-one}}
 use Rattle.qr_mending.proofs.laws.series_mendings_are_refused_exactly.Goals as goal
 
 pub returns : goal.returns

@@ -8,8 +8,8 @@ use Rattle.qr_field.proofs.lemmas.galois.{ByteLemmas.{product-by_zero, product-o
 use Rattle.qr_field.proofs.lemmas.{galois.FieldLemmas.{product-factor, sum-none}, polynomial.ListLemmas.length-plus}
 use Rattle.qr_field.proofs.lemmas.{galois.PowerLemmas.{power-lt, power-add, power-round, powers-apart}, laws.ValueLemmas.{value-zero}}
 use Rattle.qr_mending.specs.declared.errors.Removal.{Removal}
-use Rattle.qr_mending.specs.Steps.{Sums.{dot_of, eval, HasValues}, Roots.HasLeadingOne, Errors.{coefficient, weighted, AreLeft, IsLocated}}
-use Rattle.qr_mending.proofs.lemmas.{sums.SumLemmas.dot-blend, errors.WeightLemmas.{coefficient-head, coefficient-tail, root-blends, weighted-value}}
+use Rattle.qr_mending.specs.Steps.{Sums.{dot_of, eval, HasValues}, Roots.HasLeadingOne, Errors.{coefficient, AreLeft, IsLocated}}
+use Rattle.qr_mending.proofs.lemmas.{sums.dot-blend, errors.WeightLemmas.{coefficient-head, coefficient-tail, root-blends, weighted-value}}
 
 -- ---- the locator
 
@@ -39,9 +39,7 @@ pub error-sum : (p s e : List ℕ) (c : ℕ) → All IsByte p → All IsByte (c 
     HasValues s (c ∷ e) → length p ≤ length s → dot_of p s ≡ product c (eval (power (length e)) p)
 error-sum p s e c lp le h values long =
     let z = eval (power (length e)) p in
-    let all : dot_of p s ≡ value_at 0 (weighted p (c ∷ e)) =
-    dot-blend p 0 s (c ∷ e) values (omega arith) ∙ sym (weighted-value p 0 (c ∷ e) lp le) in
-    search (arith, weighted-value, root-blends, product-by_one, product-lt, All-head, xor_zero_r)
+    search (arith, weighted-value, root-blends, product-by_one, product-lt, All-head, xor_zero_r, dot-blend p 0 s (c ∷ e) values (omega arith) ∙ sym (weighted-value p 0 (c ∷ e) lp le))
 
 -- ---- the syndromes
 
@@ -64,10 +62,9 @@ pub sum-more : (xs errors items new : List ℕ) (k : ℕ) → length errors ≡ 
     items ≡ take k (plus xs errors) → new ≡ items ++ bit_xor (get_or xs k 0) (get_or errors k 0) ∷ [] →
     new ≡ take (k + 1) (plus xs errors)
 sum-more xs errors items new k long l same push =
-    let count : length (plus xs errors) ≡ length errors = length-plus xs errors (omega arith) in
     cc (
       get_or-plus xs errors k (sym long) l,
-      take_more (plus xs errors) k 0 (omega arith),
+      take_more (plus xs errors) k 0 (omega (arith, length-plus xs errors (omega arith))),
     )
 
 -- no error
@@ -79,7 +76,7 @@ no-errors (x ∷ xs) [] l h = absurd (omega arith)
 no-errors (x ∷ xs) (c ∷ e) l h =
     let none : c ≡ 0 = sym (coefficient-head (length e) c e refl) ∙ h (length e) (omega arith) in
     let rest = no-errors xs e (omega arith)
-    (λ m n. sym (coefficient-tail m c e (λ s. omega arith)) ∙ h m (omega arith)) in
+    (search (arith, coefficient-tail)) in
     (cc (xor_zero_r x), cc (value-zero 0 e))
 
 -- where the locator is 1, there is no error
@@ -96,8 +93,7 @@ one-error (x ∷ xs) (c ∷ e) p l within le h = elim (cases_eq (length e) p) [
   | inl s ↦ search (arith, no-errors, coefficient-tail, product-by_one, All-head, xor_zero_r)
   | inr o ↦
       let none : c ≡ 0 = sym (coefficient-head (length e) c e refl) ∙ h (length e) (omega arith) o in
-      let rest = one-error xs e p (omega arith) (omega arith) (All-tail IsByte c e le) (λ m n t.
-      sym (coefficient-tail m c e (λ u. omega arith)) ∙ h m (omega arith) t) in
+      let rest = one-error xs e p (omega arith) (omega arith) (All-tail IsByte c e le) (search (arith, coefficient-tail)) in
       search (arith, value-zero, xor_zero_r)
 ]
 
@@ -117,8 +113,7 @@ power-some m l e =
 pub last-none : (xs e : List ℕ) (root : ℕ) → length e ≡ length xs → IsLocated (root ∷ 1 ∷ []) e →
     ((m : ℕ) → m < length e → power m ≡ root → ⊥) → xs ≡ plus xs e
 last-none xs e root l h none =
-    let all = no-errors xs e l (λ m n. elsewhere-none root m e h n (none m n)) in
-    sym all.0
+    sym (no-errors xs e l (λ m n. elsewhere-none root m e h n (none m n))).0
 
 -- the codewords without the last error
 pub last-sum : (xs e : List ℕ) (root p error : ℕ) → length e ≡ length xs → IsLocated (root ∷ 1 ∷ []) e →
@@ -126,7 +121,7 @@ pub last-sum : (xs e : List ℕ) (root p error : ℕ) → length e ≡ length xs
     set xs (length xs - 1 - p) (bit_xor (get_or xs (length xs - 1 - p) 0) error) ≡ plus xs e
 last-sum xs e root p error l h log small within value =
     let one = one-error xs e p l within h.bytes (λ m k o. elsewhere-none root m e h k
-    (λ s. o (powers-apart m p (omega arith) small (s ∙ sym log)))) in
+    (search (arith, powers-apart))) in
     cc
 
 -- a polynomial with a leading 1 and one other coefficient

@@ -7,7 +7,7 @@ use Rattle.qr_field.specs.{Galois.product, Polynomial.{IsByte, power}, Steps.Pol
 use Rattle.qr_field.proofs.lemmas.galois.{ByteLemmas.{product-by_zero, product-of_zero}, ProductLemmas.product-lt, PowerLemmas.power-lt}
 use Rattle.qr_field.proofs.lemmas.{galois.FieldLemmas.product-factor, laws.ValueLemmas.value-lt}
 use Rattle.qr_field.proofs.lemmas.laws.DistanceLemmas.{weight, weight-none, value-none, difference-same, difference-other, difference-most}
-use Rattle.qr_mending.{specs.Steps.{Sums.{eval, blend}, Errors.{coefficient, weighted}}, proofs.lemmas.sums.SumLemmas.{eval-lt, field_laws, power-next}}
+use Rattle.qr_mending.{specs.Steps.{Sums.{eval, blend}, Errors.{coefficient, weighted}}, proofs.lemmas.sums.{eval-lt, field_laws, power-next}}
 
 -- there is a product for each error
 pub length-weighted : (p e : List ℕ) → length (weighted p e) ≡ length e
@@ -65,9 +65,8 @@ pub weighted-value : (p : List ℕ) (i : ℕ) (e : List ℕ) → All IsByte p �
     value_at i (weighted p e) ≡ blend p i e
 weighted-value [] i e lp le = value-none i (weighted [] e) (weight-nothing e le)
 weighted-value (a ∷ p) i e lp le =
-    let la = All-head IsByte a p lp in
     let lps = All-tail IsByte a p lp in
-    cc (weighted-step a p i e la lps le, weighted-value p (i + 1) e lps le)
+    cc (weighted-step a p i e (All-head IsByte a p lp) lps le, weighted-value p (i + 1) e lps le)
 
 -- if there are at most t errors and their first t sums are 0, all products are 0
 pub weighted-none : (t : ℕ) (p e : List ℕ) → All IsByte p → All IsByte e → length e ≤ 255 → weight e ≤ t →
@@ -107,13 +106,9 @@ root-weighted p [] lp le r = refl
 root-weighted p (c ∷ e) lp le r =
     let x = power (length e) in
     let z = eval x p in
-    let none : product c z ≡ 0 = elim (cases_eq z 0) [
-      | inl f ↦ rw f (product-by_zero c (All-head IsByte c e le))
-      | inr o ↦ search (arith, coefficient-head, product-of_zero, eval-lt, power-lt)
-    ] in
     let rest = root-weighted p e lp (All-tail IsByte c e le)
     (λ m l n. sym (coefficient-tail m c e (λ h. omega arith)) ∙ r m (omega arith) n) in
-    omega (arith, difference-same (product c z) 0 none)
+    omega (arith, difference-same (product c z) 0 (elim (cases_eq z 0) [ inl f ↦ rw f (product-by_zero c (All-head IsByte c e le)) | inr o ↦ search (arith, coefficient-head, product-of_zero, eval-lt, power-lt) ]))
 
 -- if each error is at a root, all sums are 0
 pub root-blends : (p e : List ℕ) → All IsByte p → All IsByte e →

@@ -1,13 +1,12 @@
 -- A damaged symbol of an input is mended to the input.
-use Rattle.qr_bits.specs.{declared.{interpretation.Interpretation.Interpretation, modes.Rule.Rule}, Interpretation.MayWrite, Parsing.Content}
-use Rattle.qr_symbol.proofs.Facts.{symbol-parsed}
-use Rattle.qr_symbol.specs.{Reading.interpreted_content, Symbol.grid_of, declared.fault.ReadFault.ReadFault, Encoding.IsSymbol}
-use Rattle.qr_symbol.specs.declared.fault.ReadFault.TheVariants as fault
-use Rattle.std.{proofs.Common.{◌≡◌, ℕ, ◌≤◌, List, arith}, specs.Prelude.{Result, Ok, Err, None, IfOk, MatchResult}}
+use Rattle.qr_bits.specs.{Interpretation.MayWrite, Parsing.Content, declared.{interpretation.Interpretation.Interpretation, modes.Rule.Rule}}
 use Rattle.{qr_layout.specs.declared.level.Level.Level, qr_matrix.specs.Grid.Grid}
-use Rattle.qr_mending.{specs.declared.mending.Mended.Mended, proofs.lemmas.laws.SoundnessLemmas.wrong-one}
+use Rattle.qr_mending.proofs.lemmas.{laws.SoundnessLemmas.wrong-one, mending.{mended-reading-one, mended-not-refused}}
 use Rattle.qr_mending.specs.Mending.{wrong_format_modules, wrong_modules, HasFormat, HasWrongModules, HoldsDamaged, IsDamagedForm, IsMendedReading, IsUnmended}
-use Rattle.qr_mending.proofs.lemmas.mending.MendingLemmas.{mended-reading-one, mended-not-refused}
+use Rattle.qr_mending.specs.declared.mending.Mended.{Mended}
+use Rattle.qr_symbol.{proofs.Facts.symbol-parsed, specs.{Encoding.IsSymbol, Reading.interpreted_content, Symbol.grid_of, declared.fault.ReadFault.ReadFault}}
+use Rattle.std.{proofs.Common.{◌≡◌, ℕ, ◌≤◌, List, arith}, specs.Prelude.{Result, Ok, Err, None, IfOk, MatchResult}}
+use Rattle.qr_symbol.specs.declared.fault.ReadFault.TheVariants as fault
 
 -- a square that can be read with its damage mended is read so, unless memory is refused
 pub symbol-mended-as : (unknown : Grid) (g : Grid) (v : ℕ) (l : Level) (mask : ℕ) (content : Content) (changed : List ℕ) (r : Result Mended ReadFault) →

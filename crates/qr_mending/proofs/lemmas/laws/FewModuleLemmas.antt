@@ -1,16 +1,14 @@
 -- A symbol with few wrong modules is a damaged form of the symbol that it was.
+use Rattle.{qr_field.specs.Distance.{difference, differences}, qr_layout.specs.{Blocks.blocks_of, Format.format_word_of, Version.total_codewords_of}}
+use Rattle.{qr_layout.specs.declared.level.Level.Level, qr_matrix.specs.{BitRow.has_bit, Grid.{Grid, light}}}
+use Rattle.qr_mending.proofs.lemmas.{format.bits-alike, laws.{DistanceLemmas.shown, ModuleLemmas.{interleaved-differences, items-differences}}}
+use Rattle.qr_mending.proofs.lemmas.{laws.UndamagedLemmas.{copy-light, final-in-blocks}, mending.sure-format, message.LightLemmas.light-mended}
+use Rattle.qr_mending.proofs.lemmas.message.{MarkLemmas.codewords-many, MessageLemmas.{in-blocks-one, item, items-in-blocks, received-all, received-map}}
+use Rattle.qr_mending.specs.{Format.copy_bit, Mending.{HasFormat, HoldsDamaged}, Message.received, Modules.{codeword_differences, DifferInFewModules}}
+use Rattle.{qr_mending.specs.declared.format.FormatCopy.TheVariants.{First, Second}, qr_symbol.proofs.Facts.{data-sizes-whole, read-some}}
+use Rattle.qr_symbol.specs.{Interleaving.{block_count, codeword_count, data_sizes, part_of}, Reading.{IsFormat, IsMessage}, Symbol.grid_of}
 use Rattle.std.proofs.Common.{◌≡◌, ℕ, ◌<◌, ◌≤◌, List, [], ◌++◌, map, length, get_or, refl, sym, ◌∙◌, arith}
-use Rattle.std.proofs.lemmas.List.FromFn.{get_or-map-range_with_len, length-map-range_with_len}
-use Rattle.{std.specs.List.{range_with_len, sum_by}, qr_layout.specs.declared.level.Level.Level}
-use Rattle.{qr_field.specs.Distance.{difference, differences}, qr_matrix.specs.{Grid.{Grid, light}, BitRow.has_bit}}
-use Rattle.qr_layout.specs.{Blocks.{blocks_of}, Format.format_word_of, Version.total_codewords_of}
-use Rattle.qr_symbol.{specs.{Symbol.grid_of, Reading.{IsFormat, IsMessage}}, proofs.Facts.{data-sizes-whole, read-some}}
-use Rattle.qr_symbol.specs.Interleaving.{block_count, codeword_count, data_sizes, part_of}
-use Rattle.qr_mending.specs.{declared.format.FormatCopy.TheVariants.{First, Second}, Format.copy_bit, Message.received, Mending.{HasFormat, HoldsDamaged}}
-use Rattle.qr_mending.specs.Modules.{codeword_differences, DifferInFewModules}
-use Rattle.qr_mending.proofs.lemmas.{format.FormatLemmas.bits-alike, laws.{DistanceLemmas.shown, ModuleLemmas.{interleaved-differences, items-differences}}}
-use Rattle.qr_mending.proofs.lemmas.message.{MessageLemmas.{in-blocks-one, item, items-in-blocks, received-all, received-map}, LightLemmas.light-mended}
-use Rattle.qr_mending.proofs.lemmas.{laws.UndamagedLemmas.{copy-light, final-in-blocks}, message.MarkLemmas.codewords-many, mending.MendingLemmas.sure-format}
+use Rattle.std.{proofs.lemmas.List.FromFn.{get_or-map-range_with_len, length-map-range_with_len}, specs.List.{range_with_len, sum_by}}
 
 -- the format information of the square costs at most 12
 pub few-format : (v : ℕ) (l : Level) (mask : ℕ) (cw : List ℕ) (g h : Grid) → 1 ≤ v → v ≤ 40 → h ≡ grid_of v l mask cw → IsFormat h l mask →

@@ -1,11 +1,8 @@
 -- The number of wrong modules of a square, which is 0 exactly if the square is the symbol.
-use Rattle.std.{proofs.Common.{◌≡◌, ℕ, List, arith}, specs.Prelude.◌↔◌}
-use Rattle.qr_layout.specs.{declared.level.Level.Level, Blocks.blocks_of, Version.side_of}
-use Rattle.qr_matrix.specs.{Grid.{Grid, IsSquare, light}, Difference.difference_count, Sums.places_passing}
-use Rattle.qr_mending.proofs.lemmas.{format.FormatLemmas.sum-same, message.LightLemmas.colour-light, mending.MendingLemmas.form-one}
-use Rattle.qr_matrix.proofs.Facts.{colour-square, no-difference, square-same}
-use Rattle.qr_symbol.{specs.Symbol.grid_of, proofs.Facts.final-one}
-use Rattle.qr_mending.specs.Mending.{wrong_modules, DiffersFromSymbol, HasWrongModules}
+use Rattle.{qr_layout.specs.{Blocks.blocks_of, Version.side_of, declared.level.Level.Level}, qr_matrix.proofs.Facts.{colour-square, no-difference, square-same}}
+use Rattle.{qr_matrix.specs.{Difference.difference_count, Grid.{Grid, IsSquare, light}, Sums.places_passing}, qr_mending.proofs.lemmas.format.sum-same}
+use Rattle.qr_mending.{proofs.lemmas.{mending.form-one, message.LightLemmas.colour-light}, specs.Mending.{wrong_modules, DiffersFromSymbol, HasWrongModules}}
+use Rattle.{qr_symbol.{proofs.Facts.final-one, specs.Symbol.grid_of}, std.{proofs.Common.{◌≡◌, ℕ, List, arith}, specs.Prelude.◌↔◌}}
 
 -- a square differs from the symbol of its message in one number of modules
 pub differs-one : (unknown : Grid) (g : Grid) (v w : ℕ) (l k : Level) (m n : ℕ) (p q : List ℕ) (a b : ℕ) → v ≡ w → l ≡ k → m ≡ n → p ≡ q →

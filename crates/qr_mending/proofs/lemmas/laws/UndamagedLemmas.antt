@@ -1,18 +1,16 @@
 -- A square that is read without mending is read as the same content with mending, and no codeword is changed.
+use Rattle.{qr_bits.specs.Parsing.Content, qr_field.{proofs.Facts.correction-one, specs.Polynomial.IsCorrection}}
+use Rattle.qr_layout.specs.{Blocks.blocks_of, Format.format_word_of, declared.{blocks.Blocks.Blocks, level.Level.Level}}
+use Rattle.qr_matrix.specs.{BitRow.has_bit, Grid.{Grid, light, is_same}, Sums.count_below}
+use Rattle.qr_mending.proofs.lemmas.{block.differences-same, format.bits-alike, mending.best, message.LightLemmas.{colour-light, light-mended}}
+use Rattle.qr_mending.specs.{Format.{bit_differences, copy_bit, copy_cost, IsNearFormat}, Mending.{HasFormat, IsMendedReading}}
+use Rattle.qr_mending.specs.{Message.{AreInBlocks, IsMendedIn}, declared.format.FormatCopy.{FormatCopy, TheVariants.{First, Second}}}
+use Rattle.qr_symbol.{proofs.Facts.{start-none, part-at, positions-many, checks-push, map-each, data-sizes-whole}, specs.Distance.blocks_in}
+use Rattle.qr_symbol.specs.Interleaving.{block_count, codeword_count, IsPosition, codeword_at, data_sizes, correction_sizes, block_of, check_at, IsFinalMessage, part_of, IsChecks}
+use Rattle.qr_symbol.specs.Reading.{IsFormat, IsRead, IsReading}
 use Rattle.std.proofs.Common.{◌≡◌, ℕ, zero, suc, ◌+◌, ◌*◌, ◌<◌, ◌≤◌, Bool, false, not, ◌&&◌, List, [], ◌++◌, map, length, get_or, refl, ap, ◌∙◌, arith}
 use Rattle.std.proofs.lemmas.List.{length-map, take_all, take_at, drop_at, length-replicate, get_or-replicate}
 use lib.ListN.{replicate}
-use Rattle.{qr_field.specs.Polynomial.IsCorrection, qr_bits.specs.Parsing.Content}
-use Rattle.qr_mending.proofs.lemmas.{block.BlockLemmas.differences-same, message.LightLemmas.{colour-light, light-mended}}
-use Rattle.qr_mending.proofs.lemmas.{mending.MendingLemmas.best, format.FormatLemmas.bits-alike}
-use Rattle.qr_layout.specs.{declared.{blocks.Blocks.Blocks, level.Level.Level}, Blocks.blocks_of, Format.format_word_of}
-use Rattle.qr_matrix.specs.{Grid.{Grid, light, is_same}, BitRow.has_bit, Sums.count_below}
-use Rattle.qr_symbol.specs.Interleaving.{block_count, codeword_count, IsPosition, codeword_at, data_sizes, correction_sizes, block_of, check_at, IsFinalMessage, part_of}
-use Rattle.qr_symbol.specs.{Interleaving.IsChecks, Distance.blocks_in, Reading.{IsFormat, IsRead, IsReading}}
-use Rattle.qr_mending.specs.{declared.format.FormatCopy.{FormatCopy, TheVariants.{First, Second}}, Format.{bit_differences, copy_bit, copy_cost, IsNearFormat}}
-use Rattle.qr_mending.specs.{Message.AreInBlocks, Message.IsMendedIn, Mending.HasFormat, Mending.IsMendedReading}
-use Rattle.qr_symbol.proofs.Facts.{start-none, part-at, positions-many, checks-push, map-each, data-sizes-whole}
-use Rattle.qr_field.proofs.Facts.{correction-one}
 
 -- ---- codewords
 

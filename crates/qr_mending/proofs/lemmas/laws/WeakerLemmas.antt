@@ -1,11 +1,10 @@
 -- A block with more error correction codewords is also one with fewer, since the generator polynomial of fewer divides that of
 -- more.
-use Rattle.std.proofs.Common.{◌≡◌, ℕ, ◌-◌, ◌≤◌, List, [], ◌∷◌, ◌++◌, take, drop, length, length-append, length-drop, refl, sym, ◌∙◌, ap, arith}
-use Rattle.std.proofs.lemmas.{Bool.Decides.nat_tests, List.length-take, List.take-append-drop, List.Elements.All-take}
-use Rattle.qr_field.specs.{Polynomial.IsByte, Polynomial.plus, Distance.differences}
-use Rattle.qr_field.proofs.lemmas.polynomial.{ListLemmas.{length-plus, bytes-plus}, PolynomialLemmas.correction-some}
 use Rattle.qr_field.proofs.lemmas.laws.DistanceLemmas.{difference-most, differences-none, weight-none, weight-plus}
-use Rattle.qr_mending.{specs.Block.IsBlock, proofs.lemmas.block.BlockLemmas.{bytes-block, errors-value, root-block}}
+use Rattle.qr_field.{proofs.lemmas.polynomial.{ListLemmas.{length-plus, bytes-plus}, PolynomialLemmas.correction-some}, specs.Distance.differences}
+use Rattle.{qr_field.specs.Polynomial.{IsByte, plus}, qr_mending.{proofs.lemmas.block.{bytes-block, errors-value, root-block}, specs.Block.IsBlock}}
+use Rattle.std.proofs.Common.{◌≡◌, ℕ, ◌-◌, ◌≤◌, List, [], ◌∷◌, ◌++◌, take, drop, length, length-append, length-drop, refl, sym, ◌∙◌, ap, arith}
+use Rattle.std.proofs.lemmas.{Bool.Decides.nat_tests, List.{length-take, take-append-drop, Elements.All-take}}
 
 -- lists of one length differ at most everywhere
 differences-most : (xs ys : List ℕ) → length xs ≡ length ys → differences xs ys ≤ length xs
@@ -17,7 +16,7 @@ differences-most (x ∷ xs) (y ∷ ys) e = omega (arith, difference-most x y, di
 -- lists with the same beginning differ as what comes after it
 differences-rest : (zs us vs : List ℕ) → differences (zs ++ us) (zs ++ vs) ≡ differences us vs
 differences-rest [] us vs = refl
-differences-rest (z ∷ zs) us vs = let h = differences-rest zs us vs in grind (arith, nat_tests)
+differences-rest (z ∷ zs) us vs = grind (arith, nat_tests, differences-rest zs us vs)
 
 -- the block differs in at most n codewords from the one whose last n codewords protect the others, and both have the first n
 -- powers of 2 as roots
@@ -38,7 +37,11 @@ weaker-block n m block some less few b =
     let most = differences-most back f.0 (omega arith) in
     let weighs = weight-plus block other same in
     let sum = plus block other in
-    let zero = weight-none (length sum) n sum (omega arith) (omega (arith, length-plus block other (omega arith)))
-    (bytes-plus block other bytes (bytes-block n other found)) (omega arith)
-    (λ i h. cc (errors-value n block other found (sym same) bytes i h, root-block m block b i (omega arith))) in
-    search (arith, differences-none)
+    search (
+      arith,
+      differences-none,
+      weight-none (length sum) n sum (omega arith) (omega (
+        arith,
+        length-plus block other (omega arith),
+      )) (bytes-plus block other bytes (bytes-block n other found)) (omega arith) (λ i h. cc (errors-value n block other found (sym same) bytes i h, root-block m block b i (omega arith))),
+    )

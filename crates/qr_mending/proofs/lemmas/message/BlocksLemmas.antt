@@ -1,21 +1,19 @@
 -- A message of which some codewords were erased is mended block by block, to at most one message.
-use Rattle.std.proofs.Common.{◌≡◌, ◌==◌, ◌⊎◌, not, Bool, ℕ, Some, take, drop, refl, ap, ◌+◌, ◌-◌, ◌*◌, ◌/◌, ◌<◌, ◌≤◌, Option, List, [], ◌∷◌, ◌++◌, map, length, length-append, get_or, sym, ◌∙◌, inl, inr, arith}
-use Rattle.std.proofs.lemmas.{Bool.cases_lt, List.{length_push, length-map, length-replicate, length-take-le, get_or_append_left, get_or_push, ext_get_or, take-append-drop}}
-use Rattle.std.proofs.lemmas.List.Elements.{All-head, All-tail, All-replicate}
-use Rattle.{std.specs.List.{range_with_len, All}, qr_matrix.specs.Grid.Grid}
-use Rattle.qr_field.specs.{Polynomial.{IsCorrection, zeros}, Distance.{erasures, errors}}
-use Rattle.qr_layout.specs.{declared.{blocks.Blocks.Blocks, level.Level.Level}, Blocks.spare_of}
-use Rattle.qr_layout.{specs.{Blocks.blocks_of, Version.total_codewords_of}, proofs.Facts.only-order}
-use Rattle.qr_symbol.specs.Interleaving.{block_count, block_len, codeword_count, correction_sizes, data_sizes, part_of}
-use Rattle.qr_symbol.proofs.Facts.{len-most, part-grown, part-last, part-len, parts-same, start-next}
-use Rattle.qr_field.proofs.{lemmas.laws.DistanceLemmas.unambiguous-known, Facts.correction-one}
+use Rattle.qr_field.{proofs.{Facts.correction-one, lemmas.laws.DistanceLemmas.unambiguous-known}, specs.Distance.{erasures, errors}}
+use Rattle.{qr_field.specs.Polynomial.{IsCorrection, zeros}, qr_layout.{proofs.Facts.only-order, specs.Blocks.{spare_of, blocks_of}}}
+use Rattle.{qr_layout.specs.{Version.total_codewords_of, declared.{blocks.Blocks.Blocks, level.Level.Level}}, qr_matrix.specs.Grid.Grid}
+use Rattle.qr_mending.proofs.lemmas.{block.block-corrects, erasures.length-read, message.MessageLemmas.{in-blocks-one, in-blocks-some, received-each}}
 use Rattle.qr_mending.specs.{Erasures.IsMendedWithErasures, Message.{read_at, received, IsMendedIn, IsMendedBlock, AreInBlocks}}
-use Rattle.qr_mending.proofs.lemmas.{block.BlockLemmas.block-corrects, erasures.ErasureLemmas.length-read}
-use Rattle.qr_mending.specs.declared.message.{Marks.Marks, MarksInBlocks.MarksInBlocks}
+use Rattle.qr_mending.specs.{Steps.Message.{list_of, marks_at, read_by, AreMarksInBlocks, AreMended, AreWhole, IsMendedMessage}, declared.message.Marks.Marks}
+use Rattle.qr_mending.specs.declared.message.MarksInBlocks.{MarksInBlocks}
+use Rattle.qr_symbol.proofs.Facts.{len-most, part-grown, part-last, part-len, parts-same, start-next}
+use Rattle.qr_symbol.specs.Interleaving.{block_count, block_len, codeword_count, correction_sizes, data_sizes, part_of}
+use Rattle.std.proofs.Common.{◌≡◌, ◌==◌, ◌⊎◌, not, Bool, ℕ, Some, take, drop, refl, ap, ◌+◌, ◌-◌, ◌*◌, ◌/◌, ◌<◌, ◌≤◌, Option, List, [], ◌∷◌, ◌++◌, map, length, length-append, get_or, sym, ◌∙◌, inl, inr, arith}
+use Rattle.std.proofs.lemmas.Bool.{cases_lt}
+use Rattle.std.proofs.lemmas.List.{length_push, length-map, length-replicate, length-take-le, get_or_append_left, get_or_push, ext_get_or, take-append-drop}
+use Rattle.std.{proofs.lemmas.List.Elements.{All-head, All-tail, All-replicate}, specs.List.{range_with_len, All}}
 use Rattle.qr_mending.specs.declared.message.Marks.TheVariants as interleaved
 use Rattle.qr_mending.specs.declared.message.MarksInBlocks.TheVariants as by_block
-use Rattle.qr_mending.specs.Steps.Message.{list_of, marks_at, read_by, AreMarksInBlocks, AreMended, AreWhole, IsMendedMessage}
-use Rattle.qr_mending.proofs.lemmas.message.MessageLemmas.{in-blocks-one, in-blocks-some, received-each}
 
 -- ---- blocks
 

@@ -1,18 +1,16 @@
 -- A symbol of which all modules were read: its marks are 0, no codeword is erased, and its blocks are mended as blocks of
 -- which every codeword was read.
+use Rattle.{qr_bits.{proofs.Facts.length-bits_of, specs.Bits.{bits_of, field}}, qr_field.proofs.lemmas.laws.DistanceLemmas.{erasures-read, errors-read}}
+use Rattle.{qr_field.specs.{Distance.differences, Polynomial.IsCorrection}, qr_layout.proofs.Facts.{col-in, order-length, row-in}}
+use Rattle.qr_layout.specs.{Blocks.{blocks_of, correctable_of}, Region.InRegion, Version.{side_of, total_codewords_of}, declared.blocks.Blocks.Blocks}
+use Rattle.{qr_layout.specs.declared.{level.Level.Level, region.Place.Place}, qr_matrix.specs.{BitRow.has_bit, Grid.{Grid, colour, light, rows_of}}}
+use Rattle.qr_mending.proofs.lemmas.message.{MarkLemmas.codewords-many, MessageLemmas.{in-blocks-one, indices-some, item, items-in-blocks, received-map}}
+use Rattle.{qr_mending.specs.Message.{modules_of, read_at, received, IsMendedIn, AreInBlocks}, qr_symbol.proofs.Facts.{map-each, read-some}}
+use Rattle.qr_symbol.specs.{Interleaving.{block_count, codeword_count, data_sizes, part_of}, Reading.{IsRead, IsReadUnmasked}}
 use Rattle.std.proofs.Common.{◌≡◌, ◌||◌, Bool, false, ℕ, zero, suc, ◌==◌, ◌*◌, ◌+◌, ◌-◌, ◌%◌, ◌^◌, ◌<◌, ◌≤◌, inl, inr, Some, List, [], ◌∷◌, ◌++◌, map, take, length, get_or, refl, sym, ap, ◌∙◌, arith}
 use Rattle.std.proofs.{Math.Nat.zero-div, lemmas.{Bool.cases_lt, List.{length-map, length-replicate, length-take, Elements.{All-replicate, All-take}}}}
 use Rattle.std.specs.List.{list_any, range_with_len}
 use lib.ListN.{replicate}
-use Rattle.qr_field.{specs.{Polynomial.IsCorrection, Distance.differences}, proofs.lemmas.laws.DistanceLemmas.{erasures-read, errors-read}}
-use Rattle.qr_layout.specs.declared.{blocks.Blocks.Blocks, level.Level.Level, region.Place.Place}
-use Rattle.qr_layout.specs.{Blocks.{blocks_of, correctable_of}, Version.{side_of, total_codewords_of}, Region.InRegion}
-use Rattle.{qr_layout.proofs.Facts.{col-in, order-length, row-in}, qr_matrix.specs.{BitRow.has_bit, Grid.{Grid, colour, light, rows_of}}}
-use Rattle.qr_bits.{specs.Bits.{bits_of, field}, proofs.Facts.length-bits_of}
-use Rattle.qr_symbol.specs.Interleaving.{block_count, codeword_count, data_sizes, part_of}
-use Rattle.qr_symbol.{specs.Reading.{IsRead, IsReadUnmasked}, proofs.Facts.{map-each, read-some}}
-use Rattle.qr_mending.specs.Message.{modules_of, read_at, received, IsMendedIn, AreInBlocks}
-use Rattle.qr_mending.proofs.lemmas.message.{MarkLemmas.codewords-many, MessageLemmas.{in-blocks-one, indices-some, item, items-in-blocks, received-map}}
 
 -- ---- the marks of a light square
 

@@ -36,8 +36,7 @@ gathered-map c f xs ks g = let read : Position → ℕ = λ t. f (codeword_at c 
   many = g.many;
   same =
       map-each (IsPosition c) (codeword_at c (map f ks)) read g.positions g.order.in_blocks (λ t i.
-      let inside = position-in c t.index t.block i in
-      search (arith, get_or-map))
+      search (arith, get_or-map, position-in c t.index t.block i))
       ∙ (sym (map-map f (codeword_at c ks) g.positions) ∙ (ap (map f) g.same ∙ sym (take-map f (codeword_count c) xs)));
 }
 
@@ -46,9 +45,8 @@ gathered-all : (c : BlockSizes) (P : ℕ → Type 0) (xs ks : List ℕ) → All 
 gathered-all c P xs ks a g = All-from_get_or P ks 0 (λ j l.
     let w = position-of c (block_count c) j (omega arith) (let q = g.long in omega arith) in
     let read = codeword_at c ks in
-    let all : All P (map read g.positions) = subst (All P) (sym g.same) (All-take P (codeword_count c) xs a) in
     let each : All (λ (t : Position). P (read t)) g.positions =
-    λ k t m. subst P (get_or-map read g.positions k t 0 m) (all k 0 (omega (arith, length-map g.positions read))) in
+    λ k t m. subst P (get_or-map read g.positions k t 0 m) ((subst (All P) (sym g.same) (All-take P (codeword_count c) xs a)) k 0 (omega (arith, length-map g.positions read))) in
     search (arith, All-contains))
 
 -- the item at an index
@@ -59,7 +57,6 @@ item xs k = get_or xs k 0
 pub items-in-blocks : (b : Blocks) (n : ℕ) (xs ks js : List ℕ) → length xs ≡ n →
     AreInBlocks b (range_with_len 0 n) ks js → AreInBlocks b xs (map (item xs) ks) (map (item xs) js)
 items-in-blocks b n xs ks js e h =
-    let c = data_sizes b in
     let all : map (item xs) (range_with_len 0 n) ≡ xs = sym (fill_by_all (item xs) xs n 0 e (λ k l. refl)) in
     search (arith, drop-map, gathered-map)
 
@@ -70,8 +67,7 @@ pub in-blocks-some : (b : Blocks) (interleaved : List ℕ) →
 in-blocks-some b interleaved long =
     let own = codeword_count (data_sizes b) in
     let first = gather-some (data_sizes b) interleaved (omega arith) in
-    let second = gather-some (correction_sizes b) (drop own interleaved) (omega (arith, length-drop own interleaved)) in
-    search arith
+    search (arith, gather-some (correction_sizes b) (drop own interleaved) (omega (arith, length-drop own interleaved)))
 
 -- the indices of the codewords of a symbol can be put back into blocks
 pub indices-some : (v : ℕ) (l : Level) → 1 ≤ v → v ≤ 40 →
@@ -94,6 +90,4 @@ pub received-all : (b : Blocks) (P : ℕ → Type 0) (n : ℕ) (ks js : List ℕ
 received-all b P n ks js i h inside =
     let indices = range_with_len 0 n in
     let len = length-range_with_len 0 n in
-    let all : All P indices = All-from_get_or P indices 0 (λ k r.
-    search (arith, get_or-range_with_len)) in
-    received-each b P indices ks js i all inside
+    received-each b P indices ks js i (All-from_get_or P indices 0 (λ k r. search (arith, get_or-range_with_len))) inside

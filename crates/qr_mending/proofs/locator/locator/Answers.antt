@@ -1,5 +1,4 @@
-use Rattle.std.proofs.Common.{arith}
-use Rattle.qr_mending.proofs.lemmas.locator.SearchLemmas.{search-locates}
+use Rattle.{qr_mending.proofs.lemmas.locator.search-locates, std.proofs.Common.arith}
 use Rattle.qr_mending.proofs.locator.locator.Goals as goal
 
 pub loop-i-init : goal.loop-i-init

@@ -1,5 +1,4 @@
-use Rattle.std.proofs.Common.{◌≤◌}
-use Rattle.qr_mending.specs.Steps.Polynomial.{IsSearch}
+use Rattle.{qr_mending.specs.Steps.Polynomial.IsSearch, std.proofs.Common.◌≤◌}
 use Rattle.qr_mending.proofs.locator.locator.Given as goal
 
 abbrev pub invariant-loop-i : goal.invariant-loop-i

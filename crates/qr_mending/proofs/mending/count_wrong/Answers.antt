@@ -1,6 +1,6 @@
 use Rattle.std.proofs.{Common.{rules, ◌≡◌, ◌<◌, ℕ, Bool, arith}, lemmas.Bool.{ne_eqb, Decides.nat_tests}}
 use Rattle.qr_matrix.{specs.{Difference.difference_count, Grid.{Grid, colour, with_row}, Sums.places_passing}, proofs.Facts.colour-square}
-use Rattle.qr_mending.{specs.Mending.wrong_modules, proofs.lemmas.format.FormatLemmas.sum-same}
+use Rattle.qr_mending.{specs.Mending.wrong_modules, proofs.lemmas.format.sum-same}
 use Rattle.qr_mending.proofs.mending.count_wrong.Goals as goal
 
 -- the colours of a square with a new row

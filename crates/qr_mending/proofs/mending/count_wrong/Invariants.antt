@@ -1,5 +1,4 @@
-use Rattle.std.proofs.Common.{◌≡◌, ℕ, ◌<◌, ◌≤◌, ◌||◌}
-use Rattle.qr_matrix.specs.{Grid.colour, Difference.differs}
+use Rattle.{qr_matrix.specs.{Difference.differs, Grid.colour}, std.proofs.Common.{◌≡◌, ℕ, ◌<◌, ◌≤◌, ◌||◌}}
 use Rattle.qr_mending.proofs.mending.count_wrong.Given as goal
 
 -- the rows before the current one differ where a module is wrong, and the others are those of the symbol

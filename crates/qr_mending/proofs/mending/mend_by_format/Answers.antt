@@ -1,4 +1,4 @@
-use Rattle.qr_mending.{specs.declared.format.FormatCopy.TheVariants.{First, Second}, proofs.lemmas.mending.MendingLemmas.{both-alike, certain-first, mended-by}}
+use Rattle.qr_mending.{specs.declared.format.FormatCopy.TheVariants.{First, Second}, proofs.lemmas.mending.{both-alike, certain-first, mended-by}}
 use Rattle.qr_mending.proofs.mending.mend_by_format.Goals as goal
 
 pub returns-then-is_certain-clause-mended : goal.returns-then-is_certain-clause-mended

@@ -1,5 +1,4 @@
-use Rattle.std.proofs.{Common.{sym, ◌∙◌}, lemmas.Result.err_from_is_err_and}
-use Rattle.qr_mending.proofs.lemmas.mending.MendingLemmas.{mended-unparsed}
+use Rattle.{qr_mending.proofs.lemmas.mending.mended-unparsed, std.proofs.{Common.{sym, ◌∙◌}, lemmas.Result.err_from_is_err_and}}
 use Rattle.qr_mending.proofs.mending.mend_symbol_with_unknown.Goals as goal
 
 pub returns-in_default-clause-mended : goal.returns-in_default-clause-mended

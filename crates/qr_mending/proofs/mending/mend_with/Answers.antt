@@ -1,6 +1,5 @@
-use Rattle.{std.proofs.Common.{Err, ap, arith}, qr_symbol.specs.declared.fault.ReadFault.ReadFault}
-use Rattle.qr_mending.proofs.lemmas.{mending.MendingLemmas.holds-none, message.MarkLemmas.{by-marks, of-marks}}
-use Rattle.{qr_layout.specs.Version.total_codewords_of, qr_mending.specs.Steps.Message.list_of}
+use Rattle.{qr_layout.specs.Version.total_codewords_of, qr_mending.proofs.lemmas.{mending.holds-none, message.MarkLemmas.{by-marks, of-marks}}}
+use Rattle.{qr_mending.specs.Steps.Message.list_of, qr_symbol.specs.declared.fault.ReadFault.ReadFault, std.proofs.Common.{Err, ap, arith}}
 use Rattle.qr_mending.proofs.mending.mend_with.Goals as goal
 
 pub returns-in-Ok-clause-mended : goal.returns-in-Ok-clause-mended

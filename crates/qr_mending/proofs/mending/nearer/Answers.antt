@@ -1,5 +1,4 @@
-use Rattle.std.proofs.Common.{rules, arith}
-use Rattle.qr_mending.proofs.lemmas.mending.MendingLemmas.{first-alone, first-nearer, second-alone, second-nearer}
+use Rattle.{qr_mending.proofs.lemmas.mending.{first-alone, first-nearer, second-alone, second-nearer}, std.proofs.Common.{rules, arith}}
 use Rattle.qr_mending.proofs.mending.nearer.Goals as goal
 
 pub returns-in_default : goal.returns-in_default

@@ -1,6 +1,5 @@
-use Rattle.std.proofs.Common.{◌≡◌, ◌++◌, ap, length, length-append, sym, ◌∙◌, subst, arith}
-use Rattle.qr_layout.specs.Blocks.{blocks_of}
-use Rattle.qr_symbol.{specs.Interleaving.IsFinalMessage, proofs.Facts.{both-interleaved, data-sizes-whole, final-whole, take-front}}
+use Rattle.{qr_layout.specs.Blocks.blocks_of, qr_symbol.proofs.Facts.{both-interleaved, data-sizes-whole, final-whole, take-front}}
+use Rattle.{qr_symbol.specs.Interleaving.IsFinalMessage, std.proofs.Common.{rules, ◌≡◌, ◌++◌, ap, length, length-append, sym, ◌∙◌, subst, arith}}
 use Rattle.qr_mending.proofs.message.interleaved.Goals as goal
 
 pub scatter-requires-clause-whole : goal.scatter-requires-clause-whole
@@ -11,10 +10,9 @@ scatter-requires-clause-whole c =
 
 pub scatter-requires-clause-room : goal.scatter-requires-clause-room
 scatter-requires-clause-room c =
-    let same : c.len-3.result ≡ length c.args.message.items = omega arith in
     rw (c.of_data.ensures, c.blocks-blocks.ensures)
     (c.split_at_mut-data.ensures.front_len
-    ∙ (same ∙ (c.requires.long ∙ sym (data-sizes-whole c.args.version c.args.level (omega arith) (omega arith)))))
+    ∙ ((omega arith) ∙ (c.requires.long ∙ sym (data-sizes-whole c.args.version c.args.level (omega arith) (omega arith)))))
 
 pub returns-clause-interleaved : goal.returns-clause-interleaved
 returns-clause-interleaved c =
@@ -26,7 +24,7 @@ returns-clause-interleaved c =
     let len : length all ≡ c.in_ok-interleaved.interleaved.len =
     length-append c.scatter.new.interleaved c.scatter-2.new.interleaved
     ∙ omega arith in
-    subst (IsFinalMessage b message) (sym (take-front c.in_ok-interleaved.interleaved.len all _ len))
+    subst (IsFinalMessage b message) (sym (search (rules, take-front)))
     (both-interleaved b message c.args.corrections.items c.scatter.new.interleaved c.scatter-2.new.interleaved
     c.requires.checks.each first.long checks.long first.gathered checks.gathered)
 

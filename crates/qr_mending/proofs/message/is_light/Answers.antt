@@ -1,6 +1,5 @@
-use Rattle.std.proofs.Common.{◌≡◌, sym, ◌∙◌, inl, inr, arith}
-use Rattle.{std.proofs.lemmas.Bool.cases_lt, qr_matrix.specs.BitRow.has}
-use Rattle.qr_mending.proofs.lemmas.message.LightLemmas.{row-light}
+use Rattle.{qr_matrix.specs.BitRow.has, qr_mending.proofs.lemmas.message.LightLemmas.row-light}
+use Rattle.std.proofs.{Common.{◌≡◌, sym, ◌∙◌, inl, inr, arith}, lemmas.Bool.cases_lt}
 use Rattle.qr_mending.proofs.message.is_light.Goals as goal
 
 pub loop-row-preserved : goal.loop-row-preserved

@@ -1,4 +1,4 @@
-use Rattle.qr_mending.{proofs.lemmas.erasures.ErasureLemmas.{read-unmarked, unerased-mended, unerased-refused}, specs.Erasures.read_of}
+use Rattle.qr_mending.{proofs.lemmas.erasures.{read-unmarked, unerased-mended, unerased-refused}, specs.Erasures.read_of}
 use Rattle.std.proofs.{Common.{rules, ◌≡◌, ◌==◌, ℕ, Bool, true, List, [], ◌∷◌, Some, length, map}, lemmas.Bool.{false≢true, ne_eqb}}
 use Rattle.qr_mending.proofs.message.mend_block.Goals as goal
 

@@ -1,6 +1,6 @@
 use Rattle.std.{proofs.{Common.{◌≡◌, ◌++◌, ◌-◌, ◌∙◌, length, take, drop, ap, sym, arith}, lemmas.List.length-take-le}, specs.List.refill}
 use Rattle.qr_symbol.{specs.Interleaving.{block_count, block_len, data_sizes}, proofs.Facts.{checks-block, data-sizes-whole, sizes-whole}}
-use Rattle.qr_mending.proofs.lemmas.{errors.RemovalLemmas.refill-same, erasures.ErasureLemmas.length-read}
+use Rattle.qr_mending.proofs.lemmas.{errors.RemovalLemmas.refill-same, erasures.length-read}
 use Rattle.qr_mending.proofs.lemmas.message.BlocksLemmas.{in-blocks-mended, marks-or-none, marks-whole, mended-corrects, mended-more, none-in-blocks, none-mended, IsReadBlock}
 use Rattle.qr_mending.proofs.message.mend_blocks.Goals as goal
 

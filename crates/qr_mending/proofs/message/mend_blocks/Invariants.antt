@@ -1,5 +1,4 @@
-use Rattle.{std.proofs.Common.◌≡◌, qr_mending.specs.Steps.Message.{marks_at, AreMarksInBlocks, AreMended}}
-use Rattle.qr_symbol.specs.Interleaving.{IsChecks}
+use Rattle.{qr_mending.specs.Steps.Message.{marks_at, AreMarksInBlocks, AreMended}, qr_symbol.specs.Interleaving.IsChecks, std.proofs.Common.◌≡◌}
 use Rattle.qr_mending.proofs.message.mend_blocks.Given as goal
 
 -- the blocks before the current one are mended

@@ -1,5 +1,4 @@
-use Rattle.{std.proofs.Common.{◌≡◌, ◌++◌, drop}, arrayvec.specs.ArrayVec.array_vec_len}
-use Rattle.qr_mending.specs.Steps.Roots.{times_root}
+use Rattle.{arrayvec.specs.ArrayVec.array_vec_len, qr_mending.specs.Steps.Roots.times_root, std.proofs.Common.{◌≡◌, ◌++◌, drop}}
 use Rattle.qr_mending.proofs.roots.with_root.Given as goal
 
 abbrev pub invariant-loop-coefficient : goal.invariant-loop-coefficient

@@ -1,5 +1,4 @@
-use Rattle.std.proofs.Common.{◌≡◌, ◌*◌, ◌<◌, ◌≤◌, ℕ, length, get_or, bit_xor}
-use Rattle.qr_field.specs.{Galois.product, Polynomial.power}
+use Rattle.{qr_field.specs.{Galois.product, Polynomial.power}, std.proofs.Common.{◌≡◌, ◌*◌, ◌<◌, ◌≤◌, ℕ, length, get_or, bit_xor}}
 use Rattle.qr_mending.proofs.sums.add_multiples.Given as goal
 
 abbrev pub invariant-loop-k : goal.invariant-loop-k

@@ -1,5 +1,5 @@
 use Rattle.std.proofs.{Common.{length-drop, rules, ◌≡◌, ◌-◌, ◌+◌, get_or, length, arith}, lemmas.{List.{drop_more, drop_all}, Nat.xor_comm}}
-use Rattle.qr_mending.proofs.lemmas.sums.DigitLemmas.{digits-none, powers-product}
+use Rattle.qr_mending.proofs.lemmas.sums.{digits-none, powers-product}
 use Rattle.qr_mending.proofs.sums.sixteen_syndromes.Goals as goal
 
 pub loop-j-init : goal.loop-j-init

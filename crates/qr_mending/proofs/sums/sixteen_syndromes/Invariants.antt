@@ -1,6 +1,4 @@
-use Rattle.std.proofs.Common.{◌≡◌, ◌+◌, ◌<◌, ℕ, drop}
-use Rattle.qr_field.specs.Steps.Polynomial.{value_at}
-use Rattle.qr_mending.specs.Steps.Values.{sum_at}
+use Rattle.{qr_field.specs.Steps.Polynomial.value_at, qr_mending.specs.Steps.Values.sum_at, std.proofs.Common.{◌≡◌, ◌+◌, ◌<◌, ℕ, drop}}
 use Rattle.qr_mending.proofs.sums.sixteen_syndromes.Given as goal
 
 abbrev pub invariant-loop-j : goal.invariant-loop-j

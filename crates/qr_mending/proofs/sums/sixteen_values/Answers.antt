@@ -1,6 +1,6 @@
 use Rattle.qr_field.{proofs.lemmas.galois.{PowerLemmas.power-lt, ByteLemmas.product-by_zero}, specs.{Galois.product, Polynomial.{IsByte, power}}}
 use Rattle.std.proofs.{lemmas.{List.{drop_all, Elements.All-from_get_or}, Nat.xor_comm}, Common.{rules, ◌≡◌, ◌-◌, ◌+◌, ◌*◌, drop, get_or, ap, ◌∙◌, arith}}
-use Rattle.qr_mending.{specs.Steps.Sums.eval, proofs.lemmas.sums.{DigitLemmas.{digits-none, powers-product}, SumLemmas.{eval-more, eval-all}}}
+use Rattle.qr_mending.{specs.Steps.Sums.eval, proofs.lemmas.sums.{digits-none, powers-product, eval-more, eval-all}}
 use Rattle.qr_mending.proofs.sums.sixteen_values.Goals as goal
 
 pub loop-j-init : goal.loop-j-init

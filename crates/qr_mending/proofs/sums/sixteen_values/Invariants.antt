@@ -1,6 +1,5 @@
+use Rattle.{qr_field.specs.{Galois.product, Polynomial.power}, qr_mending.specs.Steps.{Sums.eval, Values.sum_at}}
 use Rattle.std.proofs.Common.{◌≡◌, ◌+◌, ◌*◌, ◌<◌, ℕ, drop}
-use Rattle.qr_field.specs.{Galois.{product}, Polynomial.{power}}
-use Rattle.qr_mending.specs.Steps.{Sums.{eval}, Values.{sum_at}}
 use Rattle.qr_mending.proofs.sums.sixteen_values.Given as goal
 
 abbrev pub invariant-loop-j : goal.invariant-loop-j

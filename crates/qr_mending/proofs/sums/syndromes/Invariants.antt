@@ -1,5 +1,4 @@
-use Rattle.std.proofs.Common.{◌-◌, ◌≤◌, length}
-use Rattle.{arrayvec.specs.ArrayVec.array_vec_len, qr_mending.specs.Steps.Sums.HasValues}
+use Rattle.{arrayvec.specs.ArrayVec.array_vec_len, qr_mending.specs.Steps.Sums.HasValues, std.proofs.Common.{◌-◌, ◌≤◌, length}}
 use Rattle.qr_mending.proofs.sums.syndromes.Given as goal
 
 abbrev pub invariant-loop-syndromes : goal.invariant-loop-syndromes

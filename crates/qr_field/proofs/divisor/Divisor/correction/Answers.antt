@@ -1,5 +1,4 @@
-use Rattle.std.proofs.Common.{rules}
-use Rattle.qr_field.proofs.lemmas.{polynomial.PolynomialLemmas.correction-one, divisor.DivisorLemmas.held-start}
+use Rattle.{qr_field.proofs.lemmas.{divisor.held-start, polynomial.PolynomialLemmas.correction-one}, std.proofs.Common.rules}
 use Rattle.qr_field.proofs.divisor.Divisor.correction.Goals as goal
 
 pub finished-requires-clause-held : goal.finished-requires-clause-held

@@ -1,4 +1,4 @@
-use Rattle.qr_field.proofs.lemmas.divisor.DivisorLemmas.{held-start}
+use Rattle.qr_field.proofs.lemmas.divisor.{held-start}
 use Rattle.qr_field.proofs.divisor.Divisor.corrections.Goals as goal
 
 pub loop-index-init : goal.loop-index-init

@@ -1,5 +1,4 @@
-use Rattle.qr_field.proofs.lemmas.register.RegisterLemmas.{unpacked-packed}
-use Rattle.std.proofs.{Common.arith, lemmas.List.take_all}
+use Rattle.{qr_field.proofs.lemmas.register.unpacked-packed, std.proofs.{Common.arith, lemmas.List.take_all}}
 use Rattle.qr_field.proofs.divisor.Divisor.finished.Goals as goal
 
 pub returns : goal.returns

@@ -1,7 +1,6 @@
-use Rattle.qr_field.proofs.lemmas.{register.RegisterLemmas.scaled-unpacked, polynomial.PolynomialLemmas.{bytes-generator, generator-shape}}
-use Rattle.std.{proofs.{Common.{rules, ◌≡◌, ◌≤◌, length, drop, ap, ◌∙◌, arith}, lemmas.List.{length-drop, Elements.All-drop}}, specs.List.All}
+use Rattle.qr_field.proofs.lemmas.{divisor.{multiples-sixteen, packed-sixteen}, polynomial.PolynomialLemmas.bytes-generator, register.scaled-unpacked}
 use Rattle.qr_field.specs.{Polynomial.IsByte, Steps.Register.{divisor_of, packed, value_of}}
-use Rattle.qr_field.proofs.lemmas.divisor.DivisorLemmas.{multiples-sixteen, packed-sixteen}
+use Rattle.std.{proofs.{Common.{rules, ◌≡◌, ◌≤◌, length, drop, ap, ◌∙◌, arith}, lemmas.List.{length-drop, Elements.All-drop}}, specs.List.All}
 use Rattle.qr_field.proofs.divisor.Divisor.new.Goals as goal
 
 pub invariant_of-result : goal.invariant_of-result
@@ -10,7 +9,6 @@ invariant_of-result c =
     let v = value_of c.new-by_one.result in
     let is : c.as_slice.result.now ≡ divisor = c.as_slice.ensures.value ∙ ap (drop 1) c.generator.ensures in
     let by_one : v ≡ packed divisor = c.new-by_one.ensures ∙ ap packed is in
-    let shape = generator-shape c.args.n in
     let few : length divisor ≤ 32 = search (rules, length-drop) in
     let bytes : All IsByte divisor = search (rules, All-drop, bytes-generator) in
     let by_sixteen =

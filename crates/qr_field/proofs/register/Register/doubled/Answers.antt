@@ -1,5 +1,4 @@
-use Rattle.std.proofs.Common.{arith}
-use Rattle.qr_field.proofs.lemmas.register.RegisterLemmas.{bytes-doubled, doubled-halves}
+use Rattle.{qr_field.proofs.lemmas.register.{bytes-doubled, doubled-halves}, std.proofs.Common.arith}
 use Rattle.qr_field.proofs.register.Register.doubled.Goals as goal
 
 pub returns : goal.returns

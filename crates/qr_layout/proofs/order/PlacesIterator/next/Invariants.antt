@@ -1,5 +1,4 @@
-use Rattle.std.proofs.Common.{◌≡◌, ◌≤◌}
-use Rattle.qr_layout.specs.{Version.side_of, Steps.Order.{IsCursor, to_come, left_of}}
+use Rattle.{qr_layout.specs.{Steps.Order.{IsCursor, to_come, left_of}, Version.side_of}, std.proofs.Common.{◌≡◌, ◌≤◌}}
 use Rattle.qr_layout.proofs.order.PlacesIterator.next.Given as goal
 
 abbrev pub invariant-loop-self : goal.invariant-loop-self

@@ -1,5 +1,4 @@
-use Rattle.std.proofs.Common.{rules}
-use Rattle.qr_layout.{specs.Blocks.block_count_of, proofs.version.Version.block_count.Goals.{in-L, in-M, in-Q, in-H}}
+use Rattle.{qr_layout.{proofs.version.Version.block_count.Goals.{in-L, in-M, in-Q, in-H}, specs.Blocks.block_count_of}, std.proofs.Common.rules}
 use Rattle.qr_layout.proofs.version.Version.block_count.Goals as goal
 
 pub returns : goal.returns

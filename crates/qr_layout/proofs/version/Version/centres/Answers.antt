@@ -1,5 +1,4 @@
-use Rattle.std.proofs.Common.{rules, ◌≡◌, ℕ, ◌≤◌, ◌<◌, List, length, take}
-use Rattle.{std.proofs.lemmas.List.length-take, qr_layout.proofs.lemmas.alignment.TableLemmas.centres-few}
+use Rattle.{qr_layout.proofs.lemmas.alignment.centres-few, std.proofs.{Common.{rules, ◌≡◌, ℕ, ◌≤◌, ◌<◌, List, length, take}, lemmas.List.length-take}}
 use Rattle.qr_layout.proofs.version.Version.centres.Goals as goal
 
 -- of at most seven items the first k are fewer than seven, where there is one more

@@ -1,5 +1,4 @@
-use Rattle.qr_mending.proofs.lemmas.errors.{WeightLemmas.coefficient-head, RemovalLemmas.left-next}
-use Rattle.std.proofs.Common.{rules, ◌∷◌}
+use Rattle.{qr_mending.proofs.lemmas.errors.{RemovalLemmas.left-next, WeightLemmas.coefficient-head}, std.proofs.Common.{rules, ◌∷◌}}
 use Rattle.qr_mending.proofs.errors.Removal.next_error.Goals as goal
 
 pub returns-then-self-from-ne0-clause-left : goal.returns-then-self-from-ne0-clause-left

@@ -1,5 +1,4 @@
-use Rattle.std.proofs.Common.{rules}
-use Rattle.qr_mending.{specs.Format.copy_bit, proofs.lemmas.format.FormatLemmas.{bits-counted, misread-counted}}
+use Rattle.{qr_mending.{proofs.lemmas.format.{bits-counted, misread-counted}, specs.Format.copy_bit}, std.proofs.Common.rules}
 use Rattle.qr_mending.proofs.format.CopyBits.damage.Goals as goal
 
 pub returns-clause-unread : goal.returns-clause-unread

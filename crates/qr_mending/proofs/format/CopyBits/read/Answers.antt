@@ -1,6 +1,5 @@
-use Rattle.std.proofs.Common.{◌≡◌, ◌-◌, ◌==◌, ◌∙◌, ap, arith}
-use Rattle.{qr_bits.proofs.Facts.bool_byte-bit}
-use Rattle.qr_mending.{specs.Format.copy_bit, proofs.lemmas.format.FormatLemmas.{bits-few, bits-more}}
+use Rattle.{qr_bits.proofs.Facts.bool_byte-bit, qr_mending.{proofs.lemmas.format.{bits-few, bits-more}, specs.Format.copy_bit}}
+use Rattle.std.proofs.Common.{rules, ◌≡◌, ◌-◌, ◌==◌, ◌∙◌, ap, arith}
 use Rattle.qr_mending.proofs.format.CopyBits.read.Goals as goal
 
 pub loop-i-preserved : goal.loop-i-preserved
@@ -15,8 +14,7 @@ loop-i-preserved c =
     let other = bool_byte-bit c.dark-in-loop-i.result in
     let dark : (c.from.result == 1) ≡ copy_bit copy g (i - 1) =
     ap (λ t. t == 1) c.from.ensures ∙ (one.1 ∙ cc) in
-    let unread : (c.from-in-loop-i.result == 1) ≡ copy_bit copy u (i - 1) =
-    ap (λ t. t == 1) c.from-in-loop-i.ensures ∙ (other.1 ∙ cc) in
+    let unread : (c.from-in-loop-i.result == 1) ≡ copy_bit copy u (i - 1) = search rules in
     record {
       few = bits-few c.loop-i.dark c.from.result i (omega arith) (omega arith) (omega arith) h.few;
       few_unread = bits-few c.loop-i.unread c.from-in-loop-i.result i (omega arith) (omega arith) (omega arith) h.few_unread;

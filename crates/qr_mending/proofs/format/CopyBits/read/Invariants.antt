@@ -1,5 +1,4 @@
-use Rattle.std.proofs.Common.{◌≡◌, ◌+◌, ◌-◌, ◌^◌, ◌<◌, ℕ}
-use Rattle.{qr_matrix.specs.BitRow.has_bit, qr_mending.specs.Format.copy_bit}
+use Rattle.{qr_matrix.specs.BitRow.has_bit, qr_mending.specs.Format.copy_bit, std.proofs.Common.{◌≡◌, ◌+◌, ◌-◌, ◌^◌, ◌<◌, ℕ}}
 use Rattle.qr_mending.proofs.format.CopyBits.read.Given as goal
 
 abbrev pub invariant-loop-i : goal.invariant-loop-i

@@ -1,5 +1,4 @@
-use Rattle.std.proofs.Common.{rules, refl, ◌∙◌, arith}
-use Rattle.qr_mending.proofs.lemmas.locator.SearchLemmas.{few-values, progress-next}
+use Rattle.{qr_mending.proofs.lemmas.locator.{few-values, progress-next}, std.proofs.Common.{rules, refl, ◌∙◌, arith}}
 use Rattle.qr_mending.proofs.locator.Progress.advance.Goals as goal
 
 pub take_in-requires-clause-search : goal.take_in-requires-clause-search

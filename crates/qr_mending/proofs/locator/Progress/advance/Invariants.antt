@@ -1,5 +1,4 @@
-use Rattle.std.proofs.Common.{◌≡◌}
-use Rattle.qr_mending.specs.Steps.Polynomial.{IsProgress}
+use Rattle.{qr_mending.specs.Steps.Polynomial.IsProgress, std.proofs.Common.◌≡◌}
 use Rattle.qr_mending.proofs.locator.Progress.advance.Given as goal
 
 abbrev pub invariant-loop-i : goal.invariant-loop-i

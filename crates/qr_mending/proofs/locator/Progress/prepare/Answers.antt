@@ -1,5 +1,4 @@
-use Rattle.std.proofs.Common.{refl, arith}
-use Rattle.qr_mending.proofs.lemmas.locator.SearchLemmas.{progress-longer}
+use Rattle.{qr_mending.proofs.lemmas.locator.progress-longer, std.proofs.Common.{refl, arith}}
 use Rattle.qr_mending.proofs.locator.Progress.prepare.Goals as goal
 
 pub returns-then-self-len-clause-progress : goal.returns-then-self-len-clause-progress

@@ -1,6 +1,5 @@
+use Rattle.{qr_field.specs.Polynomial.IsByte, qr_mending.proofs.lemmas.locator.{best-next, factor-some, few-bound}}
 use Rattle.std.proofs.{Common.{rules, ◌≡◌, ◌+◌, ◌*◌, ◌-◌, ◌∙◌, arith}, lemmas.List.{take_rest, Elements.All-from_get_or}}
-use Rattle.qr_field.specs.Polynomial.{IsByte}
-use Rattle.qr_mending.proofs.lemmas.locator.SearchLemmas.{best-next, factor-some, few-bound}
 use Rattle.qr_mending.proofs.locator.Search.take_in.Goals as goal
 
 pub add-requires-clause-some : goal.add-requires-clause-some
