@@ -1,5 +1,5 @@
 use Rattle.std.proofs.Common.{rules, ◌≡◌, ℕ, ◌+◌, ◌<◌, bit_and, get_or, sym, ap, ◌∙◌, arith}
-use Rattle.qr_matrix.{specs.{BitRow.has_bit, Bytes.byte_of}, proofs.lemmas.bytes.ReadLemmas.{gathered, gathered-bits, joined, plain-bytes}}
+use Rattle.qr_matrix.{specs.{BitRow.has_bit, Bytes.byte_of}, proofs.lemmas.bytes.{gathered, gathered-bits, joined, plain-bytes}}
 use Rattle.qr_matrix.proofs.bytes.eight_bits.Goals as goal
 
 pub returns-clause-bits : goal.returns-clause-bits

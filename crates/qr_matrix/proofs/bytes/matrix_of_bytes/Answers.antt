@@ -1,5 +1,5 @@
 use Rattle.std.proofs.Common.{◌≡◌, ℕ, ◌+◌, ◌*◌, ◌==◌, not, false, slice_index_or, ap, ◌∙◌, arith}
-use Rattle.qr_matrix.{specs.BitRow.has, proofs.lemmas.{bytes.ReadLemmas.read-there, matrix.GridLemmas.{filled, fill-line, fill-all}}}
+use Rattle.qr_matrix.{specs.BitRow.has, proofs.lemmas.{bytes.read-there, matrix.GridLemmas.{filled, fill-line, fill-all}}}
 use Rattle.qr_matrix.proofs.bytes.matrix_of_bytes.Goals as goal
 
 pub loop-row-preserved : goal.loop-row-preserved

@@ -1,5 +1,4 @@
-use Rattle.std.proofs.Common.{◌≡◌, ◌+◌, ◌*◌, ◌==◌, not, false, slice_index_or}
-use Rattle.qr_matrix.proofs.lemmas.matrix.GridLemmas.{filled}
+use Rattle.{qr_matrix.proofs.lemmas.matrix.GridLemmas.filled, std.proofs.Common.{◌≡◌, ◌+◌, ◌*◌, ◌==◌, not, false, slice_index_or}}
 use Rattle.qr_matrix.proofs.bytes.matrix_of_bytes.Given as goal
 
 -- the rows before the current one have been read

@@ -1,5 +1,4 @@
-use Rattle.std.proofs.{Common.rules, lemmas.Bool.Decides.nat_tests}
-use Rattle.qr_matrix.proofs.lemmas.runs.ColumnLemmas.{has-nothing}
+use Rattle.{qr_matrix.proofs.lemmas.runs.ColumnLemmas.has-nothing, std.proofs.{Common.rules, lemmas.Bool.Decides.nat_tests}}
 use Rattle.qr_matrix.proofs.bytes.modules_of.Goals as goal
 
 pub loop-col-init : goal.loop-col-init

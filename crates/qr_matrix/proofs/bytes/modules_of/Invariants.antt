@@ -1,5 +1,4 @@
-use Rattle.std.proofs.Common.{◌≡◌, ℕ, ◌+◌, ◌&&◌, ◌==◌, nat_lt, slice_index_or}
-use Rattle.qr_matrix.specs.BitRow.{has}
+use Rattle.{qr_matrix.specs.BitRow.has, std.proofs.Common.{◌≡◌, ℕ, ◌+◌, ◌&&◌, ◌==◌, nat_lt, slice_index_or}}
 use Rattle.qr_matrix.proofs.bytes.modules_of.Given as goal
 
 -- the modules before the current one have been read

@@ -1,5 +1,4 @@
-use Rattle.std.proofs.Common.{◌≡◌, ℕ, ◌+◌, ◌*◌, ◌<◌, slice_index_or}
-use Rattle.qr_matrix.specs.{BitRow.has, Bytes.byte_of}
+use Rattle.{qr_matrix.specs.{BitRow.has, Bytes.byte_of}, std.proofs.Common.{◌≡◌, ℕ, ◌+◌, ◌*◌, ◌<◌, slice_index_or}}
 use Rattle.qr_matrix.proofs.bytes.plain_row_of.Given as goal
 
 -- the words before the current one have been read

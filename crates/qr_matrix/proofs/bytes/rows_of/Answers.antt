@@ -1,5 +1,4 @@
-use Rattle.std.proofs.Common.{rules, false}
-use Rattle.qr_matrix.proofs.lemmas.runs.ColumnLemmas.{has-nothing}
+use Rattle.{qr_matrix.proofs.lemmas.runs.ColumnLemmas.has-nothing, std.proofs.Common.{rules, false}}
 use Rattle.qr_matrix.proofs.bytes.rows_of.Goals as goal
 
 pub returns-in-None-clause-dark : goal.returns-in-None-clause-dark

@@ -1,5 +1,5 @@
 use Rattle.std.proofs.{Common.{rules, slice_index_or, arith}, lemmas.{Bool.cases_lt, Nat.Bits.bit_at-zero}}
-use Rattle.qr_matrix.{specs.BitRow.has_bit, proofs.lemmas.bytes.ReadLemmas.{bit-after, bit-before, past-eight, put-bits}}
+use Rattle.qr_matrix.{specs.BitRow.has_bit, proofs.lemmas.bytes.{bit-after, bit-before, past-eight, put-bits}}
 use Rattle.qr_matrix.proofs.bytes.word_of.Goals as goal
 
 pub loop-part-init : goal.loop-part-init

@@ -1,5 +1,4 @@
-use Rattle.std.proofs.Common.{◌≡◌, ℕ, ◌+◌, ◌*◌, ◌<◌, ◌≤◌, ◌⊎◌, length, slice_index_or}
-use Rattle.qr_matrix.specs.{Grid.colour, Bytes.byte_of}
+use Rattle.{qr_matrix.specs.{Bytes.byte_of, Grid.colour}, std.proofs.Common.{◌≡◌, ℕ, ◌+◌, ◌*◌, ◌<◌, ◌≤◌, ◌⊎◌, length, slice_index_or}}
 use Rattle.qr_matrix.proofs.bytes.write_square.Given as goal
 
 -- the rows before the current one have been written

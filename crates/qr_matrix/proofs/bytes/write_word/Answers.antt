@@ -1,7 +1,7 @@
 use Rattle.std.proofs.Common.{rules, ◌≡◌, ◌+◌, ◌-◌, ◌<◌, ◌≤◌, length, slice_index_or, ap, ◌∙◌, inl, inr, arith}
 use Rattle.{std.proofs.lemmas.Bool.cases_lt, qr_matrix.specs.{BitRow.has_bit, Bytes.byte_of}}
 use borrow.Rule.Slice.PartMut.{put_mid}
-use Rattle.qr_matrix.proofs.lemmas.{bit_row.PlaceLemmas.{has_bit-shr, low-bits}, bytes.WriteLemmas.{part-long, part-here, part-others}}
+use Rattle.qr_matrix.proofs.lemmas.{bit_row.PlaceLemmas.{has_bit-shr, low-bits}, bytes.{part-long, part-here, part-others}}
 use Rattle.qr_matrix.proofs.bytes.write_word.Goals as goal
 
 pub loop-next-preserved : goal.loop-next-preserved

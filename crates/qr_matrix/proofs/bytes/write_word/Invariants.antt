@@ -1,5 +1,4 @@
-use Rattle.std.proofs.Common.{◌≡◌, ℕ, ◌+◌, ◌-◌, ◌<◌, ◌≤◌, ◌⊎◌, length, slice_index_or}
-use Rattle.qr_matrix.specs.{BitRow.has_bit, Bytes.byte_of}
+use Rattle.{qr_matrix.specs.{BitRow.has_bit, Bytes.byte_of}, std.proofs.Common.{◌≡◌, ℕ, ◌+◌, ◌-◌, ◌<◌, ◌≤◌, ◌⊎◌, length, slice_index_or}}
 use Rattle.qr_matrix.proofs.bytes.write_word.Given as goal
 
 -- the bits before the current eight have been written

@@ -1,5 +1,4 @@
-use Rattle.std.proofs.Common.{◌≡◌, ◌*◌, ◌≤◌}
-use Rattle.qr_matrix.specs.{Difference.differs, Sums.count_below, Sums.sum_below}
+use Rattle.{qr_matrix.specs.{Difference.differs, Sums.{count_below, sum_below}}, std.proofs.Common.{◌≡◌, ◌*◌, ◌≤◌}}
 use Rattle.qr_matrix.proofs.difference.differences.Given as goal
 
 abbrev pub invariant-loop-row : goal.invariant-loop-row

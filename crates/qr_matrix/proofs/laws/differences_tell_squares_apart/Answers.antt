@@ -1,4 +1,4 @@
-use Rattle.qr_matrix.proofs.lemmas.difference.DifferenceLemmas.{no-difference}
+use Rattle.qr_matrix.proofs.lemmas.difference.{no-difference}
 use Rattle.qr_matrix.proofs.laws.differences_tell_squares_apart.Goals as goal
 
 pub returns : goal.returns

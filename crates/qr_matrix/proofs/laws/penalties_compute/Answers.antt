@@ -2,7 +2,7 @@ use Rattle.std.proofs.{Common.{rules, ◌≡◌, ℕ, zero, suc, ◌<◌, Bool, 
 use Rattle.qr_matrix.specs.Laws.{all_light, chequered, ratio_in_a_column, ratio_in_a_row}
 use Rattle.qr_matrix.specs.Penalty.{dark_cost, is_square_of_two, is_window, over_lines, square_count, window_count}
 use Rattle.qr_matrix.specs.{Runs.begins_five, Runs.begins_long_run, Runs.joins, Runs.place_cost, Sums.places_passing, Sums.sum_below}
-use Rattle.qr_matrix.proofs.lemmas.{difference.DifferenceLemmas.sum-zero, runs.RunLemmas.penalty-by-places}
+use Rattle.qr_matrix.proofs.lemmas.{difference.sum-zero, runs.RunLemmas.penalty-by-places}
 use Rattle.qr_matrix.proofs.laws.penalties_compute.Goals as goal
 
 -- a line that is light but for its first module has no window

@@ -52,10 +52,6 @@ three-down a b c k hk ha hb =
 
 -- ---- the n lowest bits
 
--- a low word of ones and a middle word with m lowest bits set have m + 64 lowest bits set
-pub three-middle : (n m x : ℕ) → m + 64 ≡ n → x ≡ 2 ^ m - 1 → three (2 ^ 64 - 1) x 0 ≡ 2 ^ n - 1
-three-middle n m x e f = search (arith, pow-add, pow_pos)
-
 -- two words of ones and a high word with m lowest bits set have m + 128 lowest bits set
 pub three-high : (n m x : ℕ) → m + 128 ≡ n → x ≡ 2 ^ m - 1 → three (2 ^ 64 - 1) (2 ^ 64 - 1) x ≡ 2 ^ n - 1
 three-high n m x e f = search (arith, pow-add, pow_pos)

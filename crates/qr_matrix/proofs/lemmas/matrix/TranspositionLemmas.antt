@@ -174,10 +174,6 @@ stage s f g h p fits before now r c l m = now r c l m ∙ elim (cases_lt (r % (2
   ]
 ]
 
--- the only part of 64 by 64 bits, transposed as a whole, is the tile f itself
-first-stage : (f : ℕ → ℕ → Bool) → Agree 64 f (mirrored 64 f)
-first-stage f r c l m = search arith
-
 -- if the parts are single bits, then f with its parts transposed is the transposed tile f
 last-stage : (f : ℕ → ℕ → Bool) (r c : ℕ) → mirrored 1 f r c ≡ f c r
 last-stage f r c = search arith
@@ -186,7 +182,7 @@ last-stage f r c = search arith
 pub all-stages : (f a b d e g h : ℕ → ℕ → Bool) → Agree 64 a (exchanged 32 f) → Agree 64 b (exchanged 16 a) → Agree 64 d (exchanged 8 b) → Agree 64 e (exchanged 4 d) → Agree 64 g (exchanged 2 e) → Agree 64 h (exchanged 1 g)
     → (r c : ℕ) → r < 64 → c < 64 → h r c ≡ f c r
 all-stages f a b d e g h ha hb hd he hg hh r c l m =
-    let one = stage 32 f f a (omega arith) (λ x l m. omega arith) (first-stage f) ha in
+    let one = stage 32 f f a (omega arith) (λ x l m. omega arith) (search arith) ha in
     let two = stage 16 f a b (omega arith) (λ x l m. omega arith) one hb in
     let three = stage 8 f b d (omega arith) (λ x l m. omega arith) two hd in
     let four = stage 4 f d e (omega arith) (λ x l m. omega arith) three he in

@@ -1,6 +1,4 @@
 -- Operations on the words of two bit rows at once.
-use Rattle.std.proofs.lemmas.List.{map-set}
-use Rattle.std.proofs.Common.{set}
 use Rattle.qr_matrix.{specs.BitRow.has_bit, proofs.lemmas.runs.ColumnLemmas.has-nothing}
 use Rattle.std.proofs.lemmas.{Nat.{Bits.bit_at-zero, or_lt, xor_lt, le_or_l, le_or_r}, List.get_or_past, Bool.{cases_lt, Decides.nat_tests}}
 use Rattle.std.proofs.Common.{◌≡◌, inl, inr, ℕ, ◌+◌, ◌-◌, ◌*◌, ◌/◌, ◌%◌, ◌^◌, ◌<◌, List, [], ◌∷◌, length, get_or, replicate, Bool, true, false, not, ◌&&◌, ◌||◌, ltb, eqb, bit_and, bit_or, bit_xor, refl, sym, ap, ◌∙◌, arith}
@@ -162,7 +160,3 @@ dark-lanes n rows pairs s e h r c = elim (cases_lt r n) [
 pub one-view : (side : ℕ) (rows : List (List (List ℕ))) (s : Bool) → one_of (record { first = square side (dark_in (lanes rows false)); second = square side (dark_in (lanes rows true)) }) s ≡ square side (dark_in (lanes rows s))
 one-view side rows false = refl
 one-view side rows true = refl
-
--- the rows of one square, of which one is set
-pub lanes-set : (rows : List (List (List ℕ))) (i : ℕ) (pairs : List (List ℕ)) (s : Bool) → lanes (set rows i pairs) s ≡ set (lanes rows s) i (lane pairs s)
-lanes-set rows i pairs s = map-set (λ z. lane z s) rows i pairs

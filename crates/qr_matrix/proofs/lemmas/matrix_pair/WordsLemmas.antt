@@ -1,10 +1,8 @@
 -- The first words of two bit rows, and what is put over them.
+use Rattle.qr_matrix.proofs.lemmas.{bit_row.PlaceLemmas.{has_bit-low, has_bit-middle, has_bit-high}, matrix_pair.PairLemmas.word-small}
+use Rattle.qr_matrix.specs.{BitRow.{has, has_bit, bit_row_number}, Steps.{IsPair, lane, word_of}}
 use Rattle.std.proofs.Common.{◌≡◌, ◌⊎◌, inl, inr, ℕ, ◌-◌, ◌^◌, ◌<◌, ◌≤◌, List, [], ◌∷◌, Bool, false, cond, ltb, eqb, sym, ap, ◌∙◌, arith}
-use Rattle.std.proofs.lemmas.Nat.Bits.{bit_at_above}
-use Rattle.std.proofs.lemmas.Bool.{cases_lt}
-use Rattle.qr_matrix.specs.{Steps.{IsPair, lane, word_of}, BitRow.{has, has_bit, bit_row_number}}
-use Rattle.qr_matrix.proofs.lemmas.bit_row.PlaceLemmas.{has_bit-low, has_bit-middle, has_bit-high}
-use Rattle.qr_matrix.proofs.lemmas.matrix_pair.PairLemmas.{word-small}
+use Rattle.std.proofs.lemmas.{Bool.cases_lt, Nat.Bits.bit_at_above}
 
 module _ (a b d : List ℕ) (s : Bool) (pa : IsPair a) (pb : IsPair b) where
   -- the bits of a row by its words

@@ -3,7 +3,7 @@ use Rattle.std.proofs.Common.{◌≡◌, ℕ, ◌+◌, ◌-◌, ◌<◌, ◌≤�
 use Rattle.std.proofs.lemmas.Bool.{cases_lt, Decides.nat_tests}
 use Rattle.qr_matrix.specs.{Sums.{count_below, sum_below}, Penalty.is_square_of_two, Steps.{begin_five, is_charged, is_near_five, joins_down, row_share, set_count, IsAbove, IsCountedTo}, Runs.{begins_five, place_cost}}
 use Rattle.qr_matrix.proofs.lemmas.bit_row.SumLemmas.{count_below-cut, sum_below-cut, sum_below-more}
-use Rattle.qr_matrix.proofs.lemmas.{rows.AdderLemmas.none-of, runs.{ColumnLemmas.{guarded-size, guarded-three}, RowLemmas.five-past}}
+use Rattle.qr_matrix.proofs.lemmas.{rows.none-of, runs.{ColumnLemmas.{guarded-size, guarded-three}, RowLemmas.five-past}}
 
 module _ (join : ℕ → Bool) (n : ℕ) (a b d e f x : Bool) (h : IsAbove join n a b d e f) (hx : x ≡ join n) where
   positive : ltb 0 (n + 1) ≡ true

@@ -45,15 +45,10 @@ charged-cost s line =
     let d = sum_below-scale 2 s (λ c. cond (begins_long_run s line c) 1 0) in
     search (arith, owed, two_before, and-false, five-past, points-sum s line s)
 
--- no module past the side costs a point
-charged-past : (s : ℕ) (line : ℕ → Bool) (c : ℕ) → s ≤ c → is_charged s line c ≡ false
-unfolding is_charged
-charged-past s line c h = search (arith, five-past, and-false)
-
 -- if j has the joins, and t the places up to two after one where four of them begin, then t has the cost
 pub row_cost : (s : ℕ) (line : ℕ → Bool) (j t : ℕ → Bool) → s ≤ 192 → ((c : ℕ) → j c ≡ joins s line c)
     → ((c : ℕ) → c < 192 → t c ≡ is_near_five j c) → set_count t ≡ place_cost s line
 unfolding is_charged begins_five
 row_cost s line j t l hj ht =
     let five : (c : ℕ) → begin_five j c ≡ begins_five s line c = search arith in
-    size-is s t (is_charged s line) l (λ c k. ht c k ∙ (λ i. (five c i || (ltb 0 c && five (c - 1) i)) || (ltb 1 c && five (c - 2) i))) (charged-past s line) ∙ charged-cost s line
+    size-is s t (is_charged s line) l (λ c k. ht c k ∙ (λ i. (five c i || (ltb 0 c && five (c - 1) i)) || (ltb 1 c && five (c - 2) i))) (search (arith, five-past, and-false)) ∙ charged-cost s line

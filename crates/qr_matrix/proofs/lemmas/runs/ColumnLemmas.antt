@@ -1,10 +1,9 @@
 -- Bit operations on neighbouring rows compute the tests of all columns at once.
+use Rattle.qr_matrix.proofs.lemmas.{bit_row.SumLemmas.{count_below-same, count_below-cut, sum_below-same, sum_below-swap}, runs.ChargeLemmas.charged-cost}
+use Rattle.qr_matrix.specs.{BitRow.{has, has_bit, bit_row_number}, Grid.is_same, Runs.{joins, place_cost}, Steps.{is_charged, row_share, set_count}}
+use Rattle.qr_matrix.specs.Sums.{count_below, sum_below}
 use Rattle.std.proofs.Common.{◌≡◌, ℕ, ◌+◌, ◌<◌, ◌≤◌, [], ◌∷◌, eqb, ltb, Bool, true, false, not, ◌&&◌, ◌||◌, cond, ap, ◌∙◌, arith}
 use Rattle.std.proofs.lemmas.{Bool.Decides.nat_tests, Nat.Bits.bit_at-zero}
-use Rattle.qr_matrix.specs.{BitRow.{has, has_bit, bit_row_number}, Runs.{joins, place_cost}}
-use Rattle.qr_matrix.specs.{Steps.{is_charged, row_share, set_count}, Grid.is_same, Sums.{count_below, sum_below}}
-use Rattle.qr_matrix.proofs.lemmas.bit_row.{SumLemmas.{count_below-same, count_below-cut, sum_below-same, sum_below-swap}, BoolLemmas.and-false}
-use Rattle.qr_matrix.proofs.lemmas.runs.{RowLemmas.joins-past, ChargeLemmas.charged-cost}
 
 -- the bit row of zeros has no bit set
 pub has-nothing : (c : ℕ) → has (0 ∷ 0 ∷ 0 ∷ []) c ≡ false
@@ -15,10 +14,6 @@ has-nothing c = ap (λ z. eqb z 1) (bit_at-zero c)
 pub joins-down-bit : (s : ℕ) (line : ℕ → Bool) (c r : ℕ) (x i d y z : Bool) → r + 1 < s → x ≡ (i && not d) → i ≡ ltb c s → d ≡ not (is_same y z) → y ≡ line r → z ≡ line (r + 1) → x ≡ (ltb c s && joins s line r)
 unfolding joins
 joins-down-bit s line c r x i d y z h e f g k l = search (arith, nat_tests)
-
--- in the last row no place is joined to a place below it
-pub joins-down-none : (s : ℕ) (line : ℕ → Bool) (c r : ℕ) (x : Bool) → s ≤ r + 1 → x ≡ false → x ≡ (ltb c s && joins s line r)
-joins-down-none s line c r x h e = search (arith, and-false, joins-past)
 
 -- a test that column c is below s fails from s on
 past : (s c : ℕ) (b : Bool) → s ≤ c → (ltb c s && b) ≡ false

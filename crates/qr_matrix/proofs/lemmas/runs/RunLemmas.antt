@@ -156,19 +156,11 @@ balance a b j f e = grind (arith, nat_tests)
 open-next : (s : ℕ) (line : ℕ → Bool) (a : ℕ) → open_at s line (a + 1) ≡ cond (joins s line a) (left s line (a + 1) - 3) 0
 open-next s line a = search (arith, nat_tests)
 
--- a run of five or more begins at a module that has four ahead, if the module before it is not joined
-begins_long_run-is : (s : ℕ) (line : ℕ → Bool) (a : ℕ) → begins_long_run s line a ≡ (leb 4 (left s line a) && not (ltb 0 a && joins s line (a - 1)))
-unfolding begins_long_run
-begins_long_run-is s line a = cc (five-is s line a)
-
 -- the cost counted at the first n modules plus the open cost at n is the cost of the runs that begin at them
 places-sum : (s : ℕ) (line : ℕ → Bool) (n : ℕ) → n ≤ s → sum_below n (place_at s line) + open_at s line n ≡ sum_below n (cost_at s line)
+unfolding begins_long_run
 places-sum s line zero h = refl
-places-sum s line (suc n) h = search (arith, balance, left-is, five-is, begins_long_run-is, open-next, heads-is, places-sum s line n (omega arith))
-
--- the open cost past the last module, at s, is 0
-open-end : (s : ℕ) (line : ℕ → Bool) → open_at s line s ≡ 0
-open-end s line = search (arith, and-false, joins-past, nat_tests)
+places-sum s line (suc n) h = search (arith, balance, left-is, five-is, open-next, heads-is, places-sum s line n (omega arith))
 
 -- runs cost 1 for each module at which five of one colour begin, and 2 more for each at which their run does
 pub runs-by-places : (s : ℕ) (line : ℕ → Bool) → run_cost s line ≡ place_cost s line
@@ -177,8 +169,7 @@ runs-by-places s line =
     let a = sum_below-same s (λ a. sum_below (s + 1) (λ k. cond (leb 5 k && is_run s line a k) (k - 2) 0)) (cost_at s line) (λ a h. run_at s line a h) in
     let b = places-sum s line s (omega arith) in
     let d = sum_below-add s (λ a. cond (begins_five s line a) 1 0) (λ a. 2 * cond (begins_long_run s line a) 1 0) in
-    let e = sum_below-scale 2 s (λ a. cond (begins_long_run s line a) 1 0) in
-    omega (arith, open-end s line)
+    let e = sum_below-scale 2 s (λ a. cond (begins_long_run s line a) 1 0) in search (arith, and-false, joins-past, nat_tests)
 
 -- the penalty, with the points for runs counted module by module
 pub penalty-by-places : (s : ℕ) (d : ℕ → ℕ → Bool) → penalty_of s d ≡ over_lines s d (place_cost s) + 3 * square_count s d + 40 * over_lines s d (window_count s) + dark_cost s (places_passing s d)

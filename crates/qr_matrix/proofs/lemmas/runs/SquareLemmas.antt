@@ -1,7 +1,6 @@
 -- Bit operations on two rows compute the test of a square of two by two modules.
-use Rattle.std.proofs.{Common.{◌≡◌, ℕ, ◌+◌, ◌<◌, ◌≤◌, ltb, Bool, false, ◌&&◌, arith}, lemmas.Bool.Decides.nat_tests}
-use Rattle.qr_matrix.specs.{Steps.set_count, Sums.count_below, Penalty.is_square_of_two}
-use Rattle.qr_matrix.{specs.Runs.joins, proofs.lemmas.{runs.RowLemmas.size-is, bit_row.BoolLemmas.and-false}}
+use Rattle.qr_matrix.{proofs.lemmas.{bit_row.BoolLemmas.and-false, runs.RowLemmas.size-is}, specs.{Penalty.is_square_of_two, Runs.joins, Steps.set_count}}
+use Rattle.{qr_matrix.specs.Sums.count_below, std.proofs.{Common.{◌≡◌, ℕ, ◌+◌, ◌<◌, ◌≤◌, ltb, Bool, false, ◌&&◌, arith}, lemmas.Bool.Decides.nat_tests}}
 
 -- a bit that is set where joins in row r, in the next row and in column c begin is set where a square of two begins
 pub square-bit : (s : ℕ) (dark : ℕ → ℕ → Bool) (r c : ℕ) (x y a n d : Bool) → y ≡ (a && n) → x ≡ (y && d) → a ≡ joins s (dark r) c → (r + 1 < s → n ≡ joins s (dark (r + 1)) c) → d ≡ (ltb c s && joins s (λ i. dark i c) r) → x ≡ is_square_of_two s dark r c

@@ -1,7 +1,6 @@
-use Rattle.std.proofs.Common.{rules}
-use Rattle.std.proofs.{Common.{◌≡◌, ℕ, ◌+◌, ◌*◌, ◌/◌, ◌%◌, ◌^◌, ◌<◌, ◌≤◌, ◌∙◌, bit_and, bit_xor, get_or, set, ap, arith}, Math.{ListN.length-set, Nat.{mul-le-mul_left, mul-mod_right}}, lemmas.Bool.cases_lt}
-use Rattle.qr_matrix.specs.{BitRow.has_bit, Steps.bit_in}
-use Rattle.qr_matrix.proofs.lemmas.matrix.TranspositionLemmas.{AreNext, two-other, upper-more, upper-word, lower-more, lower-word}
+use Rattle.qr_matrix.{proofs.lemmas.matrix.TranspositionLemmas.{AreNext, two-other, upper-more, upper-word, lower-more, lower-word}, specs.BitRow.has_bit}
+use Rattle.{qr_matrix.specs.Steps.bit_in, std.proofs.Common.{rules, ◌≡◌, ℕ, ◌+◌, ◌*◌, ◌/◌, ◌%◌, ◌^◌, ◌<◌, ◌≤◌, ◌∙◌, bit_and, bit_xor, get_or, set, ap, arith}}
+use Rattle.std.proofs.{Math.{ListN.length-set, Nat.{mul-le-mul_left, mul-mod_right}}, lemmas.Bool.cases_lt}
 use Rattle.qr_matrix.proofs.matrix.exchange.Goals as goal
 
 pub loop-row-init : goal.loop-row-init

@@ -1,5 +1,4 @@
-use Rattle.std.proofs.Common.{◌≡◌, ℕ, ◌+◌, ◌*◌, ◌<◌, ◌≤◌, length, get_or}
-use Rattle.qr_matrix.specs.Steps.{bit_in, exchanged}
+use Rattle.{qr_matrix.specs.Steps.{bit_in, exchanged}, std.proofs.Common.{◌≡◌, ℕ, ◌+◌, ◌*◌, ◌<◌, ◌≤◌, length, get_or}}
 use Rattle.qr_matrix.proofs.matrix.exchange.Given as goal
 
 abbrev pub invariant-loop-group : goal.invariant-loop-group

@@ -1,6 +1,5 @@
-use Rattle.std.proofs.Common.{rules, ◌≡◌, ℕ, ◌+◌, ◌*◌, Bool, arith, ap, ◌∙◌}
-use Rattle.qr_matrix.specs.{Steps.set_count, Sums.{count_below, places_passing, sum_below}}
-use Rattle.qr_matrix.proofs.lemmas.{rows.AdderLemmas.{never, none-of, set_count-most}, bit_row.SumLemmas.sum_below-more, penalties.PenaltyLemmas.row-count}
+use Rattle.qr_matrix.{proofs.lemmas.{bit_row.SumLemmas.sum_below-more, penalties.row-count, rows.{never, none-of, set_count-most}}, specs.Steps.set_count}
+use Rattle.{qr_matrix.specs.Sums.{count_below, places_passing, sum_below}, std.proofs.Common.{rules, ◌≡◌, ℕ, ◌+◌, ◌*◌, Bool, arith, ap, ◌∙◌}}
 use Rattle.qr_matrix.proofs.penalties.dark_count.Goals as goal
 
 -- nothing is counted yet

@@ -1,5 +1,4 @@
-use Rattle.std.proofs.Common.{◌≡◌, ◌+◌, ◌*◌, ◌≤◌, Bool}
-use Rattle.qr_matrix.specs.{Steps.set_count, Sums.count_below, Sums.sum_below}
+use Rattle.{qr_matrix.specs.{Steps.set_count, Sums.{count_below, sum_below}}, std.proofs.Common.{◌≡◌, ◌+◌, ◌*◌, ◌≤◌, Bool}}
 use Rattle.qr_matrix.proofs.penalties.dark_count.Given as goal
 
 abbrev pub invariant-loop-quarter : goal.invariant-loop-quarter

@@ -1,5 +1,4 @@
-use Rattle.std.proofs.Common.{rules, ◌∙◌, ap, sym, subst, false}
-use Rattle.qr_matrix.specs.{Grid.colour, Penalty.penalty_of, Steps.IsCounted}
+use Rattle.{qr_matrix.specs.{Grid.colour, Penalty.penalty_of, Steps.IsCounted}, std.proofs.Common.{rules, ◌∙◌, ap, sym, subst, false}}
 use Rattle.qr_matrix.proofs.penalties.penalty.Goals as goal
 
 pub points-requires : goal.points-requires

@@ -1,5 +1,4 @@
-use Rattle.qr_matrix.specs.Penalty.{dark_cost, penalty_of}
-use Rattle.std.proofs.Common.{rules}
+use Rattle.{qr_matrix.specs.Penalty.{dark_cost, penalty_of}, std.proofs.Common.rules}
 use Rattle.qr_matrix.proofs.penalties.points.Goals as goal
 
 pub returns : goal.returns

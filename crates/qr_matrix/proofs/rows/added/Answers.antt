@@ -1,4 +1,4 @@
-use Rattle.qr_matrix.proofs.lemmas.rows.AdderLemmas.{sum-digits}
+use Rattle.qr_matrix.proofs.lemmas.rows.{sum-digits}
 use Rattle.qr_matrix.proofs.rows.added.Goals as goal
 
 pub returns : goal.returns

@@ -1,5 +1,4 @@
-use Rattle.std.proofs.{Common.{rules, ◌≡◌, ℕ, ◌+◌, ◌-◌, ◌<◌, Bool, ltb, ◌&&◌, ◌||◌, arith}, lemmas.Bool.Decides.nat_tests}
-use Rattle.qr_matrix.specs.Steps.{begin_five}
+use Rattle.{qr_matrix.specs.Steps.begin_five, std.proofs.{Common.{rules, ◌≡◌, ℕ, ◌+◌, ◌-◌, ◌<◌, Bool, ltb, ◌&&◌, ◌||◌, arith}, lemmas.Bool.Decides.nat_tests}}
 use Rattle.qr_matrix.proofs.runs.costing.Goals as goal
 
 -- what two shifts to the right make of the columns f at which five joined modules begin

@@ -1,5 +1,4 @@
-use Rattle.std.proofs.Common.{◌+◌, not, ap, ◌∙◌, arith}
-use Rattle.qr_matrix.{specs.Grid.is_same, proofs.lemmas.runs.RowLemmas.joins-bit}
+use Rattle.{qr_matrix.{proofs.lemmas.runs.RowLemmas.joins-bit, specs.Grid.is_same}, std.proofs.Common.{◌+◌, not, ap, ◌∙◌, arith}}
 use Rattle.qr_matrix.proofs.runs.joined.Goals as goal
 
 pub returns : goal.returns

@@ -1,5 +1,4 @@
-use Rattle.std.proofs.Common.{ap, ◌||◌, ◌∙◌}
-use Rattle.qr_matrix.proofs.lemmas.runs.AboveLemmas.{above-next, five-next, near-next}
+use Rattle.{qr_matrix.proofs.lemmas.runs.AboveLemmas.{above-next, five-next, near-next}, std.proofs.Common.{ap, ◌||◌, ◌∙◌}}
 use Rattle.qr_matrix.proofs.runs.next_row.Goals as goal
 
 pub returns-clause-upright : goal.returns-clause-upright

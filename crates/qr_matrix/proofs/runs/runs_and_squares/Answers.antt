@@ -1,9 +1,10 @@
+use Rattle.qr_matrix.proofs.lemmas.{bit_row.{BoolLemmas.and-false, SumLemmas.sum_below-same}, rows.{never, set_count-most}}
+use Rattle.qr_matrix.proofs.lemmas.runs.{AboveLemmas.{counted-next, share-left, share-next}, ChargeLemmas.row_cost}
+use Rattle.qr_matrix.proofs.lemmas.runs.{ColumnLemmas.{joins-down-bit, shares-are-columns}, RowLemmas.{joins-past, side-most}, RunLemmas.runs-by-places}
+use Rattle.qr_matrix.proofs.{lemmas.runs.SquareLemmas.{square-bit, squares-row}, runs.runs_and_squares.Goals.{then-row-from, else-row-from}}
+use Rattle.qr_matrix.specs.{Penalty.{is_square_of_two, over_lines, run_cost, square_count}, Runs.{joins, place_cost}}
+use Rattle.qr_matrix.specs.{Steps.{begin_five, joins_down, row_share, set_count}, Sums.{count_below, places_passing, sum_below}}
 use Rattle.std.proofs.Common.{rules, ◌≡◌, ◌<◌, ℕ, ◌+◌, ◌-◌, ◌*◌, Bool, ltb, ◌&&◌, arith, ap, sym, ◌∙◌}
-use Rattle.qr_matrix.specs.{Runs.{joins, place_cost}, Steps.{begin_five, joins_down, row_share, set_count}, Sums.{count_below, places_passing, sum_below}}
-use Rattle.qr_matrix.{specs.Penalty.{is_square_of_two, over_lines, run_cost, square_count}, proofs.runs.runs_and_squares.Goals.{then-row-from, else-row-from}}
-use Rattle.qr_matrix.proofs.lemmas.{rows.AdderLemmas.{never, set_count-most}, bit_row.SumLemmas.sum_below-same, runs.SquareLemmas.{square-bit, squares-row}}
-use Rattle.qr_matrix.proofs.lemmas.runs.{AboveLemmas.{counted-next, share-left, share-next}, ChargeLemmas.row_cost, RowLemmas.side-most, RunLemmas.runs-by-places}
-use Rattle.qr_matrix.proofs.lemmas.runs.ColumnLemmas.{joins-down-bit, joins-down-none, shares-are-columns}
 use Rattle.qr_matrix.proofs.runs.runs_and_squares.Goals as goal
 
 -- what a full adder keeps: `a` and `u` are added to `o` ones and `t` twos
@@ -25,7 +26,7 @@ loop-row-preserved g c =
     let both = c.if-row-from.down in
     let down : (b : Bool) (k : ℕ) → bit both.0 b k ≡ joins_down s (d b) k r = λ b k. elim c.if-row-from.branch [
       | then-row-from w ↦ ap (λ z. bit z.0 b k) w.down-is ∙ joins-down-bit s (λ i. d b i k) k r _ _ _ _ _ (omega (arith, c.side-side.ensures.value, w.if-row-from.true)) (w.and_not.ensures b k) (c.below_in-columns.ensures b k ∙ ap (λ z. ltb k z) c.side-side.ensures.value) (g.met.S.Row.Rows.bitxor_law _ _ _ w.bitxor.ensures b k) (w.row_in.ensures.colours b k) (w.row_in-then-row-from.ensures.colours b k)
-      | else-row-from w ↦ search (rules, joins-down-none, never)
+      | else-row-from w ↦ search (rules, never, and-false, joins-past)
     ] in
     let below : (b : Bool) (k : ℕ) → r + 1 < s → bit both.1 b k ≡ joins s (d b (r + 1)) k = search rules in
     let across = λ (b : Bool). set_count (bit c.costing.result b) in

@@ -1,5 +1,4 @@
-use Rattle.std.proofs.Common.{◌+◌, ◌*◌, ℕ, Bool}
-use Rattle.qr_matrix.specs.Steps.{joins_down, set_count, IsAbove, IsCountedTo}
+use Rattle.{qr_matrix.specs.Steps.{joins_down, set_count, IsAbove, IsCountedTo}, std.proofs.Common.{◌+◌, ◌*◌, ℕ, Bool}}
 use Rattle.qr_matrix.proofs.runs.runs_and_squares.Given as goal
 
 abbrev pub invariant-loop-row : goal.invariant-loop-row

@@ -1,7 +1,6 @@
-use Rattle.std.proofs.Common.{rules, ◌≡◌, ℕ, ◌+◌, ◌*◌, Bool, arith, refl, subst}
-use Rattle.qr_matrix.specs.{Runs.joins, Steps.{joins_down, set_count, IsAbove, IsCountedTo}}
-use Rattle.qr_matrix.proofs.lemmas.{rows.AdderLemmas.{never, none-of, set_count-most}, runs.SquareLemmas.{square-bit, squares-row}}
-use Rattle.qr_matrix.proofs.lemmas.runs.{ColumnLemmas.joins-down-bit, AboveLemmas.{counted-next, share-next}, ChargeLemmas.row_cost, RowLemmas.side-most}
+use Rattle.qr_matrix.proofs.lemmas.{rows.{never, none-of, set_count-most}, runs.{AboveLemmas.{counted-next, share-next}, ChargeLemmas.row_cost}}
+use Rattle.qr_matrix.{proofs.lemmas.runs.{ColumnLemmas.joins-down-bit, RowLemmas.side-most, SquareLemmas.{square-bit, squares-row}}, specs.Runs.joins}
+use Rattle.{qr_matrix.specs.Steps.{joins_down, set_count, IsAbove, IsCountedTo}, std.proofs.Common.{rules, ◌≡◌, ℕ, ◌+◌, ◌*◌, Bool, arith, refl, subst}}
 use Rattle.qr_matrix.proofs.runs.upper_rows.Goals as goal
 
 -- nothing is counted yet

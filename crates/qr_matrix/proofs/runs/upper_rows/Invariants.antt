@@ -1,5 +1,4 @@
-use Rattle.std.proofs.Common.{◌≡◌, ◌+◌, ◌*◌, ℕ, Bool}
-use Rattle.qr_matrix.specs.{Runs.joins, Steps.{joins_down, set_count, IsAbove, IsCountedTo}}
+use Rattle.{qr_matrix.specs.{Runs.joins, Steps.{joins_down, set_count, IsAbove, IsCountedTo}}, std.proofs.Common.{◌≡◌, ◌+◌, ◌*◌, ℕ, Bool}}
 use Rattle.qr_matrix.proofs.runs.upper_rows.Given as goal
 
 abbrev pub invariant-loop-step : goal.invariant-loop-step

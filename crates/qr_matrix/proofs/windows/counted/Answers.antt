@@ -1,5 +1,4 @@
-use Rattle.std.proofs.Common.{arith}
-use Rattle.qr_matrix.proofs.lemmas.rows.AdderLemmas.{none-of}
+use Rattle.{qr_matrix.proofs.lemmas.rows.none-of, std.proofs.Common.arith}
 use Rattle.qr_matrix.proofs.windows.counted.Goals as goal
 
 pub returns-then-is_empty : goal.returns-then-is_empty

@@ -1,5 +1,4 @@
-use Rattle.std.proofs.Common.{rules}
-use Rattle.qr_matrix.proofs.lemmas.windows.ReadingLemmas.{dark-read}
+use Rattle.{qr_matrix.proofs.lemmas.windows.dark-read, std.proofs.Common.rules}
 use Rattle.qr_matrix.proofs.windows.dark_of_four.Goals as goal
 
 pub returns : goal.returns

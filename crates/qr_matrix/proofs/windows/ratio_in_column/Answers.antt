@@ -1,5 +1,4 @@
-use Rattle.std.proofs.Common.{ltb, sym, ◌∙◌}
-use Rattle.qr_matrix.proofs.lemmas.{runs.ColumnLemmas.guarded, windows.ReadingLemmas.ratio-read}
+use Rattle.{qr_matrix.proofs.lemmas.{runs.ColumnLemmas.guarded, windows.ratio-read}, std.proofs.Common.{ltb, sym, ◌∙◌}}
 use Rattle.qr_matrix.proofs.windows.ratio_in_column.Goals as goal
 
 pub returns : goal.returns

@@ -1,6 +1,6 @@
 use Rattle.std.proofs.Common.{ltb, ◌≡◌, ◌*◌, ◌+◌, ℕ, arith, ap, ◌∙◌}
 use Rattle.qr_matrix.specs.{Sums.{count_below, sum_below}, Penalty.{over_lines, window_count}, Steps.is_found}
-use Rattle.qr_matrix.proofs.lemmas.{rows.AdderLemmas.{never, none-of}, runs.RowLemmas.side-most, windows.WindowLemmas.{found-are-columns, found-none, windows-next}}
+use Rattle.qr_matrix.proofs.lemmas.{rows.{never, none-of}, runs.RowLemmas.side-most, windows.{found-are-columns, found-none, windows-next}}
 use Rattle.qr_matrix.proofs.windows.window_count.Goals as goal
 
 -- nothing is counted yet

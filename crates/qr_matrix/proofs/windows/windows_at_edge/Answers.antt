@@ -1,5 +1,5 @@
 use Rattle.std.proofs.{lemmas.Bool.Decides.nat_tests, Common.{rules, ℕ, ltb, arith}}
-use Rattle.qr_matrix.{specs.Steps.is_found, proofs.lemmas.{rows.AdderLemmas.never, windows.WindowLemmas.{after-bit, before-bit, found-none}}}
+use Rattle.qr_matrix.{specs.Steps.is_found, proofs.lemmas.{rows.never, windows.{after-bit, before-bit, found-none}}}
 use Rattle.qr_matrix.proofs.windows.windows_at_edge.Goals as goal
 
 pub returns-then-row-from : goal.returns-then-row-from

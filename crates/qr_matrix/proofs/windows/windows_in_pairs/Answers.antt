@@ -1,6 +1,5 @@
-use Rattle.std.proofs.Common.{◌≡◌, ◌*◌, ◌+◌, ◌&&◌, ℕ, Bool, ltb, arith, refl, subst, ◌∙◌}
-use Rattle.qr_matrix.specs.{Penalty.{finder_ratio, reads}, Steps.{set_count, AreWindowsTo}}
-use Rattle.qr_matrix.proofs.lemmas.{rows.AdderLemmas.{never, none-of}, runs.RowLemmas.side-most, windows.WindowLemmas.windows-next}
+use Rattle.qr_matrix.{proofs.lemmas.{rows.{never, none-of}, runs.RowLemmas.side-most, windows.windows-next}, specs.Penalty.{finder_ratio, reads}}
+use Rattle.{qr_matrix.specs.Steps.{set_count, AreWindowsTo}, std.proofs.Common.{◌≡◌, ◌*◌, ◌+◌, ◌&&◌, ℕ, Bool, ltb, arith, refl, subst, ◌∙◌}}
 use Rattle.qr_matrix.proofs.windows.windows_in_pairs.Goals as goal
 
 none_more : (n : ℕ) → n ≡ n + 2 * 0

@@ -1,5 +1,4 @@
-use Rattle.std.proofs.Common.{◌≡◌, ◌+◌, ◌*◌, ◌≤◌, ◌&&◌, ltb, ℕ, Bool}
-use Rattle.qr_matrix.specs.{Steps.{set_count, AreWindowsTo}, Penalty.{finder_ratio, reads}}
+use Rattle.{qr_matrix.specs.{Penalty.{finder_ratio, reads}, Steps.{set_count, AreWindowsTo}}, std.proofs.Common.{◌≡◌, ◌+◌, ◌*◌, ◌≤◌, ◌&&◌, ltb, ℕ, Bool}}
 use Rattle.qr_matrix.proofs.windows.windows_in_pairs.Given as goal
 
 abbrev pub invariant-loop-step : goal.invariant-loop-step

@@ -1,6 +1,5 @@
 use Rattle.qr_layout.{proofs.Facts.Inside, specs.{Order.{IsOrder, in_region_of}, Strips.places_of, Version.side_of}}
-use Rattle.qr_symbol.specs.Steps.{Collecting.colour_across, Words.HasCollected}
-use Rattle.std.{proofs.Common.{◌++◌, map}, specs.List.All}
+use Rattle.{qr_symbol.specs.Steps.{Collecting.colour_across, Words.HasCollected}, std.{proofs.Common.{◌++◌, map}, specs.List.All}}
 use Rattle.qr_symbol.proofs.collecting.collect_codewords.Given as goal
 
 abbrev pub invariant-loop-strip : goal.invariant-loop-strip

@@ -1,5 +1,5 @@
 use Rattle.{std.proofs.Common.{◌≡◌, ◌+◌, ◌≤◌, refl, arith}, qr_layout.specs.Version.side_of}
-use Rattle.qr_symbol.proofs.lemmas.collecting.CollectingLemmas.{left-read, outside-read, right-read, rows-read}
+use Rattle.qr_symbol.proofs.lemmas.collecting.{left-read, outside-read, right-read, rows-read}
 use Rattle.qr_symbol.proofs.collecting.collect_columns.Goals as goal
 
 pub loop-span-preserved-in-Both : goal.loop-span-preserved-in-Both

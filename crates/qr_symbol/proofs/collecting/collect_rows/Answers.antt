@@ -1,5 +1,4 @@
-use Rattle.std.proofs.Common.{rules, ℕ, ◌<◌}
-use Rattle.qr_symbol.{proofs.lemmas.{collecting.CollectingLemmas.run-bits, placement.ColumnLemmas.run-row}, specs.Steps.Words.rank_in}
+use Rattle.{qr_symbol.{proofs.lemmas.{collecting.run-bits, placement.ColumnLemmas.run-row}, specs.Steps.Words.rank_in}, std.proofs.Common.{rules, ℕ, ◌<◌}}
 use Rattle.qr_symbol.proofs.collecting.collect_rows.Goals as goal
 
 pub returns : goal.returns

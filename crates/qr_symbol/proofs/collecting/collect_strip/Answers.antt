@@ -1,8 +1,6 @@
-use Rattle.qr_layout.specs.{Version.side_of, Order.in_region_of, Strips.{both_of, rows_from}}
-use Rattle.qr_symbol.proofs.lemmas.{collecting.CollectingLemmas.strip-bits, placement.AcrossLemmas.region-across}
-use Rattle.qr_symbol.proofs.collecting.collect_strip.Goals.{After-columns_of-within}
-use Rattle.qr_symbol.specs.Steps.{Collecting.{bits_in_rows, colour_across}, Words.{Appends, Bits}}
-use Rattle.std.proofs.Common.{◌≡◌, ◌∙◌, Bool, map, sym, subst, arith}
+use Rattle.qr_layout.specs.{Order.in_region_of, Strips.{both_of, rows_from}, Version.side_of}
+use Rattle.qr_symbol.proofs.{collecting.collect_strip.Goals.After-columns_of-within, lemmas.{collecting.strip-bits, placement.AcrossLemmas.region-across}}
+use Rattle.{qr_symbol.specs.Steps.{Collecting.{bits_in_rows, colour_across}, Words.{Appends, Bits}}, std.proofs.Common.{◌≡◌, ◌∙◌, Bool, map, sym, subst, arith}}
 use Rattle.qr_symbol.proofs.collecting.collect_strip.Goals as goal
 
 -- the bits of the columns, read in the direction of the strip, are those of the strip

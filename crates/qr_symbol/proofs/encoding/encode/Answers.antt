@@ -1,4 +1,4 @@
-use Rattle.qr_symbol.proofs.lemmas.encoding.SymbolMakingLemmas.{refused-again, refused-only, symbol-back, symbol-found, version-fits}
+use Rattle.qr_symbol.proofs.lemmas.encoding.{refused-again, refused-only, symbol-back, symbol-found, version-fits}
 use Rattle.std.proofs.{Common.arith, lemmas.Result.{err_from_is_err_and, IfOk-weaker, MatchResult-weaker}}
 use Rattle.qr_symbol.proofs.encoding.encode.Goals as goal
 

@@ -1,7 +1,6 @@
 use Rattle.qr_bits.proofs.Facts.{least-most, least_fits}
-use Rattle.qr_symbol.proofs.lemmas.version_choice.FitLemmas.{version-short}
-use Rattle.qr_symbol.proofs.lemmas.encoding.SymbolMakingLemmas.{boosted-found, highest-fits, refused-again, refused-only, symbol-back, version-fits}
-use Rattle.std.proofs.{Common.{rules, arith}, lemmas.Result.{err_from_is_err_and, MatchResult-weaker}}
+use Rattle.qr_symbol.proofs.lemmas.encoding.{boosted-found, highest-fits, refused-again, refused-only, symbol-back, version-fits}
+use Rattle.{qr_symbol.proofs.lemmas.version_choice.version-short, std.proofs.{Common.{rules, arith}, lemmas.Result.{err_from_is_err_and, MatchResult-weaker}}}
 use Rattle.qr_symbol.proofs.encoding.encode_boosted.Goals as goal
 
 pub returns-in_err-fit : goal.returns-in_err-fit

@@ -1,5 +1,4 @@
-use Rattle.std.proofs.Common.{rules}
-use Rattle.qr_bits.proofs.Facts.{length-data}
+use Rattle.{qr_bits.proofs.Facts.length-data, std.proofs.Common.rules}
 use Rattle.qr_symbol.proofs.encoding.final_codewords.Goals as goal
 
 pub interleave-requires : goal.interleave-requires

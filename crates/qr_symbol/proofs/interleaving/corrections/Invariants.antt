@@ -1,5 +1,4 @@
-use Rattle.std.specs.Prelude.{◌*◌}
-use Rattle.qr_symbol.specs.Interleaving.{IsChecks}
+use Rattle.{qr_symbol.specs.Interleaving.IsChecks, std.specs.Prelude.◌*◌}
 use Rattle.qr_symbol.proofs.interleaving.corrections.Given as goal
 
 abbrev pub invariant-loop-pair : goal.invariant-loop-pair

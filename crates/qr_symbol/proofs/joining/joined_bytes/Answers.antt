@@ -1,5 +1,4 @@
-use Rattle.std.proofs.{Common.{rules}, lemmas.{List.take_all, Result.IfOk-from_err}}
-use Rattle.qr_symbol.proofs.lemmas.joining.JoiningLemmas.{bytes-more}
+use Rattle.{qr_symbol.proofs.lemmas.joining.bytes-more, std.proofs.{Common.rules, lemmas.{List.take_all, Result.IfOk-from_err}}}
 use Rattle.qr_symbol.proofs.joining.joined_bytes.Goals as goal
 
 pub loop-content-preserved : goal.loop-content-preserved

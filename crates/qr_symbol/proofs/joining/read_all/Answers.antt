@@ -1,5 +1,5 @@
 use Rattle.std.proofs.{lemmas.{Grind.common_steps, List.take_all, Result.err_from_is_err_and}, Common.{rules, arith}}
-use Rattle.qr_symbol.proofs.lemmas.joining.JoiningLemmas.{readings-none, readings-more, unjoined-at}
+use Rattle.qr_symbol.proofs.lemmas.joining.{readings-none, readings-more, unjoined-at}
 use Rattle.qr_symbol.proofs.joining.read_all.Goals as goal
 
 pub loop-symbol-init : goal.loop-symbol-init

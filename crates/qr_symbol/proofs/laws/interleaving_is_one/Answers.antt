@@ -1,6 +1,5 @@
-use Rattle.std.proofs.Common.{rules}
-use Rattle.{std.proofs.Common.{◌∙◌, sym, arith}, qr_layout.specs.Blocks.blocks_of}
-use Rattle.qr_symbol.proofs.lemmas.interleaving.MessageLemmas.{final-one, final-whole, data-one, data-sizes-whole}
+use Rattle.{qr_layout.specs.Blocks.blocks_of, qr_symbol.proofs.lemmas.interleaving.MessageLemmas.{final-one, final-whole, data-one, data-sizes-whole}}
+use Rattle.std.proofs.Common.{rules, ◌∙◌, sym, arith}
 use Rattle.qr_symbol.proofs.laws.interleaving_is_one.Goals as goal
 
 pub returns : goal.returns

@@ -1,4 +1,4 @@
-use Rattle.qr_symbol.proofs.lemmas.{joining.JoiningLemmas.{joined-refused, unjoined-one}, reading.RefusalLemmas.{exactly, read-refused, refused-one}}
+use Rattle.qr_symbol.proofs.lemmas.{joining.{joined-refused, unjoined-one}, reading.RefusalLemmas.{exactly, read-refused, refused-one}}
 use Rattle.qr_symbol.{proofs.lemmas.reading.RoundTripLemmas.reading-one, specs.{Joining.IsJoined, Reading.{IsReading, IsUnread}, Series.squares_of}}
 use Rattle.qr_symbol.proofs.laws.joinings_are_refused_exactly.Goals as goal
 

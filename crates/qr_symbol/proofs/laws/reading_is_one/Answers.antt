@@ -1,5 +1,4 @@
-use Rattle.std.proofs.Common.{rules}
-use Rattle.qr_symbol.proofs.lemmas.reading.ReadLemmas.{read-some, read-one, message-one}
+use Rattle.{qr_symbol.proofs.lemmas.reading.ReadLemmas.{read-some, read-one, message-one}, std.proofs.Common.rules}
 use Rattle.qr_symbol.proofs.laws.reading_is_one.Goals as goal
 
 pub returns : goal.returns

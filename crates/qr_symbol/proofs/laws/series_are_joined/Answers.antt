@@ -1,5 +1,4 @@
-use Rattle.std.proofs.Common.{rules}
-use Rattle.qr_symbol.proofs.lemmas.series.SeriesLemmas.{series-joined}
+use Rattle.{qr_symbol.proofs.lemmas.series.SeriesLemmas.series-joined, std.proofs.Common.rules}
 use Rattle.qr_symbol.proofs.laws.series_are_joined.Goals as goal
 
 pub returns : goal.returns

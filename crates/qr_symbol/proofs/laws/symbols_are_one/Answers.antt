@@ -1,4 +1,4 @@
-use Rattle.qr_symbol.proofs.lemmas.encoding.SymbolMakingLemmas.{symbol-one}
+use Rattle.qr_symbol.proofs.lemmas.encoding.{symbol-one}
 use Rattle.qr_symbol.proofs.laws.symbols_are_one.Goals as goal
 
 pub returns : goal.returns

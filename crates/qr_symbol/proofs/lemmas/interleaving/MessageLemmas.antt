@@ -1,13 +1,12 @@
 -- The final sequence of a version and a level: how long it is, and that each message has only one.
-use Rattle.qr_field.{proofs.Facts.correction-one, specs.Polynomial.IsCorrection}
-use Rattle.qr_layout.{proofs.Facts.{Mem-of-Contains, blocks-sound}, specs.Blocks.{data_codewords_of, blocks_of}}
-use Rattle.qr_layout.specs.{Version.total_codewords_of, declared.{blocks.Blocks.Blocks, level.Level.Level}}
-use Rattle.qr_symbol.proofs.lemmas.interleaving.{OrderLemmas.positions-many, RankLemmas.{positions-one, position-of, map-at}}
-use Rattle.qr_symbol.proofs.lemmas.interleaving.{CheckLemmas.both-interleaved, PositionLemmas.part-at}
-use Rattle.qr_symbol.specs.{Interleaving.IsChecks, declared.interleaving.BlockSizes.BlockSizes}
-use Rattle.qr_symbol.specs.Interleaving.{block_count, codeword_count, codeword_at, data_sizes, correction_sizes, block_of, check_at, part_of, IsFinalMessage, IsGathered}
+use Rattle.{qr_field.{proofs.Facts.correction-one, specs.Polynomial.IsCorrection}, qr_layout.proofs.Facts.{Mem-of-Contains, blocks-sound}}
+use Rattle.qr_layout.specs.{Blocks.{data_codewords_of, blocks_of}, Version.total_codewords_of, declared.{blocks.Blocks.Blocks, level.Level.Level}}
+use Rattle.qr_symbol.proofs.lemmas.interleaving.{CheckLemmas.both-interleaved, OrderLemmas.positions-many, PositionLemmas.part-at}
+use Rattle.qr_symbol.proofs.lemmas.interleaving.RankLemmas.{positions-one, position-of, map-at}
+use Rattle.qr_symbol.specs.Interleaving.{IsChecks, block_count, codeword_count, codeword_at, data_sizes, correction_sizes, block_of, check_at, part_of, IsFinalMessage, IsGathered}
 use Rattle.std.proofs.Common.{◌≡◌, ℕ, ◌+◌, ◌<◌, ◌≤◌, List, [], ◌∷◌, ◌++◌, map, length, length-append, get_or, refl, sym, ◌∙◌, ap, subst, arith, drop, take}
-use Rattle.std.proofs.{Math.Seq.{take-append_seam, drop-append_seam}, lemmas.List.{length-map, length-drop, length-take-le, ext_get_or, take-append-drop, take-take, take_all}}
+use Rattle.std.proofs.Math.Seq.{take-append_seam, drop-append_seam}
+use Rattle.std.proofs.lemmas.List.{length-map, length-drop, length-take-le, ext_get_or, take-append-drop, take-take, take_all}
 
 -- ---- one final sequence
 
@@ -104,17 +103,13 @@ checks-read b interleaved d xs es n e h g k =
 
 -- ---- a sequence that is read
 
--- the first codewords of a sequence are gathered as they are in the sequence
-gathered-front : (c : BlockSizes) (interleaved xs : List ℕ) (n : ℕ) → n ≡ codeword_count c → IsGathered c interleaved xs → IsGathered c (take n interleaved) xs
-gathered-front c interleaved xs n e g = search (arith, take-take)
-
 -- a sequence is the final sequence of its gathered message, if its error correction codewords are those of the message
 pub message-read : (b : Blocks) (interleaved d es : List ℕ) (n : ℕ) → n ≡ codeword_count (data_sizes b)
     → length interleaved ≡ codeword_count (data_sizes b) + codeword_count (correction_sizes b) → IsGathered (data_sizes b) interleaved d
     → IsGathered (correction_sizes b) (drop n interleaved) es → IsChecks b d (block_count (data_sizes b)) es → IsFinalMessage b d interleaved
 message-read b interleaved d es n e l g h k =
     subst (IsFinalMessage b d) (take-append-drop n interleaved)
-    (both-interleaved b d es (take n interleaved) (drop n interleaved) k.each (omega (arith, length-take-le n interleaved)) (omega (arith, length-drop n interleaved)) (gathered-front _ _ _ n e g) h)
+    (both-interleaved b d es (take n interleaved) (drop n interleaved) k.each (omega (arith, length-take-le n interleaved)) (omega (arith, length-drop n interleaved)) (search (arith, take-take)) h)
 
 -- otherwise it is the final sequence of no message
 pub none-fits : (b : Blocks) (interleaved xs es computed d : List ℕ) (n : ℕ) → n ≡ codeword_count (data_sizes b)

@@ -1,11 +1,12 @@
 -- The order of the positions, by their ranks, and what it makes of codewords that were put at their ranks.
+use Rattle.std.proofs.Math.Nat.{mul-suc, mul_comm}
 use Rattle.std.proofs.lemmas.Bool.Decides.{nat_tests}
 use Rattle.std.proofs.Common.{◌≡◌, ℕ, zero, suc, ◌+◌, ◌-◌, ◌<◌, ◌≤◌, List, [], ◌∷◌, ◌++◌, map, take, length, length-append, get_or, set, replicate, refl, sym, ◌∙◌, ap, subst, inl, inr, ◌⊎◌, arith}
 use Rattle.qr_symbol.{specs.declared.interleaving.BlockSizes.BlockSizes, proofs.lemmas.interleaving.CheckLemmas.map-each}
 use Rattle.std.proofs.lemmas.{Bool.cases_lt, List.{get_or_append_left, get_or-append_right, get_or-set_other, get_or-set_same, length-map, length-replicate, length-take, map-append, take_more}}
 use Rattle.qr_symbol.specs.Interleaving.{IsPositionOrder, Position, block_count, block_len, start_of, codeword_count, IsPosition, codeword_at, IsGathered}
-use Rattle.qr_symbol.proofs.lemmas.interleaving.PositionLemmas.{position, PositionsBefore, positions-start, positions-push, positions-pass, positions-row, positions-end, position-in}
-use Rattle.qr_symbol.proofs.lemmas.interleaving.RankLemmas.{position-one, position-of, positions-one, rank_of, rank-in, rank-one, rank-pass, rank-push, rank-row, rank-start}
+use Rattle.qr_symbol.proofs.lemmas.interleaving.PositionLemmas.{position, PositionsBefore, positions-push, positions-pass, positions-row, positions-end, position-in}
+use Rattle.qr_symbol.proofs.lemmas.interleaving.RankLemmas.{position-one, position-of, positions-one, rank_of, rank-in, rank-one, rank-push}
 
 -- the item of an interleaved list for a position
 abbrev pub item_at : BlockSizes → List ℕ → Position → ℕ
@@ -33,7 +34,7 @@ ordered-next c interleaved p b n l m h = elim (cases_lt p (block_len c b)) [
       let none : IsPosition c (position p b) → ⊥ = λ t. absurd (let j = t.1 in omega arith) in record {
         positions = h.positions;
         order = positions-pass c p b _ none h.order;
-        same = cc (rank-pass c p b l m none);
+        same = search (arith, nat_tests);
       }
 ]
 
@@ -45,11 +46,11 @@ ordered-across c interleaved p (suc b) n l m h = let e : b + 1 ≡ suc b = omega
 
 -- all indices
 ordered-down : (c : BlockSizes) (interleaved : List ℕ) (p : ℕ) → codeword_count c ≤ length interleaved → p ≤ c.short_len + 1 → OrderedBefore c interleaved p 0
-ordered-down c interleaved zero n l = search (arith, positions-start, rank-start)
+ordered-down c interleaved zero n l = search (arith, nat_tests)
 ordered-down c interleaved (suc p) n l =
     let h = ordered-across c _ p (block_count c) n (omega arith) (omega arith) (ordered-down c interleaved p n (omega arith)) in
     let e : p + 1 ≡ suc p = omega arith in
-    subst (λ (k : ℕ). OrderedBefore c interleaved k 0) e (record { positions = h.positions; order = positions-row c p _ h.order; same = cc (rank-row c p (omega arith)) })
+    subst (λ (k : ℕ). OrderedBefore c interleaved k 0) e (record { positions = h.positions; order = positions-row c p _ h.order; same = search (arith, mul-suc, mul_comm, nat_tests) })
 
 -- ---- codewords at their ranks
 

@@ -47,10 +47,6 @@ Rises-push R (x ∷ xs) y h f = (All-push-rec _ xs y h.0 (f x (inl refl)), Rises
 
 -- ---- the steps
 
--- no position comes before the first
-pub positions-start : (c : BlockSizes) → PositionsBefore c 0 0 []
-positions-start c = search arith
-
 -- a position that comes before a position also comes before the next position
 before-more : (t : Position) (p b : ℕ) → ComesBefore t (position p b) → ComesBefore t (position p (b + 1))
 before-more t p b (inl l) = inl l

@@ -3,7 +3,7 @@ use Rattle.qr_layout.proofs.Facts.{All-rec, Mem, Mem-at, Mem-of-Contains, Rises-
 use Rattle.qr_symbol.{proofs.lemmas.interleaving.PositionLemmas.{position, start-next, start-most}, specs.declared.interleaving.BlockSizes.BlockSizes}
 use Rattle.qr_symbol.specs.Interleaving.{Position, ComesBefore, block_count, start_of, codeword_count, IsPosition, IsPositionOrder}
 use Rattle.std.proofs.Common.{◌≡◌, ℕ, zero, suc, ◌+◌, ◌-◌, ◌*◌, ◌<◌, ◌≤◌, cond, eqb, ltb, List, [], ◌∷◌, map, sym, ◌∙◌, ap, inl, inr, ◌⊎◌, arith}
-use Rattle.std.proofs.{Math.Nat.{mul-suc, mul-le-mul_left, mul_comm}, lemmas.Bool.{cases_lt, Decides.nat_tests}}
+use Rattle.std.proofs.{Math.Nat.{mul-le-mul_left, mul_comm}, lemmas.Bool.{cases_lt, Decides.nat_tests}}
 
 -- two positions of codewords at the same index of the message are equal
 pub position-one : (c : BlockSizes) (t u : Position) → IsPosition c t → IsPosition c u → start_of c t.block + t.index ≡ start_of c u.block + u.index → (t.index ≡ u.index) × (t.block ≡ u.block)
@@ -51,27 +51,9 @@ rank-below c t u i (inl l) (inr m) k = let z : block_count c * (t.index + 1) ≤
 rank-below c t u i (inr l) (inl m) k = absurd (let e = l.0 in omega arith)
 rank-below c t u i (inr l) (inr m) k = absurd (let e = l.0 in let f = m.0 in omega arith)
 
--- among positions with the same index, those of equal rank are in the same block
-rank-across : (c : BlockSizes) (p a b : ℕ) → IsRow c p a → IsRow c p b → rank_of c p a ≡ rank_of c p b → a ≡ b
-rank-across c p a b (inl l) w e = search (arith, nat_tests)
-rank-across c p a b (inr l) (inl m) e = absurd (let f = l.0 in omega arith)
-rank-across c p a b (inr l) (inr m) e = search (arith, nat_tests)
-
 -- two positions of equal rank are equal
 pub rank-one : (c : BlockSizes) (t u : Position) → IsPosition c t → IsPosition c u → rank_of c t.index t.block ≡ rank_of c u.index u.block → (t.index ≡ u.index) × (t.block ≡ u.block)
-rank-one c t u i j e = search (arith, nat_tests, position-cases, rank-below, rank-across)
-
--- block b has no codeword with index p, so the number stays the same
-pub rank-pass : (c : BlockSizes) (p b : ℕ) → p ≤ c.short_len → b < block_count c → (IsPosition c (position p b) → ⊥) → rank_of c p (b + 1) ≡ rank_of c p b
-rank-pass c p b l m n = search (arith, nat_tests)
-
--- after the last block, the number is that of the first position with the next index
-pub rank-row : (c : BlockSizes) (p : ℕ) → p ≤ c.short_len → rank_of c p (block_count c) ≡ rank_of c (p + 1) 0
-rank-row c p l = search (arith, mul-suc, mul_comm, nat_tests)
-
--- no position comes before the first
-pub rank-start : (c : BlockSizes) → 0 ≡ rank_of c 0 0
-rank-start c = grind (arith, nat_tests)
+rank-one c t u i j e = search (arith, nat_tests, position-cases, rank-below)
 
 -- each block has a codeword at an index that all blocks have, and its rank follows from whole rows
 pub in-row : (c : BlockSizes) (p b : ℕ) → p < c.short_len → b < block_count c → IsPosition c (position p b) × (block_count c * p + b ≡ rank_of c p b)

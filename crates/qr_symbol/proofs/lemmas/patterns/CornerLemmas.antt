@@ -1,11 +1,10 @@
 -- The modules of row 8 and column 8 that are beside the finder patterns.
+use Rattle.qr_layout.{proofs.Facts.{dark-module, format-first, format-only, format-second}, specs.{Format.{first_place, second_place}, Region.is_corner}}
+use Rattle.qr_layout.specs.{Role.role_of, Version.side_of, declared.{region.Place.Place, role.Role.{Role, TheVariants.FormatBit}}}
+use Rattle.qr_symbol.proofs.lemmas.{patterns.TimingLemmas.paint-fixed, placement.PlacementLemmas.{at, by_test}}
+use Rattle.qr_symbol.specs.Steps.Patterns.{fixed_colour, format_or, is_in_finder_area, paint_of}
 use Rattle.std.proofs.Common.{◌≡◌, ℕ, ◌+◌, ◌-◌, ◌<◌, ◌≤◌, Bool, true, false, cond, eqb, ◌&&◌, ◌||◌, ◌⊎◌, refl, ap, inl, inr, arith}
 use Rattle.std.proofs.lemmas.Bool.{cases_eq, cases_lt, Decides.nat_tests}
-use Rattle.qr_layout.proofs.Facts.{dark-module, format-first, format-only, format-second}
-use Rattle.qr_layout.specs.{Format.version_word_of, Region.is_corner, Role.role_of, Format.first_place, Format.second_place}
-use Rattle.qr_layout.specs.{Version.side_of, declared.{region.Place.Place, role.Role.{Role, TheVariants.{Fixed, FormatBit, VersionBit, Region}}}}
-use Rattle.qr_symbol.specs.Steps.Patterns.{fixed_colour, format_or, is_in_finder_area, paint_of}
-use Rattle.qr_symbol.proofs.lemmas.{placement.PlacementLemmas.{at, by_test}, patterns.TimingLemmas.{paint-column_six, paint-fixed, paint-row_six}}
 
 -- the tests that a place is in one of the first one, two and three areas
 abbrev pub two_areas : ℕ → ℕ → ℕ → Bool
@@ -24,12 +23,6 @@ with_second s r c = with_first s r c || (eqb r 6 && eqb c 8)
 abbrev pub begun : ℕ → ℕ → ℕ → Bool
 begun s r c = with_second s r c || (eqb r (s - 8) && eqb c 8)
 
-pub timing-left : (v format : ℕ) → 1 ≤ v → true ≡ paint_of v format 8 6
-timing-left v format l = search (arith, paint-column_six, nat_tests)
-
-pub timing-top : (v format : ℕ) → 1 ≤ v → true ≡ paint_of v format 6 8
-timing-top v format l = search (arith, paint-row_six, nat_tests)
-
 -- the dark module is dark
 pub dark-painted : (v format : ℕ) → 1 ≤ v → v ≤ 40 → true ≡ paint_of v format (side_of v - 8) 8
 dark-painted v format l k = search (arith, paint-fixed, dark-module)
@@ -38,17 +31,6 @@ dark-painted v format l k = search (arith, paint-fixed, dark-module)
 bit-painted : (v r c format i : ℕ) (w : Bool) → role_of v r c ≡ FormatBit i → format_or format (role_of v r c) w ≡ paint_of v format r c
 unfolding format_or fixed_colour
 bit-painted v r c format i w e = rw e refl
-
--- a module that has its colour keeps it when the format information is drawn
-stays-painted : (v r c format : ℕ) → format_or format (role_of v r c) (paint_of v format r c) ≡ paint_of v format r c
-unfolding format_or fixed_colour
-stays-painted v r c format = stays (role_of v r c)
-  where
-    stays : (q : Role) → format_or format q (fixed_colour format (version_word_of v) q) ≡ fixed_colour format (version_word_of v) q
-    stays (Fixed dark) = refl
-    stays (FormatBit i) = refl
-    stays (VersionBit i) = refl
-    stays Region = refl
 
 -- the bits of the two copies of the format information
 at-first : (v r c i : ℕ) → 1 ≤ v → v ≤ 40 → i < 15 → (first_place i).row ≡ r → (first_place i).col ≡ c → role_of v r c ≡ FormatBit i
@@ -79,15 +61,6 @@ row-painted v c format w k1 k2 n l o = elim (cases_lt c 6) [
   ]
 ]
 
--- a place of a corner that is drawn last is beside a finder pattern, in column 8 or in row 8
-beside-column : (s r c : ℕ) → 21 ≤ s → r < s → begun s r c ≡ false → is_corner s r c ≡ true → c ≡ 8
-    → (9 ≤ r → s - 8 < r) × (r ≡ 6 → ⊥)
-beside-column s r c h l t u e = search arith
-
-beside-row : (s r c : ℕ) → 21 ≤ s → r < s → c < s → begun s r c ≡ false → is_corner s r c ≡ true
-    → (c ≡ 8 → ⊥) → (r ≡ 8) × (8 ≤ c → s - 8 ≤ c) × (c ≡ 6 → ⊥)
-beside-row s r c h l m t u e = search (arith, nat_tests)
-
 -- drawing the format information does not change the modules outside the corners
 outside-kept : (v r c format : ℕ) (w : Bool) → 1 ≤ v → is_corner (side_of v) r c ≡ false → format_or format (role_of v r c) w ≡ w
 unfolding format_or
@@ -112,12 +85,13 @@ outside-kept v r c format w k h = kept _ (λ i q. far i (format-only v _ i q))
 -- the format information completes the corners
 pub corners-done : (v r c format : ℕ) (w : Bool) → 1 ≤ v → v ≤ 40 → r < side_of v → c < side_of v
     → format_or format (role_of v r c) (cond (begun (side_of v) r c) (paint_of v format r c) w) ≡ cond (is_corner (side_of v) r c) (paint_of v format r c) w
+unfolding format_or fixed_colour
 corners-done v r c format w k1 k2 l m =
     by_test (begun (side_of v) r c) _
-    (λ t. rw (t, begun-corner _ (omega arith) l m t) (stays-painted v r c format))
+    (λ t. rw (t, begun-corner _ (omega arith) l m t) (search arith))
     (λ t. by_test (is_corner (side_of v) r c) _ (λ u. elim (cases_eq c 8) [
-      | inl e ↦ (let d = beside-column _ r c (omega arith) l t u e in rw (t, u, e) (column-painted v r format w k1 k2 d.0 l d.1))
-      | inr e ↦ (let d = beside-row _ r c (omega arith) l m t u e in rw (t, u, d.0) (row-painted v c format w k1 k2 d.1 m d.2))
+      | inl e ↦ search (arith, column-painted)
+      | inr e ↦ search (arith, row-painted, nat_tests)
     ]) (λ u. rw (t, u) (outside-kept v r c format w k1 u)))
   where
     begun-corner : (s : ℕ) → 21 ≤ s → r < s → c < s → begun s r c ≡ true → is_corner s r c ≡ true

@@ -1,11 +1,10 @@
 -- The format information, drawn bit by bit over a symbol.
-use Rattle.{qr_layout.proofs.Facts.{format-only, format-first, format-second}, std.proofs.lemmas.Bool.{cases_eq, cases_lt, Decides.nat_tests}}
-use Rattle.qr_layout.specs.{Role.role_of, Format.first_place, Format.second_place, Version.side_of}
-use Rattle.qr_layout.specs.declared.{region.Place.Place, role.Role.Role, role.Role.TheVariants.FormatBit}
-use Rattle.qr_matrix.proofs.Facts.{same-place, square-same, colour-painted-here, colour-painted-there, colour-square}
-use Rattle.qr_matrix.specs.{BitRow.has_bit, Grid.Grid, Grid.square, Grid.colour, Grid.painted, Grid.with_row, Grid.IsSquare}
-use Rattle.qr_symbol.specs.{Mask.{inverts, inverted}, Steps.Patterns.format_or}
+use Rattle.qr_layout.{proofs.Facts.{format-only, format-first, format-second}, specs.{Format.{first_place, second_place}, Role.role_of, Version.side_of}}
+use Rattle.qr_layout.specs.declared.{region.Place.Place, role.Role.{Role, TheVariants.FormatBit}}
+use Rattle.qr_matrix.{proofs.Facts.{same-place, square-same, colour-painted-here, colour-painted-there, colour-square}, specs.BitRow.has_bit}
+use Rattle.{qr_matrix.specs.Grid.{Grid, square, colour, painted, with_row, IsSquare}, qr_symbol.specs.{Mask.{inverts, inverted}, Steps.Patterns.format_or}}
 use Rattle.std.proofs.Common.{◌≡◌, ◌≢◌, ◌⊎◌, ℕ, ◌+◌, ◌-◌, ◌<◌, ◌≤◌, Bool, true, false, cond, ltb, leb, eqb, ◌&&◌, refl, sym, ◌∙◌, ap, inl, inr, arith}
+use Rattle.std.proofs.lemmas.Bool.{cases_eq, cases_lt, Decides.nat_tests}
 
 -- the colour of a module with the role q after the bits before bit n are drawn; `other` is its colour before
 unfoldable pub format_bits_or : ℕ → ℕ → Role → Bool → Bool
@@ -14,8 +13,7 @@ format_bits_or n format _ other = other
 
 none-drawn : (format : ℕ) (q : Role) (other : Bool) → other ≡ format_bits_or 0 format q other
 unfolding format_bits_or
-none-drawn format (FormatBit i) other = grind (arith, nat_tests)
-none-drawn format _ other = refl
+none-drawn format q other = grind (arith, nat_tests)
 
 -- once bit n is drawn, a module that holds it has its colour
 bit-drawn : (n format : ℕ) (q : Role) (other d : Bool) → q ≡ FormatBit n → d ≡ has_bit format n → d ≡ format_bits_or (n + 1) format q other
@@ -25,8 +23,7 @@ bit-drawn n format q other d e f = search arith
 -- drawing bit n does not change a module that does not hold it
 bit-kept : (n format : ℕ) (q : Role) (other : Bool) → (q ≡ FormatBit n → ⊥) → format_bits_or n format q other ≡ format_bits_or (n + 1) format q other
 unfolding format_bits_or
-bit-kept n format (FormatBit i) other o = search arith
-bit-kept n format _ other o = refl
+bit-kept n format q other o = grind arith
 
 -- all fifteen bits are the format information
 all-bits : (v format r c : ℕ) (other : Bool) → format_bits_or 15 format (role_of v r c) other ≡ format_or format (role_of v r c) other
@@ -34,7 +31,7 @@ unfolding format_bits_or format_or
 all-bits v format r c other = parts _ (λ i q. (format-only v _ i q).0)
   where
     parts : (q : Role) → ((i : ℕ) → q ≡ FormatBit i → i < 15) → format_bits_or 15 format q other ≡ format_or format q other
-    parts (FormatBit i) f = let l = f i refl in grind (arith, nat_tests)
+    parts (FormatBit i) f = grind (arith, nat_tests, f i refl)
     parts _ f = refl
 
 -- the bits before bit n are drawn, and no other module is changed
@@ -56,7 +53,7 @@ pub format-step : (v format i : ℕ) (g0 g : Grid) (a b : Place) (d : Bool) → 
     → i < 15 → g.side ≡ side_of v → IsPlaceIn (side_of v) (first_place i) a → IsPlaceIn (side_of v) (second_place (side_of v) i) b
     → d ≡ has_bit format i → FormatDone v format i g0 g
     → FormatDone v format (i + 1) g0 (painted (painted g a.row a.col d) b.row b.col d)
-format-step v format i g0 g a b d k1 k2 l s at bt ed h r c m n = let ea = at.same in let eb = bt.same in elim (same-place b.row b.col r c) [
+format-step v format i g0 g a b d k1 k2 l s at bt ed h r c m n = let eb = bt.same in elim (same-place b.row b.col r c) [
   | inl w ↦
       let q : role_of v b.row b.col ≡ FormatBit i = rw eb (format-second v i k1 k2 l) in
       rw (w.0.0, w.0.1) (colour-painted-here _ _ _ d (omega arith) (omega arith) ∙ bit-drawn i _ _ _ d q ed)
@@ -64,7 +61,7 @@ format-step v format i g0 g a b d k1 k2 l s at bt ed h r c m n = let ea = at.sam
     | inl u ↦ search (arith, format-first, colour-painted-here, bit-drawn)
     | inr u ↦ colour-painted-there g _ _ r c d (omega arith) (omega arith) u.0
         ∙ (h r c m n ∙ bit-kept i _ _ _ (λ q. elim (format-only v _ i q).1 [
-          | inl f ↦ let e = f ∙ sym ea in u.0 (ap (λ (z : Place). z.row) e, ap (λ (z : Place). z.col) e)
+          | inl f ↦ let e = f ∙ sym at.same in u.0 (ap (λ (z : Place). z.row) e, ap (λ (z : Place). z.col) e)
           | inr f ↦ search arith
         ]))
   ]
@@ -98,10 +95,6 @@ bit-same format i q x y e = rw e refl
 abbrev pub IsInEight : ℕ → ℕ → Place → Type 0
 IsInEight n i a = ((i < 8) × (a ≡ first_place i)) ⊎ ((8 ≤ i) × (a ≡ second_place n i))
 
-eight-role : (v i : ℕ) (a : Place) → 1 ≤ v → v ≤ 40 → i < 15 → IsInEight (side_of v) i a → role_of v a.row a.col ≡ FormatBit i
-eight-role v i a k l m (inl e) = rw e.1 (format-first v i k l m)
-eight-role v i a k l m (inr e) = rw e.1 (format-second v i k l m)
-
 -- the other place of a bit is in row 8
 eight-only : (v i : ℕ) (a m : Place) → 1 ≤ v → IsInEight (side_of v) i a → role_of v m.row m.col ≡ FormatBit i → m.row ≢ 8 → m ≡ a
 eight-only v i a m k at q o = by-place (format-only v m i q).1 at
@@ -129,11 +122,11 @@ down-step v format i n g0 g h a k1 k2 l s at bit e before r c m o =
     let old = before r c m o in
     elim (same-place a.row a.col r c) [
       | inl w ↦
-          let role : role_of v r c ≡ FormatBit i = rw (w.0.0, w.0.1) (eight-role v i a k1 k2 l at) in
+          let role : role_of v r c ≡ FormatBit i = search (arith, format-first, format-second) in
           (λ _. bit-drawn i format _ _ _ role (new ∙ (rw w.1 bit)), bit-same format i _ _ _ role)
       | inr w ↦
           let same : colour h r c ≡ colour g r c = rw w.1 at new in
-          (λ b. same ∙ (old.0 b ∙ bit-kept i format _ _ (λ q. let p = eight-only v i a (record { row = r; col = c }) k1 at q b in w.0 (ap (λ (z : Place). z.row) p, ap (λ (z : Place). z.col) p))), ap (format_or format (role_of v r c)) same ∙ old.1)
+          (λ b. same ∙ (old.0 b ∙ bit-kept i format _ _ (λ q. let p = eight-only v i a (record { row = r; col = c }) k1 at q b in search arith)), ap (format_or format (role_of v r c)) same ∙ old.1)
     ]
 
 -- a colour by the role of the module
@@ -143,8 +136,7 @@ is-bit format i q x y e f = rw e f
 
 no-bit : (format : ℕ) (q : Role) (y : Bool) → ((i : ℕ) → q ≡ FormatBit i → ⊥) → y ≡ format_or format q y
 unfolding format_or
-no-bit format (FormatBit i) y h = absurd (h i refl)
-no-bit format _ y h = refl
+no-bit format q y h = grind arith
 
 -- the words x, y and z have the bits of the format information in row 8: bits 14 to 9, bits 8 and 7, and bits 7 to 0
 pub record AreInRow8 (format x y z : ℕ) : Type 0 where
@@ -214,11 +206,10 @@ pub across-end : (v format far x y z : ℕ) (g0 g1 g2 g3 : Grid) → 1 ≤ v →
 across-end v format far x y z g0 g1 g2 g3 k l s ef words e1 e2 e3 =
     let n = side_of v in
     let s1 : g1.side ≡ n = ap (λ (h : Grid). h.side) e1 ∙ s in
-    let s2 : g2.side ≡ n = ap (λ (h : Grid). h.side) e2 ∙ s1 in
     let line1 = λ (c : ℕ). cond (leb 0 c && ltb c 6) (has_bit x (c - 0)) (colour g0 8 c) in
     let line2 = λ (c : ℕ). cond (leb 7 c && ltb c 9) (has_bit y (c - 7)) (colour g1 8 c) in
     let line3 = λ (c : ℕ). cond (leb far c && ltb c (far + 8)) (has_bit z (c - far)) (colour g2 8 c) in
-    (e3 ∙ ap (λ m. square m (λ r c. cond (eqb r 8) (line3 c) (colour g2 r c))) s2) ∙ square-same n _ _ (λ r c i j. elim (cases_eq r 8) [
+    (e3 ∙ ap (λ m. square m (λ r c. cond (eqb r 8) (line3 c) (colour g2 r c))) (ap (λ (h : Grid). h.side) e2 ∙ s1)) ∙ square-same n _ _ (λ r c i j. elim (cases_eq r 8) [
       | inl e ↦ cc (row-written n 8 g1 g2 line2 s1 e2 8 c (omega arith) j, row-written n 8 g0 g1 line1 s e1 8 c (omega arith) j, across-at v k l c j format far x y z (colour g0 8 c) ef words)
       | inr o ↦
           let t : eqb r 8 ≡ false = grind (arith, nat_tests) in
@@ -229,7 +220,4 @@ across-end v format far x y z g0 g1 g2 g3 k l s ef words e1 e2 e3 =
 pub both-parts : (v format : ℕ) (g0 g h : Grid) → FormatDown v format 15 g0 g
     → h ≡ square (side_of v) (λ r c. cond (eqb r 8) (format_or format (role_of v r c) (colour g r c)) (colour g r c))
     → h ≡ square (side_of v) (λ r c. format_or format (role_of v r c) (colour g0 r c))
-both-parts v format g0 g h down e = e ∙ square-same (side_of v) _ _ (λ r c l m. elim (cases_eq r 8) [
-  | inl p ↦ (let t : eqb r 8 ≡ true = grind (arith, nat_tests) in rw t (down r c l m).1)
-  | inr o ↦ (let t : eqb r 8 ≡ false = grind (arith, nat_tests) in rw t ((down r c l m).0 o ∙ all-bits v format r c _))
-])
+both-parts v format g0 g h down e = search (arith, square-same, nat_tests, all-bits)

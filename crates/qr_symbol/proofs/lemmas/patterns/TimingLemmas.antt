@@ -1,6 +1,5 @@
 -- The colours of row 6 and column 6.
-use Rattle.qr_layout.specs.{Format.version_word_of, Region.is_timing, Role.{finder_ring, pattern_colour, role_of}}
-use Rattle.qr_layout.specs.{Version.side_of, declared.role.Role.TheVariants.Fixed}
+use Rattle.qr_layout.specs.{Format.version_word_of, Role.{finder_ring, pattern_colour, role_of}, Version.side_of, declared.role.Role.TheVariants.Fixed}
 use Rattle.qr_symbol.specs.Steps.Patterns.{fixed_colour, paint_of}
 use Rattle.std.proofs.{Common.{◌≡◌, ℕ, ◌+◌, ◌-◌, ◌%◌, ◌<◌, ◌≤◌, Bool, true, false, eqb, leb, ltb, ◌&&◌, ◌||◌, refl, ap, arith}, lemmas.Bool.Decides.nat_tests}
 
@@ -59,7 +58,3 @@ paint-column_six v at format l h = search (arith, paint-fixed, six, column-off)
 pub six-more : (at r c : ℕ) → ((eqb r 6 && ltb c (at + 1)) || (eqb c 6 && ltb r (at + 1)))
     ≡ ((((eqb r 6 && ltb c at) || (eqb c 6 && ltb r at)) || (eqb r 6 && eqb c at)) || (eqb r at && eqb c 6))
 six-more at r c = grind (arith, nat_tests)
-
--- at the end all modules of row 6 and column 6 are painted
-pub six-all : (s r c : ℕ) → r < s → c < s → ((eqb r 6 && ltb c s) || (eqb c 6 && ltb r s)) ≡ is_timing r c
-six-all s r c l m = grind (arith, nat_tests)

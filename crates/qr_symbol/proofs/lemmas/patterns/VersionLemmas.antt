@@ -1,8 +1,7 @@
 -- The version information, drawn bit by bit at its two places.
 use Rattle.qr_layout.{proofs.Facts.version-first, specs.{Format.version_word_of, Region.is_version_information, Version.side_of}}
-use Rattle.qr_matrix.specs.BitRow.{has_bit}
-use Rattle.{qr_symbol.specs.Steps.Patterns.{fixed_colour, paint_of}, std.proofs.lemmas.Bool.Decides.nat_tests}
-use Rattle.std.proofs.Common.{◌≡◌, ℕ, ◌+◌, ◌-◌, ◌*◌, ◌/◌, ◌%◌, ◌<◌, ◌≤◌, Bool, ltb, leb, ◌&&◌, ◌||◌, arith}
+use Rattle.{qr_matrix.specs.BitRow.has_bit, qr_symbol.specs.Steps.Patterns.{fixed_colour, paint_of}}
+use Rattle.std.proofs.{Common.{◌≡◌, ℕ, ◌+◌, ◌-◌, ◌*◌, ◌/◌, ◌%◌, ◌<◌, ◌≤◌, Bool, ltb, leb, ◌&&◌, ◌||◌, arith}, lemmas.Bool.Decides.nat_tests}
 
 -- the places of the first n bits beside the top right finder pattern
 abbrev part : ℕ → ℕ → ℕ → ℕ → Bool

@@ -1,11 +1,9 @@
 -- The rows of a strip and their indices, its two columns, and rows that are drawn at once.
+use Rattle.{qr_bits.specs.Bits.codeword_bit, qr_layout.specs.{Region.is_in_region, Version.side_of, declared.strips.Strip.Strip}}
+use Rattle.{qr_matrix.specs.{BitRow.{has, has_bit}, Grid.is_same}, qr_symbol.specs.Steps.Placement.{number_after, number_at, AreDrawn, AreLightRows, AreWhole}}
+use Rattle.qr_symbol.specs.{Steps.{Spans.{row_of, top_row}, Words.{AreNext, rank_in}}, declared.spans.Columns.Columns}
 use Rattle.std.proofs.Common.{◌≡◌, ℕ, zero, suc, ◌+◌, ◌-◌, ◌*◌, ◌<◌, ◌≤◌, Bool, true, cond, eqb, ◌&&◌, List, inl, inr, add-one, arith, false, not, leb, ltb, ◌||◌, sym, ◌∙◌, ap}
 use Rattle.std.proofs.lemmas.Bool.{cases_lt, Decides.nat_tests}
-use Rattle.qr_symbol.specs.{declared.spans.Columns.Columns, Steps.Placement.{number_after, number_at, AreDrawn, AreLightRows, AreWhole}}
-use Rattle.qr_layout.specs.{Region.is_in_region, Version.side_of, declared.strips.Strip.Strip}
-use Rattle.qr_matrix.specs.{BitRow.{has, has_bit}, Grid.is_same}
-use Rattle.qr_symbol.specs.Steps.{Spans.{row_of, top_row}, Words.{AreNext, rank_in}}
-use Rattle.qr_bits.specs.Bits.{codeword_bit}
 
 -- a row of the strip is a row of the symbol, and has its own index as the row of that index
 pub row-small : (x : Strip) (s k : ℕ) → k < s → (row_of s x k < s) × (row_of s x (row_of s x k) ≡ k)

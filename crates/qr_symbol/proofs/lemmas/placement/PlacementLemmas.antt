@@ -1,16 +1,14 @@
 -- Drawing along the walk: every place that the walk has passed, or never reaches, has its final colour.
 use Rattle.qr_bits.specs.Bits.{codeword_bit}
-use Rattle.qr_matrix.specs.Grid.{Grid, square, colour, painted, transposed, IsSquare}
 use Rattle.qr_layout.proofs.Facts.{Mem, order-has, order-mem, order-small, index-at, row-in, col-in, region-role, role-region}
-use Rattle.qr_layout.specs.{Format.{format_word_of, version_word_of}, Order.{IsOrder, in_region_of, index_of}, Region.is_in_region, Version.side_of}
-use Rattle.std.proofs.lemmas.Bool.{cases_eq, false≢true}
-use Rattle.qr_layout.specs.{Strips.{both_of, rows_from, places_of}, declared.{level.Level.Level, region.Place.Place, role.Role.{Role, TheVariants.Region}}}
-use Rattle.qr_layout.specs.declared.strips.Strip.{Strip}
-use Rattle.qr_matrix.proofs.Facts.{same-place, square-same, colour-square, colour-painted-here, colour-painted-there, colour-transposed}
-use Rattle.qr_symbol.{proofs.lemmas.placement.ColumnLemmas.row-small, specs.Steps.Spans.row_of}
-use Rattle.qr_symbol.specs.{Symbol.{colour_by, colour_of, grid_of}, Steps.Patterns.{fixed_colour, format_or, symmetric_format}}
+use Rattle.qr_layout.specs.{Order.{IsOrder, in_region_of, index_of}, Region.is_in_region, Strips.{both_of, rows_from, places_of}, Version.side_of}
+use Rattle.qr_layout.specs.declared.{level.Level.Level, region.Place.Place, strips.Strip.Strip}
+use Rattle.qr_matrix.{proofs.Facts.{square-same, colour-square, colour-transposed}, specs.Grid.{Grid, square, colour, painted, transposed, IsSquare}}
+use Rattle.qr_symbol.{proofs.lemmas.placement.ColumnLemmas.row-small, specs.Steps.Patterns.{fixed_colour, format_or}}
 use Rattle.qr_symbol.specs.Steps.Placement.{placed_colour, number_after, number_at, IsRowDrawn, masked_colour, masked_grid, region_grid, plain_grid}
+use Rattle.qr_symbol.specs.{Steps.Spans.row_of, Symbol.{colour_of, grid_of}}
 use Rattle.std.proofs.Common.{◌≡◌, ℕ, zero, suc, ◌+◌, ◌-◌, ◌⊎◌, ◌<◌, ◌≤◌, Bool, true, false, cond, List, [], ◌∷◌, ◌++◌, length, length-append, refl, sym, ◌∙◌, ap, inl, inr, subst, append_assoc, append-nil, arith}
+use Rattle.std.proofs.lemmas.Bool.{cases_eq, false≢true}
 
 -- drawing the strip x changes the transposed square from `before` to `after`; the strip has the bits from `first` to before `next`
 pub record IsStripDrawn (v : ℕ) (cw : List ℕ) (x : Strip) (first : ℕ) (before : Grid) (next : ℕ) (after : Grid) : Type 0 where
@@ -74,11 +72,6 @@ Mem-mid x (y ∷ ys) back = inr (Mem-mid x ys back)
 pub next-number : (v : ℕ) (front later : List Place) (x : Place) (number : ℕ) → IsOrder v (front ++ x ∷ later) → number ≡ length front → (is_in_region v x.row x.col ≡ true) × (index_of v x ≡ number)
 next-number v front later x number o k = (order-mem v _ o x (Mem-mid x _ _), index-at v _ _ x o ∙ sym k)
 
--- one module of the walk is drawn
-pub done-step : (s : ℕ) (want : ℕ → ℕ → Bool) (g : Grid) (later : List Place) (x : Place) (d : Bool)
-    → g.side ≡ s → d ≡ want x.row x.col → Done s want (x ∷ later) g → Done s want later (painted g x.row x.col d)
-done-step s want g later x d k e h r c l m n = search (arith, same-place, colour-painted-here, colour-painted-there)
-
 -- a grid that equals a square of colours is a square
 pub square-is : (s : ℕ) (f : ℕ → ℕ → Bool) (g : Grid) → g ≡ square s f → IsSquare s g
 square-is s f g e = search (arith, square-same, colour-square)
@@ -105,16 +98,10 @@ in-square v front later x o = search (arith, order-mem, Mem-mid, row-in, col-in)
 
 -- ---- a symbol that is drawn again with a mask
 
--- a module that is not in the region has its colour by role once the format information is drawn
-role-masked : (v : ℕ) (l : Level) (mask : ℕ) (cw : List ℕ) (r c : ℕ) (q : Role) → (q ≡ Region → ⊥) → format_or (format_word_of l mask) q (fixed_colour symmetric_format (version_word_of v) q) ≡ colour_by v l mask cw r c q
-unfolding format_or fixed_colour
-role-masked v l mask cw r c Region n = absurd (n refl)
-role-masked v l mask cw r c q n = refl
-
 -- with mask and format information, the result is the symbol of its codewords under this mask
 pub masked-all : (v : ℕ) (l : Level) (mask : ℕ) (cw : List ℕ) (region plain : Grid) → 1 ≤ v → region ≡ region_grid v → plain ≡ plain_grid v cw → masked_grid v l mask region plain ≡ grid_of v l mask cw
-unfolding masked_colour colour_of format_or
-masked-all v l mask cw region plain k e f = search (arith, square-same, colour-square, region-role, role-region, inside, outside, role-masked)
+unfolding masked_colour colour_of format_or fixed_colour
+masked-all v l mask cw region plain k e f = search (arith, square-same, colour-square, region-role, role-region, inside, outside)
 
 -- ---- strips whose modules are drawn
 

@@ -1,11 +1,10 @@
 -- Spans of a strip that are drawn one after the other.
-use Rattle.std.proofs.lemmas.Bool.Decides.{nat_tests}
-use Rattle.std.proofs.Common.{◌≡◌, ℕ, ◌+◌, ◌-◌, ◌*◌, ◌/◌, ◌^◌, ◌<◌, ◌≤◌, true, false, leb, ltb, ◌&&◌, ◌||◌, List, refl, sym, ◌∙◌, ap, arith}
-use Rattle.qr_layout.specs.{Version.side_of, declared.strips.Strip.Strip}
-use Rattle.qr_matrix.specs.BitRow.{has, has_bit}
+use Rattle.{qr_layout.specs.{Version.side_of, declared.strips.Strip.Strip}, qr_matrix.specs.BitRow.{has, has_bit}}
 use Rattle.qr_symbol.proofs.lemmas.placement.ColumnLemmas.{number-whole, row-drawn, row-number, rows-drawn, number-none, run-drawn, row-small}
-use Rattle.qr_symbol.{proofs.lemmas.words.BitLemmas.highest-set, specs.Steps.{Spans.{row_of, top_row, AreOutside, AreWholeRows}, Words.{rank_in, AreNext}}}
-use Rattle.qr_symbol.specs.{declared.spans.Columns.Columns, Steps.Placement.{number_at, AreDrawn, AreLight, AreLightRows, AreWhole, IsRegion}}
+use Rattle.qr_symbol.{proofs.lemmas.words.BitLemmas.highest-set, specs.Steps.Placement.{number_at, AreDrawn, AreLight, AreLightRows, AreWhole, IsRegion}}
+use Rattle.qr_symbol.specs.{Steps.{Spans.{row_of, top_row, AreOutside, AreWholeRows}, Words.{rank_in, AreNext}}, declared.spans.Columns.Columns}
+use Rattle.std.proofs.Common.{◌≡◌, ℕ, ◌+◌, ◌-◌, ◌*◌, ◌/◌, ◌^◌, ◌<◌, ◌≤◌, true, false, leb, ltb, ◌&&◌, ◌||◌, List, refl, sym, ◌∙◌, ap, arith}
+use Rattle.std.proofs.lemmas.Bool.Decides.{nat_tests}
 
 -- drawing the `n` rows from row `k` on changes the columns from `old` to `new`, and the bits from `number` on are drawn, to
 -- before `after`

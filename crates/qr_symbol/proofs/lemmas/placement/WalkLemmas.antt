@@ -1,13 +1,13 @@
 -- Drawing along the walk, where each bit is masked as it is placed.
+use Rattle.{qr_bits.specs.Bits.codeword_bit, qr_layout.{proofs.Facts.{order-small, region-role, role-region}, specs.Format.{format_word_of, version_word_of}}}
+use Rattle.qr_layout.specs.{Order.IsOrder, Region.is_in_region, Role.role_of, Version.side_of, declared.{level.Level.Level, region.Place.Place}}
+use Rattle.qr_matrix.proofs.Facts.{same-place, colour-painted-here, colour-painted-there, square-same, colour-square}
+use Rattle.qr_matrix.specs.Grid.{Grid, square, colour, light, painted, IsSquare}
+use Rattle.qr_symbol.proofs.lemmas.placement.PlacementLemmas.{by_test, Done, done-start, next-number, painted-square, whole-next, whole-push, in-square}
+use Rattle.qr_symbol.specs.{Mask.{inverts, inverted}, Steps.{Patterns.fixed_colour, Placement.walked_colour}, Symbol.{colour_of, grid_of}}
+use Rattle.std.proofs.Common.{◌≡◌, ℕ, ◌+◌, ◌<◌, ◌≤◌, Bool, false, cond, not, List, [], ◌∷◌, ◌++◌, length, length-append, refl, ap, arith}
 use Rattle.std.proofs.lemmas.Bool.Decides.{nat_tests}
 use mathlib.Core.Bool.{beq}
-use Rattle.{qr_bits.specs.Bits.codeword_bit, qr_layout.proofs.Facts.{order-small, region-role, role-region}}
-use Rattle.qr_layout.specs.{Format.{format_word_of, version_word_of}, Order.IsOrder, Region.is_in_region, Role.role_of, Version.side_of}
-use Rattle.qr_layout.specs.declared.{level.Level.Level, region.Place.Place, role.Role.{Role, TheVariants.Region}}
-use Rattle.qr_matrix.{proofs.Facts.{square-same, colour-square}, specs.Grid.{Grid, square, colour, light, painted, IsSquare}}
-use Rattle.qr_symbol.specs.{Symbol.{colour_by, colour_of, grid_of}, Mask.{inverts, inverted}, Steps.{Patterns.fixed_colour, Placement.walked_colour}}
-use Rattle.qr_symbol.proofs.lemmas.placement.PlacementLemmas.{by_test, Done, done-start, done-step, next-number, painted-square, whole-next, whole-push, in-square}
-use Rattle.std.proofs.Common.{◌≡◌, ℕ, ◌+◌, ◌<◌, ◌≤◌, Bool, false, cond, not, List, [], ◌∷◌, ◌++◌, length, length-append, refl, ap, subst, arith}
 
 -- outside the encoding region the colour stays
 walked-outside : (v : ℕ) (cw : List ℕ) (mask : ℕ) (f : ℕ → ℕ → Bool) (r c : ℕ) → is_in_region v r c ≡ false → f r c ≡ walked_colour v cw mask f r c
@@ -43,20 +43,13 @@ walked-step v cw mask g0 g front now later x number bit turned b t e w =
       whole = whole-push v _ _ x o;
       next = cc (length-append _ _);
       square = painted-square (side_of v) g x.row x.col _ s;
-      done = done-step _ _ g _ x _ s (search (arith, codeword_bit))
-          (subst (λ (ms : List Place). Done (side_of v) (walked_colour v cw mask (colour g0)) ms g) e w.done);
+      done = search (arith, codeword_bit, same-place, colour-painted-here, colour-painted-there);
     }
 
 -- the number of the next bit is at most the number of all modules of the region
 pub walked-small : (v : ℕ) (cw : List ℕ) (mask : ℕ) (g0 g : Grid) (front later : List Place) (number : ℕ) → 1 ≤ v → v ≤ 40 → IsWalked v cw mask g0 front later number g → number ≤ 29648
 walked-small v cw mask g0 g front later number k l w =
     let m = order-small v _ k l w.whole in search (arith, length-append)
-
--- a module that is not in the region has the fixed colour of its role
-role-fixed : (v : ℕ) (l : Level) (mask : ℕ) (cw : List ℕ) (r c : ℕ) (q : Role) → (q ≡ Region → ⊥) → fixed_colour (format_word_of l mask) (version_word_of v) q ≡ colour_by v l mask cw r c q
-unfolding fixed_colour
-role-fixed v l mask cw r c Region n = absurd (n refl)
-role-fixed v l mask cw r c q n = refl
 
 -- the fixed patterns, drawn over a light square
 pub fixed-alone : (v format : ℕ) (g h : Grid) → 1 ≤ v → g ≡ light (side_of v) → h ≡ square (side_of v) (λ r c. cond (is_in_region v r c) (colour g r c) (fixed_colour format (version_word_of v) (role_of v r c)))
@@ -67,6 +60,5 @@ fixed-alone v format g h k e f = search (arith, square-same, by_test, colour-squ
 -- what is drawn along the walk over the fixed patterns is the symbol of the codewords
 pub walked-all : (v : ℕ) (l : Level) (mask : ℕ) (cw : List ℕ) (g h : Grid) → 1 ≤ v → g ≡ square (side_of v) (λ r c. fixed_colour (format_word_of l mask) (version_word_of v) (role_of v r c))
     → h ≡ square (side_of v) (walked_colour v cw mask (colour g)) → h ≡ grid_of v l mask cw
-unfolding colour_of walked_colour
-walked-all v l mask cw g h k e f =
-    search (arith, square-same, by_test, region-role, walked-outside, colour-square, role-fixed, role-region)
+unfolding colour_of walked_colour fixed_colour
+walked-all v l mask cw g h k e f = search (arith, square-same, by_test, region-role, walked-outside, colour-square, role-region)

@@ -1,12 +1,10 @@
 -- The format information of a square is that of at most one level and mask.
-use borrow.Author.Tests.{ltb-true}
-use Rattle.{qr_layout.proofs.Facts.{below, below-at, format-first}, std.specs.{Prelude.bit_xor}}
-use Rattle.qr_layout.specs.Format.{word_remainder, format_with, five_bits, level_bits, format_word_of}
-use Rattle.qr_layout.specs.{Format.first_place, declared.level.Level.{Level, TheVariants.{L, M, Q, H}}}
-use Rattle.qr_matrix.{proofs.Facts.colour-square, specs.{BitRow.has_bit, Grid.Grid}}
+use Rattle.qr_layout.{proofs.Facts.{below, below-at, format-first}, specs.Format.{word_remainder, format_with, five_bits, level_bits, format_word_of}}
+use Rattle.{qr_layout.specs.declared.level.Level.Level, qr_matrix.{proofs.Facts.colour-square, specs.{BitRow.has_bit, Grid.Grid}}}
 use Rattle.qr_symbol.specs.{Reading.IsFormat, Symbol.{colour_of, grid_of}}
-use Rattle.std.proofs.Common.{◌≡◌, ℕ, ◌/◌, ◌^◌, ◌<◌, ◌≤◌, Bool, true, eqb, ltb, List, refl, sym, ◌∙◌, ap, arith}
-use Rattle.std.proofs.lemmas.{Bool.{eqb-true, Decides.nat_tests}, Nat.Bits.{same_from_bits_below, bit_at-lt}}
+use Rattle.std.proofs.{Common.{◌≡◌, ℕ, ◌/◌, ◌^◌, ◌<◌, ◌≤◌, Bool, true, eqb, ltb, List, refl, sym, ◌∙◌, ap, arith}, lemmas.Bool.{eqb-true, Decides.nat_tests}}
+use Rattle.std.{proofs.lemmas.Nat.Bits.{same_from_bits_below, bit_at-lt}, specs.Prelude.bit_xor}
+use borrow.Author.Tests.{ltb-true}
 
 -- the test that the word of format information contains its five data bits
 gives-back : ℕ → Bool
@@ -28,16 +26,11 @@ all-short = refl
 
 -- the bits of a level are a number of at most 3
 pub level-small : (l : Level) → level_bits l ≤ 3
-level-small L = omega arith
-level-small l = omega arith
+level-small l = grind arith
 
 -- different levels have different bits
 pub level-one : (l k : Level) → level_bits l ≡ level_bits k → l ≡ k
-level-one L L e = refl
-level-one M M e = refl
-level-one Q Q e = refl
-level-one H H e = refl
-level-one l k e = absurd (omega arith)
+level-one l k e = grind arith
 
 -- the word of a level and a mask has at most 15 bits
 short : (l : Level) (mask : ℕ) → mask < 8 → format_word_of l mask < 2 ^ 15
@@ -58,11 +51,7 @@ format-one g l k m n h j =
     let five : five_bits l m ≡ five_bits k n = sym (back l m p) ∙ (ap (λ (z : ℕ). bit_xor z 0x5412 / 1024) (same_from_bits_below 15 a b (short l m p) (short k n q) (search (arith, nat_tests, bit_at-lt))) ∙ back k n q) in
     (level-one l k (omega arith), omega arith)
 
--- the places of the first copy are in the first 15 rows
-first-row : (i : ℕ) → i < 15 → (first_place i).row < 15
-first-row i l = search arith
-
 -- a drawn symbol has the format information of its level and mask
 pub format-read : (v : ℕ) (l : Level) (mask : ℕ) (cw : List ℕ) → 1 ≤ v → v ≤ 40 → mask < 8 → IsFormat (grid_of v l mask cw) l mask
 unfolding colour_of
-format-read v l mask cw p q h = grind (arith, first-row, colour-square, format-first)
+format-read v l mask cw p q h = search (arith, colour-square, format-first)

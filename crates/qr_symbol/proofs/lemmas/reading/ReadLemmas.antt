@@ -1,16 +1,15 @@
 -- What is read from the square of a symbol: the codeword bits, the codewords and the message.
 use Rattle.qr_bits.{proofs.Facts.{length-field, length-bits_of, bits_at, bytes-takes}, specs.{Bits.{field, bits_of, codeword_bit}, Parsing.bytes_of}}
-use Rattle.qr_layout.proofs.Facts.{order-mem, order-length, index-at, only-order, to_come-start, region-role}
-use Rattle.qr_layout.specs.{Blocks.data_codewords_of, Order.IsOrder, Steps.Order.{to_come, first_cursor}}
-use Rattle.qr_layout.specs.{Version.total_codewords_of, declared.{level.Level.Level, region.Place.Place}}
+use Rattle.qr_layout.{proofs.Facts.{order-mem, order-length, index-at, only-order, to_come-start, region-role}, specs.{Blocks.data_codewords_of, Order.IsOrder}}
+use Rattle.qr_layout.specs.{Steps.Order.{to_come, first_cursor}, Version.total_codewords_of, declared.{level.Level.Level, region.Place.Place}}
 use Rattle.qr_matrix.{proofs.Facts.colour-square, specs.Grid.Grid}
 use Rattle.qr_symbol.proofs.lemmas.interleaving.MessageLemmas.{append-front, data-one, data-sizes-whole}
-use Rattle.qr_symbol.proofs.lemmas.placement.PlacementLemmas.{in-square, whole-push, Mem-mid}
-use Rattle.qr_symbol.specs.{Interleaving.IsInterleaved, Mask.{inverts, inverted}, Reading.{unmasked, read_bits, IsRead, IsMessage}, Symbol.{colour_of, grid_of}}
+use Rattle.qr_symbol.{proofs.lemmas.placement.PlacementLemmas.{in-square, whole-push, Mem-mid}, specs.{Interleaving.IsInterleaved, Mask.{inverts, inverted}}}
+use Rattle.qr_symbol.specs.{Reading.{unmasked, read_bits, IsRead, IsMessage}, Symbol.{colour_of, grid_of}}
 use Rattle.std.proofs.Common.{◌≡◌, ℕ, zero, suc, ◌+◌, ◌-◌, ◌*◌, ◌<◌, ◌≤◌, Bool, false, List, [], ◌∷◌, ◌++◌, map, take, drop, length, replicate, refl, sym, ◌∙◌, ap, subst, length-append, inl, inr, arith}
 use Rattle.std.proofs.{Math.Seq.{drop-cons, take-length}, lemmas.Bool.{cases_lt, Decides.nat_tests}}
-use Rattle.std.proofs.lemmas.List.{append-nil, length-map, length-take, length-replicate}
-use Rattle.std.{proofs.lemmas.Nat.Bits.{same_from_bits_below, bit_at-lt}, specs.{Int.bit_at, List.All}}
+use Rattle.std.{proofs.lemmas.{List.{append-nil, length-map, length-take, length-replicate}, Nat.Bits.{same_from_bits_below, bit_at-lt}}, specs.Int.bit_at}
+use Rattle.std.specs.List.{All}
 
 -- a bit that is inverted twice is unchanged
 inverted-twice : (b x : Bool) → inverted b (inverted b x) ≡ x

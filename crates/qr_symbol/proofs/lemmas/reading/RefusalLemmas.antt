@@ -1,11 +1,9 @@
 -- A square is read as one content, or is refused for one reason.
-use Rattle.qr_bits.specs.{Bits.bits_of, Parsing.Content, declared.fault.ParseFault.ParseFault}
-use Rattle.{qr_layout.specs.declared.level.Level.Level, qr_matrix.specs.Grid.Grid}
-use Rattle.qr_symbol.proofs.lemmas.reading.{FormatLemmas.format-one, ReadLemmas.message-one}
-use Rattle.qr_symbol.specs.Reading.{IsFormat, IsMessage, IsReading, IsOfVersion, IsParsedAs, IsUnread}
+use Rattle.{qr_bits.specs.{Bits.bits_of, Parsing.Content, declared.fault.ParseFault.ParseFault}, qr_layout.specs.declared.level.Level.Level}
+use Rattle.{qr_matrix.specs.Grid.Grid, qr_symbol.proofs.lemmas.reading.{FormatLemmas.format-one, ReadLemmas.message-one}}
+use Rattle.qr_symbol.specs.{Reading.{IsFormat, IsMessage, IsReading, IsOfVersion, IsParsedAs, IsUnread}, declared.fault.ReadFault.ReadFault}
+use Rattle.std.{proofs.Common.{◌≡◌, ℕ, List, refl, inl, inr, sym, ◌⊎◌, arith}, specs.Prelude.{◌↔◌, MatchResult, Result, Ok, Err}}
 use Rattle.qr_symbol.specs.declared.fault.ReadFault.TheVariants as fault
-use Rattle.{qr_symbol.specs.declared.fault.ReadFault.ReadFault, std.specs.Prelude.{◌↔◌, MatchResult, Result, Ok, Err}}
-use Rattle.std.proofs.Common.{◌≡◌, ℕ, List, refl, inl, inr, sym, ◌⊎◌, arith}
 
 -- two faults are equal, or one of them is lack of memory
 abbrev pub IsOneFault : ReadFault → ReadFault → Type 0

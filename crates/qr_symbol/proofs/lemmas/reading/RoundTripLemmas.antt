@@ -1,13 +1,12 @@
 -- A symbol is read as its input.
-use Rattle.qr_bits.specs.{declared.interpretation.Interpretation.Interpretation, Interpretation.MayWrite}
-use Rattle.qr_bits.{proofs.Facts.{data-again, least-meant, length-data}, specs.{Bits.bits_of, Parsing.{Content, parse}, declared.stream.Header.Header}}
-use Rattle.{qr_bits.specs.declared.modes.Rule.Rule, qr_layout.specs.declared.{blocks.Blocks.Blocks, level.Level.Level}}
-use Rattle.{qr_matrix.specs.Grid.Grid, qr_symbol.proofs.lemmas.interleaving.MessageLemmas.final-whole}
-use Rattle.qr_symbol.proofs.lemmas.reading.{FormatLemmas.{format-one, format-read}, ReadLemmas.{message-read, message-one}}
-use Rattle.qr_symbol.specs.{Encoding.IsSymbolAt, Interleaving.{check_at, IsFinalMessage}}
-use Rattle.{qr_symbol.specs.Reading.{interpreted_content, IsFormat, IsMessage, IsReading}, std.specs.{List.All, Prelude.Option}}
-use Rattle.std.proofs.Common.{◌≡◌, ℕ, ◌<◌, ◌≤◌, List, get_or, Ok, sym, ap, subst, ◌∙◌, arith}
-use Rattle.std.proofs.{Math.ListN.get_or-eq_default, lemmas.{List.Elements.{All-append, All-map}}}
+use Rattle.qr_bits.{proofs.Facts.{data-again, least-meant, length-data}, specs.{Bits.bits_of, Interpretation.MayWrite, Parsing.{Content, parse}}}
+use Rattle.qr_bits.specs.declared.{interpretation.Interpretation.Interpretation, modes.Rule.Rule, stream.Header.Header}
+use Rattle.{qr_layout.specs.declared.{blocks.Blocks.Blocks, level.Level.Level}, qr_matrix.specs.Grid.Grid}
+use Rattle.qr_symbol.proofs.lemmas.{interleaving.MessageLemmas.final-whole, reading.FormatLemmas.{format-one, format-read}}
+use Rattle.qr_symbol.{proofs.lemmas.reading.ReadLemmas.{message-read, message-one}, specs.{Encoding.IsSymbolAt, Interleaving.{check_at, IsFinalMessage}}}
+use Rattle.qr_symbol.specs.Reading.{interpreted_content, IsFormat, IsMessage, IsReading}
+use Rattle.std.proofs.{Common.{◌≡◌, ℕ, ◌<◌, ◌≤◌, List, get_or, Ok, sym, ap, subst, ◌∙◌, arith}, Math.ListN.get_or-eq_default}
+use Rattle.std.{proofs.lemmas.List.Elements.{All-append, All-map}, specs.{List.All, Prelude.Option}}
 
 -- an item of a list of bytes, or 0 after its end, is a byte
 byte-at : (xs : List ℕ) (k : ℕ) → All (λ x. x < 256) xs → get_or xs k 0 < 256

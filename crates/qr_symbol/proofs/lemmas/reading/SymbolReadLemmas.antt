@@ -1,19 +1,17 @@
 -- The codewords that the bits of all modules form, and the codewords of a square under a mask pattern.
-use borrow.Author.Tests.{ltb-true}
-use Rattle.qr_bits.proofs.Facts.{fault-read, length-field, length-bits_of}
-use Rattle.qr_bits.specs.{Bits.{field, bits_of}, Parsing.{parse, Content, IsResultOf}, declared.fault.ParseFault.ParseFault}
-use Rattle.qr_bits.specs.declared.fault.ParseFault.TheVariants as unparsed
-use Rattle.qr_layout.proofs.Facts.{Mem, col-in, order-length, order-mem, row-in, below, below-at}
+use Rattle.qr_bits.{proofs.Facts.{fault-read, length-field, length-bits_of}, specs.{Bits.{field, bits_of}, Parsing.{parse, Content, IsResultOf}}}
+use Rattle.{qr_bits.specs.declared.fault.ParseFault.ParseFault, qr_layout.proofs.Facts.{Mem, col-in, order-length, order-mem, row-in, below, below-at}}
 use Rattle.qr_layout.specs.{Blocks.data_codewords_of, Order.IsOrder, Region.is_in_region, Version.{side_of, total_codewords_of, remainder_bits_of}}
-use Rattle.{qr_layout.specs.declared.{level.Level.Level, region.Place.Place}, std.specs.{List.All, Prelude.{Err, Ok}}}
-use Rattle.qr_matrix.{proofs.Facts.{colour-square, colour-transposed}, specs.Grid.{Grid, colour, square, transposed}}
-use Rattle.qr_symbol.proofs.lemmas.{interleaving.MessageLemmas.append-front, placement.PlacementLemmas.at, reading.ReadLemmas.read-one}
-use Rattle.qr_symbol.specs.{Fault.unread_for, Interleaving.IsInterleaved, Mask.{inverts, inverted}}
-use Rattle.qr_symbol.specs.declared.fault.ReadFault.TheVariants as fault
-use Rattle.qr_symbol.specs.Reading.{unmasked, IsRead, IsReadUnmasked, IsMessage, IsFormat, IsOfVersion, IsReading, IsUnread}
+use Rattle.{qr_layout.specs.declared.{level.Level.Level, region.Place.Place}, qr_matrix.proofs.Facts.{colour-square, colour-transposed}}
+use Rattle.{qr_matrix.specs.Grid.{Grid, colour, square, transposed}, qr_symbol.proofs.lemmas.interleaving.MessageLemmas.append-front}
+use Rattle.qr_symbol.{proofs.lemmas.{placement.PlacementLemmas.at, reading.ReadLemmas.read-one}, specs.{Fault.unread_for, Interleaving.IsInterleaved}}
+use Rattle.qr_symbol.specs.{Mask.{inverts, inverted}, Reading.{unmasked, IsRead, IsReadUnmasked, IsMessage, IsFormat, IsOfVersion, IsReading, IsUnread}}
 use Rattle.qr_symbol.specs.{Steps.{Collecting.colour_across, Placement.region_grid}, declared.fault.ReadFault.ReadFault}
 use Rattle.std.proofs.Common.{◌≡◌, ℕ, suc, ◌+◌, ◌-◌, ◌*◌, ◌<◌, ◌≤◌, Bool, true, ◌&&◌, ltb, List, ◌∷◌, ◌++◌, map, take, length, sym, ◌∙◌, ap, refl, subst, length-append, inl, inr, ◌⊎◌, arith}
-use Rattle.std.proofs.lemmas.List.{append-nil, length-map, length-take, map-append, take-append-drop}
+use Rattle.std.{proofs.lemmas.List.{append-nil, length-map, length-take, map-append, take-append-drop}, specs.{List.All, Prelude.{Err, Ok}}}
+use borrow.Author.Tests.{ltb-true}
+use Rattle.qr_bits.specs.declared.fault.ParseFault.TheVariants as unparsed
+use Rattle.qr_symbol.specs.declared.fault.ReadFault.TheVariants as fault
 
 -- each of the forty versions has fewer than eight remainder bits, computed
 remainder-small : below 40 (λ i. ltb (remainder_bits_of (i + 1)) 8) ≡ true

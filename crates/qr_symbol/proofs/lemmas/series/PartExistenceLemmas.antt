@@ -1,12 +1,11 @@
 -- Every input has parts: it is decidable whether a prefix fits, so there is a longest one. Inputs that are too long have no series.
-use Rattle.qr_bits.proofs.Facts.{CoversInTurn, assignment-length, empty-fits, from-turn, in-turn}
-use Rattle.qr_bits.specs.{Padding.room_of, Segmentation.{bits, runs_of, Covers, IsAssignment, HasFit, IsLongestFit}, declared.modes.{Mode.Mode, Rule.Rule}}
-use Rattle.qr_symbol.proofs.lemmas.{series.PartLemmas.{one-fits, needs-parts, parts-long}, version_choice.FitLemmas.version-short}
+use Rattle.qr_bits.{proofs.Facts.{CoversInTurn, assignment-length, empty-fits, from-turn, in-turn}, specs.Interpretation.{characters_in, doubled, MayWrite}}
+use Rattle.qr_bits.specs.{Modes.may_use, Padding.room_of, Segmentation.{bits, runs_of, Covers, IsAssignment, HasFit, IsLongestFit}}
+use Rattle.qr_bits.specs.declared.{interpretation.Interpretation.Interpretation, modes.Mode.{Mode, TheVariants.{Numeric, Alphanumeric, Byte, Kanji}}}
+use Rattle.{qr_bits.specs.declared.{modes.Rule.Rule, segmentation.Segment.Segment}, qr_layout.specs.declared.level.Level.Level}
+use Rattle.qr_symbol.proofs.lemmas.{series.PartLemmas.{one-fits, needs-parts, parts-long}, version_choice.version-short}
 use Rattle.qr_symbol.specs.Series.{AreParts, HasNoSeries, NeedsParts}
-use Rattle.qr_bits.specs.{declared.{modes.Mode.TheVariants.{Numeric, Alphanumeric, Byte, Kanji}, interpretation.Interpretation.Interpretation}, Modes.may_use}
-use Rattle.qr_bits.specs.{Interpretation.{characters_in, doubled, MayWrite}, declared.segmentation.Segment.Segment}
-use Rattle.qr_layout.specs.declared.level.Level.{Level}
-use Rattle.std.proofs.Common.{◌≡◌, ℕ, zero, suc, ◌<◌, ◌≤◌, ◌⊎◌, Bool, true, false, List, [], ◌∷◌, length, take, drop, refl, subst, inl, inr, length-drop, arith, ◌*◌}
+use Rattle.std.proofs.Common.{◌≡◌, ℕ, zero, suc, ◌<◌, ◌≤◌, ◌⊎◌, Bool, false, List, [], ◌∷◌, length, take, drop, refl, inl, inr, length-drop, arith, ◌*◌}
 use Rattle.std.{proofs.lemmas.Bool.cases_lt, specs.Prelude.IsTrue}
 
 -- a fact is decided if it holds or does not hold
@@ -15,18 +14,11 @@ Decided A = A ⊎ (A → ⊥)
 
 -- if two facts are decided, so are both together
 both : (A B : Type 0) → Decided A → Decided B → Decided (A × B)
-both A B (inl a) (inl b) = inl (a, b)
-both A B (inl a) (inr b) = inr (λ w. b w.1)
-both A B (inr a) d = inr (λ w. a w.0)
+both A B h d = grind arith
 
 -- a test is decided
 true-or-not : (b : Bool) → Decided (IsTrue b)
-true-or-not true = inl refl
-true-or-not false = inr (λ h. cc)
-
--- it is decided whether one number is less than another
-below-or-not : (m n : ℕ) → Decided (m < n)
-below-or-not m n = search arith
+true-or-not b = grind arith
 
 -- it is decided whether one number is at most another
 most-or-not : (m n : ℕ) → Decided (m ≤ n)
@@ -37,8 +29,7 @@ in-turn-or-not : (xs : List ℕ) (segs : List Segment) → Decided (CoversInTurn
 unfolding CoversInTurn
 in-turn-or-not [] [] = inl refl
 in-turn-or-not (x ∷ xs) [] = inr (λ e. cc)
-in-turn-or-not xs (s ∷ ss) =
-    search (arith, both, below-or-not, most-or-not, true-or-not, in-turn-or-not (drop s.len xs) ss)
+in-turn-or-not xs (s ∷ ss) = search (arith, both, most-or-not, true-or-not, in-turn-or-not (drop s.len xs) ss)
 
 -- it is decided whether segments cover the bytes
 covers-or-not : (xs : List ℕ) (segs : List Segment) → Decided (Covers xs segs)
@@ -105,7 +96,7 @@ longest-to how v r xs room (suc k) l none = elim (fits-or-not how v r _ _) [
   )
   | inr q ↦ longest-to how v r xs _ k (omega arith) (λ j p i g. elim (cases_lt (suc k) j) [
     | inl s ↦ none j s i g
-    | inr s ↦ let e : j ≡ suc k = omega arith in q (subst (λ (z : ℕ). HasFit how v r (take z xs) room) e g)
+    | inr s ↦ let e : j ≡ suc k = omega arith in search arith
   ])
 ]
 
@@ -128,11 +119,11 @@ parts-there v l r how x p q = parts-to (length x) v l r how x p q (omega arith)
 -- an input of more than 16 times 7,089 bytes has no series
 pub long-refused : (x : List ℕ) (l : Level) (b : Rule) (how : Interpretation) (v : ℕ) → 1 ≤ v → v ≤ 40 → 7089 * 16 < length x → HasNoSeries v l b how x
 long-refused x l b how v i j long = record {
-  too_long = λ fits. let short = version-short v l b how x i j fits in omega arith;
+  too_long = λ fits. omega (arith, version-short v l b how x i j fits);
   too_many = search (arith, parts-long);
 }
 
 -- without kanji mode, an input that has no series needs more than 16 parts
 pub none-shorter : (x : List ℕ) (l : Level) (b : Rule) (how : Interpretation) (v : ℕ) → 1 ≤ v → v ≤ 40
     → MayWrite how x → may_use b Kanji ≡ false → HasNoSeries v l b how x → NeedsParts v l b how x 17
-none-shorter x l b how v i j may plain none qs cut = let parts = parts-there v l b how x i j in search (arith, needs-parts)
+none-shorter x l b how v i j may plain none qs cut = search (arith, needs-parts, parts-there v l b how x i j)

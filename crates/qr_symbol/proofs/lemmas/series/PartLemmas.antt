@@ -3,7 +3,7 @@ use borrow.Author.Tests.{leb-true}
 use Rattle.qr_bits.proofs.Facts.{bytes-fit, fitting-short, piece-fits}
 use Rattle.qr_bits.specs.{Modes.{may_use, count_width}, Padding.{capacity_of, room_of}, Segmentation.{HasFit, IsLongestFit}, Interpretation.interpretation_bits}
 use Rattle.qr_bits.specs.declared.{interpretation.Interpretation.{Interpretation, TheVariants.Default}, modes.{Mode.TheVariants.{Byte, Kanji}, Rule.Rule}}
-use Rattle.qr_symbol.{proofs.lemmas.version_choice.FitLemmas.interpretation-most, specs.Series.{AreParts, FitParts, NeedsParts, IsSymbolOf, AreSymbolsFrom}}
+use Rattle.qr_symbol.{proofs.lemmas.version_choice.interpretation-most, specs.Series.{AreParts, FitParts, NeedsParts, IsSymbolOf, AreSymbolsFrom}}
 use Rattle.qr_layout.{proofs.Facts.{every, every-at}, specs.{Version.total_codewords_of, declared.level.Level.Level}}
 use Rattle.qr_layout.specs.Blocks.{block_count_of, correction_len_of, data_codewords_of}
 use Rattle.qr_symbol.specs.{Steps.Series.{AreLengths, parts_of}, declared.symbol.Symbol.Symbol}
@@ -44,13 +44,12 @@ part-least v l b x p ps i j h =
           let whole = cut.longest (length x) (omega arith) (subst (λ ys. HasFit Default v b ys (room_of v l Default)) (sym (take-length x)) (few-fit v l b Default x i j (omega arith))) in
           inr (h.3 ∙ (ap (λ k. take k x) (omega arith) ∙ take-length x))
       | inr long ↦
-          let front = length-take 5 x in
-          inl (omega (arith, (length-take h.0 x), (ap length h.3), (cut.longest 5 (omega arith) (few-fit v l b Default _ i j (omega (arith, front))))))
+          inl (omega (arith, (length-take h.0 x), (ap length h.3), (cut.longest 5 (omega arith) (few-fit v l b Default _ i j (omega (arith, (length-take 5 x)))))))
     ]
 
 -- bytes that fit after a header are at most 7,089
 pub part-short : (v : ℕ) (l : Level) (b : Rule) (how : Interpretation) (xs : List ℕ) → 1 ≤ v → v ≤ 40 → HasFit how v b xs (room_of v l how) → length xs ≤ 7089
-part-short v l b how xs p q fit = fitting-short how v l b xs p q (fit.0, fit.1, (let few = fit.2 in omega arith))
+part-short v l b how xs p q fit = fitting-short how v l b xs p q (fit.0, fit.1, (omega arith))
 
 -- a prefix of a prefix is a prefix of the whole list
 take-less : {X : Type 0} (k m : ℕ) (xs : List X) → k ≤ m → take k (take m xs) ≡ take k xs
@@ -60,7 +59,6 @@ take-less k m xs h = search arith
 -- to find the longest prefix that fits, the first 7,089 bytes are enough
 pub longest-cut : (v : ℕ) (l : Level) (b : Rule) (how : Interpretation) (xs : List ℕ) (m n : ℕ) → 1 ≤ v → v ≤ 40 → min (length xs) 7089 ≤ m → IsLongestFit how v b (take m xs) (room_of v l how) n → IsLongestFit how v b xs (room_of v l how) n
 longest-cut v l b how xs m n p q long h =
-    let room = room_of v l how in
     let cut = length-take m xs in record {
       inside = omega arith;
       fits = search (arith, take-less);
@@ -99,8 +97,7 @@ lengths-more v l b how whole found rest n some fit all ns h = rw append_assoc (a
 -- there is only one length of the longest prefix
 longest-one : (how : Interpretation) (v : ℕ) (b : Rule) (xs : List ℕ) (room m n : ℕ) → IsLongestFit how v b xs room m → IsLongestFit how v b xs room n → m ≡ n
 longest-one how v b xs room m n h k =
-    let below = k.longest m h.inside h.fits in
-    let above = h.longest n k.inside k.fits in omega arith
+    let above = h.longest n k.inside k.fits in omega (arith, k.longest m h.inside h.fits)
 
 -- bytes have only one list of parts
 pub parts-one : (v : ℕ) (l : Level) (b : Rule) (how : Interpretation) (x : List ℕ) (ps qs : List (List ℕ)) → AreParts v l b how x ps → AreParts v l b how x qs → ps ≡ qs
@@ -110,7 +107,7 @@ parts-one v l b how x [] (q ∷ qs) h k = search arith
 parts-one v l b how x (p ∷ ps) [] h k = search arith
 parts-one v l b how x (p ∷ ps) (q ∷ qs) h k =
     let same = longest-one how v b x _ h.0 k.0 h.2 k.2 in
-    λ i. (h.3 ∙ (ap (λ (n : ℕ). take n x) same ∙ sym k.3)) i ∷ (parts-one v l b how (drop k.0 x) ps qs (subst (λ (n : ℕ). AreParts v l b how (drop n x) ps) same h.4) k.4) i
+    λ i. (h.3 ∙ (ap (λ (n : ℕ). take n x) same ∙ sym k.3)) i ∷ (parts-one v l b how (drop k.0 x) ps qs (search arith) k.4) i
 
 -- an input with a byte has at least one part
 pub parts-some : (v : ℕ) (l : Level) (b : Rule) (how : Interpretation) (x : List ℕ) (ps : List (List ℕ)) → AreParts v l b how x ps → 0 < length x → 0 < length ps
@@ -153,10 +150,9 @@ pub needs-more : (v : ℕ) (l : Level) (b : Rule) (how : Interpretation) (x : Li
 needs-more v l b how x n k plain some fit needs [] cut = absurd (omega (arith, ap length cut.0))
 needs-more v l b how x n k plain some fit needs (p ∷ ps) cut =
     let fits = λ (q : List ℕ). HasFit how v b q (room_of v l how) in
-    let front : take (length p) x ≡ p = rw cut.0 (take-append_seam p _) in
     let within : length p ≤ length x = omega (arith, ap length cut.0, length-append p (concat ps)) in
     let r = rest-parts v l b how _ ps plain (All-tail fits p ps cut.1) in
-    let left : drop n x ≡ concat r.0 = ap (λ (ys : List ℕ). drop n ys) cut.0 ∙ (behind-all n p _ (fit.longest (length p) within (subst fits (sym front) (All-head fits p ps cut.1))) ∙ r.1.0) in
+    let left : drop n x ≡ concat r.0 = ap (λ (ys : List ℕ). drop n ys) cut.0 ∙ (behind-all n p _ (fit.longest (length p) within (subst fits (sym (rw cut.0 (take-append_seam p _))) (All-head fits p ps cut.1))) ∙ r.1.0) in
     omega (arith, r.2)
 
 -- if the parts of the rest after the longest prefix are at least k, those of the bytes are at least k + 1
@@ -166,7 +162,7 @@ pub prefixes-more : (v : ℕ) (l : Level) (b : Rule) (how : Interpretation) (x :
 unfolding AreParts
 prefixes-more v l b how x n k some fit many [] h = absurd (omega (arith, ap length h))
 prefixes-more v l b how x n k some fit many (p ∷ ps) h =
-    let more = many ps (subst (λ (m : ℕ). AreParts v l b how (drop m x) ps) (longest-one how v b x _ h.0 n h.2 fit) h.4) in omega arith
+    omega (arith, many ps (subst (λ (m : ℕ). AreParts v l b how (drop m x) ps) (longest-one how v b x _ h.0 n h.2 fit) h.4))
 
 -- an input with a byte needs at least one part
 pub needs-some : (v : ℕ) (l : Level) (b : Rule) (how : Interpretation) (x : List ℕ) → 0 < length x → NeedsParts v l b how x 1
@@ -178,12 +174,12 @@ pub needs-parts : (v : ℕ) (l : Level) (b : Rule) (how : Interpretation) (x : L
 unfolding AreParts
 needs-parts v l b how x [] plain h qs cut = omega arith
 needs-parts v l b how x (p ∷ ps) plain h qs cut =
-    let more = needs-more v l b how x h.0 (length ps) plain (omega arith) h.2 (needs-parts v l b how (drop h.0 x) ps plain h.4) qs cut in omega arith
+    omega (arith, needs-more v l b how x h.0 (length ps) plain (omega arith) h.2 (needs-parts v l b how (drop h.0 x) ps plain h.4) qs cut)
 
 -- the parts of bytes are parts that fit
 pub parts-fit : (v : ℕ) (l : Level) (b : Rule) (how : Interpretation) (x : List ℕ) (ps : List (List ℕ)) → AreParts v l b how x ps → FitParts v l b how x ps
 unfolding AreParts
-parts-fit v l b how x [] h = (h, All-nil (λ q. HasFit how v b q (room_of v l how)))
+parts-fit v l b how x [] h = search (arith, All-nil)
 parts-fit v l b how x (p ∷ ps) h =
     let fits = λ (q : List ℕ). HasFit how v b q (room_of v l how) in let rest = parts-fit v l b how (drop h.0 x) ps h.4 in
     (sym (rw (h.3, ← rest.0) (take-append-drop h.0 x)), All-cons fits p ps (subst fits (sym h.3) h.2.fits) rest.1)

@@ -1,15 +1,14 @@
 -- An input has only one series, which is read as the input; long inputs have no series.
-use Rattle.qr_bits.specs.{declared.interpretation.Interpretation.Interpretation, Interpretation.MayWrite}
-use Rattle.qr_symbol.proofs.lemmas.{version_choice.FitLemmas.version-short, encoding.SymbolMakingLemmas.symbol-at-one, reading.RoundTripLemmas.symbol-read}
-use Rattle.qr_bits.{proofs.Facts.{empty-fits, least-meant, may_write-drop, may_write-take}, specs.{Header.parity_of, Parsing.Content}}
-use Rattle.{qr_bits.specs.declared.{stream.Header.Header, modes.Rule.Rule}, qr_layout.specs.declared.level.Level.Level}
-use Rattle.qr_matrix.specs.Grid.{Grid}
-use Rattle.qr_symbol.proofs.lemmas.series.PartLemmas.{parts-are, length-parts, parts-one, parts-some, parts-long}
+use Rattle.qr_bits.{proofs.Facts.{empty-fits, least-meant, may_write-drop, may_write-take}, specs.{Header.parity_of, Interpretation.MayWrite, Parsing.Content}}
+use Rattle.qr_bits.specs.declared.{interpretation.Interpretation.Interpretation, modes.Rule.Rule, stream.Header.Header}
+use Rattle.{qr_layout.specs.declared.level.Level.Level, qr_matrix.specs.Grid.Grid, qr_symbol.proofs.lemmas.encoding.symbol-at-one}
+use Rattle.qr_symbol.proofs.lemmas.{reading.RoundTripLemmas.symbol-read, series.PartLemmas.{parts-are, length-parts, parts-one, parts-some, parts-long}}
+use Rattle.qr_symbol.{proofs.lemmas.version_choice.version-short, specs.Encoding.IsSymbolAt}
 use Rattle.qr_symbol.specs.{Joining.{AreInterpreted, AreReadBy, bytes_of_all, HaveHeaders, IsJoined}, Reading.{interpreted_content, IsInterpreted, IsReading}}
-use Rattle.qr_symbol.specs.{Series.{squares_of, AreParts, IsSymbolOf, AreSymbolsFrom, IsSplit, IsPlainSymbol, IsSeries}, Encoding.IsSymbolAt}
-use Rattle.{qr_symbol.specs.Steps.Series.{AreLengths, parts_of}, std.proofs.lemmas.List.{Elements.{All-cons, All-nil}, append-nil, take-append-drop}}
+use Rattle.qr_symbol.specs.{Series.{squares_of, AreParts, IsSymbolOf, AreSymbolsFrom, IsSplit, IsPlainSymbol, IsSeries}, Steps.Series.{AreLengths, parts_of}}
 use Rattle.qr_symbol.specs.{VersionChoice.{FitsVersion, HasNoVersion}, declared.symbol.Symbol.Symbol}
 use Rattle.std.proofs.Common.{◌≡◌, ℕ, suc, ◌+◌, ◌-◌, ◌*◌, ◌<◌, ◌≤◌, List, [], ◌∷◌, length, drop, None, Some, Option, refl, sym, ap, subst, arith, inl, inr}
+use Rattle.std.proofs.lemmas.List.{append-nil, take-append-drop, Elements.{All-cons, All-nil}}
 
 -- ---- what makes a series
 

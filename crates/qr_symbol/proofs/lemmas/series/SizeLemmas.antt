@@ -1,11 +1,10 @@
 -- The number of symbols of a series, and their side.
-use Rattle.std.proofs.Common.{◌≡◌, ℕ, ◌+◌, ◌<◌, ◌≤◌, inl, inr, false, List, [], ◌∷◌, length, refl, sym, subst, arith}
-use Rattle.std.{proofs.lemmas.List.Elements.All-nil, specs.List.All}
-use Rattle.qr_layout.specs.{Version.side_of, declared.level.Level.Level}
-use Rattle.qr_bits.{proofs.Facts.empty-fits, specs.Modes.may_use}
-use Rattle.qr_bits.specs.{declared.{interpretation.Interpretation.Interpretation, modes.{Mode.TheVariants.Kanji, Rule.Rule}}, Interpretation.MayWrite}
-use Rattle.qr_symbol.proofs.lemmas.series.PartLemmas.{needs-some, needs-parts}
-use Rattle.qr_symbol.specs.{Series.{squares_of, AreParts, NeedsParts, AreSymbolsFrom, IsSeries}, VersionChoice.FitsVersion, declared.symbol.Symbol.Symbol}
+use Rattle.qr_bits.{proofs.Facts.empty-fits, specs.{Interpretation.MayWrite, Modes.may_use, declared.interpretation.Interpretation.Interpretation}}
+use Rattle.{qr_bits.specs.declared.modes.{Mode.TheVariants.Kanji, Rule.Rule}, qr_layout.specs.{Version.side_of, declared.level.Level.Level}}
+use Rattle.qr_symbol.{proofs.lemmas.series.PartLemmas.{needs-some, needs-parts}, specs.Series.{squares_of, AreParts, NeedsParts, AreSymbolsFrom, IsSeries}}
+use Rattle.qr_symbol.specs.{VersionChoice.FitsVersion, declared.symbol.Symbol.Symbol}
+use Rattle.std.proofs.{Common.{◌≡◌, ℕ, ◌+◌, ◌<◌, ◌≤◌, inl, inr, false, List, [], ◌∷◌, length, refl, sym, subst, arith}, lemmas.List.Elements.All-nil}
+use Rattle.std.specs.List.{All}
 
 -- there are as many symbols as parts
 pub symbols-many : (v : ℕ) (l : Level) (b : Rule) (how : Interpretation) (last parity k : ℕ) (ps : List (List ℕ)) (ss : List Symbol) → AreSymbolsFrom v l b how last parity k ps ss → length ss ≡ length ps
@@ -31,13 +30,11 @@ parts-some x l b how v (p ∷ ps) long h = omega arith
 
 -- a series has at least one symbol
 pub series-some : (x : List ℕ) (l : Level) (b : Rule) (how : Interpretation) (v : ℕ) (ss : List Symbol) → IsSeries v l b how x ss → 0 < length ss
-series-some x l b how v ss (inl h) = search arith
-series-some x l b how v ss (inr h) = search (arith, parts-some, symbols-many)
+series-some x l b how v ss h = grind (arith, parts-some, symbols-many)
 
 -- a series has at most 16 symbols
 pub series-few : (x : List ℕ) (l : Level) (b : Rule) (how : Interpretation) (v : ℕ) (ss : List Symbol) → IsSeries v l b how x ss → length ss ≤ 16
-series-few x l b how v ss (inl h) = search arith
-series-few x l b how v ss (inr h) = search (arith, symbols-many)
+series-few x l b how v ss h = grind (arith, symbols-many)
 
 -- without kanji mode, bytes need as many parts as their series has symbols
 pub series-shortest : (x : List ℕ) (l : Level) (b : Rule) (how : Interpretation) (v : ℕ) (ss : List Symbol) → MayWrite how x → may_use b Kanji ≡ false → 0 < length x → IsSeries v l b how x ss → NeedsParts v l b how x (length ss)
@@ -46,5 +43,4 @@ series-shortest x l b how v ss may plain some (inr h) = search (arith, symbols-m
 
 -- the symbols of a series have the side of their version
 pub series-side : (x : List ℕ) (l : Level) (b : Rule) (how : Interpretation) (v : ℕ) (ss : List Symbol) → IsSeries v l b how x ss → All (λ g. g.side ≡ side_of v) (squares_of ss)
-series-side x l b how v ss (inl h) = search arith
-series-side x l b how v ss (inr h) = symbols-side v l b how _ _ 0 h.parts ss h.made
+series-side x l b how v ss h = grind (arith, symbols-side)

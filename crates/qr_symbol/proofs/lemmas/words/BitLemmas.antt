@@ -1,7 +1,6 @@
 -- Bits of codewords, and of words that hold several codewords.
-use Rattle.{qr_bits.specs.Bits.codeword_bit, qr_matrix.proofs.Facts.{has_bit-or, has_bit-shr, low-bits, shl-bit, unset-above}}
-use Rattle.qr_matrix.specs.BitRow.{has_bit}
-use Rattle.std.proofs.Common.{◌≡◌, ℕ, zero, suc, ◌+◌, ◌-◌, ◌*◌, ◌/◌, ◌%◌, ◌^◌, ◌<◌, ◌≤◌, Bool, true, false, cond, nat_eq, bit_and, eqb, leb, ◌&&◌, ◌||◌, List, get_or, ap, ◌∙◌, inl, inr, bit_or, arith}
+use Rattle.{qr_bits.specs.Bits.codeword_bit, qr_matrix.{proofs.Facts.{has_bit-or, has_bit-shr, low-bits, shl-bit, unset-above}, specs.BitRow.has_bit}}
+use Rattle.std.proofs.Common.{◌≡◌, ℕ, zero, suc, ◌+◌, ◌-◌, ◌*◌, ◌/◌, ◌%◌, ◌^◌, ◌<◌, ◌≤◌, Bool, false, cond, nat_eq, bit_and, eqb, leb, ◌&&◌, ◌||◌, List, get_or, ap, ◌∙◌, inl, inr, bit_or, arith}
 use Rattle.std.proofs.{Math.Pow.pow_mono, lemmas.{Bool.{cases_lt, Decides.nat_tests}, Nat.{pow-add, Bits.{bit_at_cat_low, bit_at_cat_high, shr_and_one}}}}
 
 -- a bit of a word is tested by a shift
@@ -53,7 +52,7 @@ codewords-fits n w b l m = let e : 8 * (n + 1) ≡ 8 * n + 8 = omega arith in se
 
 -- a word of fewer than eight codewords has room for one more in 64 bits
 pub codewords-room : (n w : ℕ) → n < 8 → w < 2 ^ (8 * n) → w < 2 ^ 56
-codewords-room n w l m = let h : 8 * n ≤ 56 = omega arith in let k : 2 ^ (8 * n) ≤ 2 ^ 56 = pow_mono h in omega arith
+codewords-room n w l m = let h : 8 * n ≤ 56 = omega arith in omega (arith, pow_mono h)
 
 -- the bits from bit s on of a word of codewords and of the codeword after it
 pub next-bit : (cw : List ℕ) (p s w b k : ℕ) → s < 8 → k < 64 → b ≡ get_or cw (p + 8) 0 → b < 256
@@ -66,7 +65,6 @@ next-bit cw p s w b k few l is small held =
     let low : has_bit (b / 2 ^ (8 - s)) i ≡ has_bit b (i + (8 - s)) = has_bit-shr b (8 - s) i in
     has_bit-or (w * 2 ^ s % 2 ^ 64) (b / 2 ^ (8 - s)) i ∙ (ap (λ z. z || has_bit (b / 2 ^ (8 - s)) i) high ∙ (ap (λ z. leb s i && has_bit w (i - s) || z) low ∙ elim (cases_lt (k + s) 64) [
       | inl m ↦
-          let t : leb s i ≡ true = grind (arith, nat_tests) in
           let e : i - s ≡ 63 - (k + s) = omega arith in
           let none = unset-above b 8 (i + (8 - s)) small (omega arith) in
           search (arith, codeword_bit)

@@ -9,7 +9,7 @@ use Rattle.qr_symbol.specs.Steps.Words.{Appends}
 
 -- a number of w bits, and c bits after it, make a number of w + c bits
 joined-below : (w c r b : ℕ) → r < 2 ^ w → b < 2 ^ c → r * 2 ^ c + b < 2 ^ (w + c)
-joined-below w zero r b h l = let e : w + 0 ≡ w = omega arith in rw e (omega arith)
+joined-below w zero r b h l = search arith
 joined-below w (suc c) r b h l =
     let two : 2 ^ suc c ≡ 2 * 2 ^ c = omega (arith, pow-suc 2 c) in
     let whole : r * 2 ^ suc c ≡ 2 * (r * 2 ^ c) = ap (λ (z : ℕ). r * z) two ∙ omega arith in
@@ -40,8 +40,7 @@ pow-mul (suc k) =
     search (arith, pow-suc, pow-add, pow-mul k)
 
 byte-is : (i v : ℕ) → byte_at i v ≡ v / 256 ^ i % 256
-byte-is zero v = omega arith
-byte-is (suc i) v = refl
+byte-is i v = grind arith
 
 -- bytes are below 256
 bytes-small : (k v : ℕ) → All (λ x. x < 256) (bytes_high_first k v)
@@ -68,11 +67,10 @@ first-codewords : (w x : ℕ) → x < 2 ^ w → w ≤ 64 → bits_of (take (w / 
 first-codewords w x h l =
     let n = w / 8 in let k = 8 - n in let left = w % 8 in
     let e : 8 ≡ n + k = omega arith in
-    let f : 8 * k ≡ 64 - w + left = omega arith in
     let g : 8 * n + left ≡ w = omega arith in
     let v = x * 2 ^ (64 - w) in
     let cut : v / 256 ^ k ≡ x / 2 ^ left =
-    ap (λ z. v / z) (pow-mul k) ∙ (ap (λ z. v / 2 ^ z) f ∙ (sym (shr-shr v (64 - w) left) ∙ ap (λ z. z / 2 ^ left) (mul-div_cancel x (pow_pos (64 - w))))) in
+    ap (λ z. v / z) (pow-mul k) ∙ (ap (λ z. v / 2 ^ z) (omega arith) ∙ (sym (shr-shr v (64 - w) left) ∙ ap (λ z. z / 2 ^ left) (mul-div_cancel x (pow_pos (64 - w))))) in
     cc (shifted-whole w x h l, first-bytes n k v, field-cut (8 * n) left x)
 
 -- the codewords that further bits fill, and the bits after them, are the bits before and the further ones
@@ -80,15 +78,7 @@ pub codewords-joined : (xs : List ℕ) (w c r b : ℕ) → r < 2 ^ w → w < 8 �
     bits_of (xs ++ take ((w + c) / 8) (to_be_bytes w64 (x * 2 ^ (64 - (w + c)) % 18446744073709551616))) ++ field ((w + c) % 8) (x % 2 ^ ((w + c) % 8))
     ≡ (bits_of xs ++ field w r) ++ field c b
 codewords-joined xs w c r b h l m =
-    let low : b % 2 ^ c < 2 ^ c = mod-lt b (pow_pos c) in
-    let x = r * 2 ^ c + b % 2 ^ c in
-    let new = take ((w + c) / 8) (to_be_bytes w64 (x * 2 ^ (64 - (w + c)) % 18446744073709551616)) in
-    let left = field ((w + c) % 8) (x % 2 ^ ((w + c) % 8)) in
-    ap (λ z. z ++ left) (bits_of-append xs new)
-    ∙ (append_assoc (bits_of xs) (bits_of new) left
-    ∙ (ap (λ z. bits_of xs ++ z) (first-codewords (w + c) x (joined-below w c r (b % 2 ^ c) h low) (omega arith) ∙ field-join w c r (b % 2 ^ c) low)
-    ∙ (sym (append_assoc (bits_of xs) (field w r) (field c (b % 2 ^ c)))
-    ∙ ap (λ z. (bits_of xs ++ field w r) ++ z) (field-low c b))))
+    search (arith, mod-lt, pow_pos, bits_of-append, append_assoc, bits_of, first-codewords, joined-below, field-join, field-low)
 
 -- these codewords are bytes
 pub codewords-small : (ok : Bool) (xs ys bytes : List ℕ) (n v : ℕ) → bytes ≡ to_be_bytes w64 v → ys ≡ cond ok (xs ++ take n bytes) xs → All (λ x. x < 256) xs → All (λ x. x < 256) ys
@@ -99,14 +89,11 @@ codewords-small false xs ys bytes n v b e a = rw e a
 
 -- bits are added to those of a collector
 pub added : (was : Bool) (old new more : List Bool) → new ≡ old ++ more → Appends more (cond was None (Some old)) (cond was None (Some new))
-added true _ _ _ e _ i = tt
-added false _ _ more e _ i = e ∙ ap (λ zs. zs ++ more) i
+added was _ _ more e _ i = grind arith
 
 -- codewords are added, if memory for them is not refused
 pub pushed : (was failed : Bool) (old new more : List Bool) → (failed ≡ false → new ≡ old ++ more) → Appends more (cond was None (Some old)) (cond (was || failed) None (Some new))
-pushed true _ _ _ _ e _ i = tt
-pushed false true _ _ _ e _ i = tt
-pushed false false _ _ more e _ i = e refl ∙ ap (λ zs. zs ++ more) i
+pushed was failed _ _ more e _ i = grind arith
 
 -- the codewords after a push that is not refused
 pub push-made : (xs ys zs : List ℕ) (ok failed : Bool) → zs ≡ cond ok ys xs → ok ≡ not failed → failed ≡ false → zs ≡ ys

@@ -1,9 +1,8 @@
 -- Bits that are exchanged, reversed and divided between the two columns of a strip.
-use Rattle.std.proofs.Common.{◌≡◌, ℕ, ◌+◌, ◌-◌, ◌*◌, ◌/◌, ◌%◌, ◌^◌, ◌<◌, ◌≤◌, Bool, true, false, not, cond, ◌&&◌, eqb, leb, ltb, ◌||◌, bit_and, bit_or, bit_xor, refl, ◌∙◌, ap, inl, inr, arith}
-use Rattle.std.proofs.lemmas.{Bool.{cases_lt, Decides.nat_tests}}
 use Rattle.qr_matrix.proofs.Facts.{below-at, has_bit-and, has_bit-ones, has_bit-or, has_bit-shr, has_bit-xor, low-bits, shl-bit, unset-above, &&-left, &&-right}
-use Rattle.qr_matrix.specs.{BitRow.has_bit, Grid.is_same, Sums.all_below}
-use Rattle.qr_symbol.specs.Steps.Words.{are_halves, are_pairs, partner, rank_in}
+use Rattle.{qr_matrix.specs.{BitRow.has_bit, Grid.is_same, Sums.all_below}, qr_symbol.specs.Steps.Words.{are_halves, are_pairs, partner, rank_in}}
+use Rattle.std.proofs.Common.{◌≡◌, ℕ, ◌+◌, ◌-◌, ◌*◌, ◌/◌, ◌%◌, ◌^◌, ◌<◌, ◌≤◌, Bool, true, false, not, cond, ◌&&◌, eqb, leb, ltb, ◌||◌, bit_and, bit_or, bit_xor, refl, ◌∙◌, ap, inl, inr, arith}
+use Rattle.std.proofs.lemmas.Bool.{cases_lt, Decides.nat_tests}
 
 -- ---- bits that are exchanged
 
@@ -26,18 +25,14 @@ swapped a up down t u e = grind (arith, nat_tests)
 
 -- a test that passes only from s on
 from : (s i : ℕ) → leb s i ≡ true → i - s + s ≡ i
-from s i e = let l : s ≤ i = grind (arith, nat_tests) in omega arith
-
-never-both : (t l u : Bool) → (l ≡ true → (u && t) ≡ false) → (t && (l && u)) ≡ false
-never-both t l u e = grind (arith, nat_tests)
+from s i e = search (arith, nat_tests)
 
 -- after each bit of a mask was exchanged with the one s above it, a bit is the one that was at its partner's place
 pub exchanged-bit : (n s m i : ℕ) → are_pairs s m ≡ true → i < 64
     → has_bit (bit_xor (bit_xor n (bit_and (bit_xor n (n / 2 ^ s)) m)) (bit_and (bit_xor n (n / 2 ^ s)) m * 2 ^ s % 2 ^ 64)) i ≡ has_bit n (partner s m i)
 exchanged-bit n s m i e l =
-    let d = bit_and (bit_xor n (n / 2 ^ s)) m in let u = leb s i && has_bit m (i - s) in
-    let low : has_bit (d * 2 ^ s % 2 ^ 64) i ≡ (leb s i && has_bit d (i - s)) = low-bits 64 (d * 2 ^ s) i l ∙ shl-bit d s i in
-    search (arith, from, nat_tests, never-both, pairs-at, has_bit-xor, swapped, at-place, has_bit-and, has_bit-shr)
+    let d = bit_and (bit_xor n (n / 2 ^ s)) m in let low : has_bit (d * 2 ^ s % 2 ^ 64) i ≡ (leb s i && has_bit d (i - s)) = low-bits 64 (d * 2 ^ s) i l ∙ shl-bit d s i in
+    search (arith, from, nat_tests, pairs-at, has_bit-xor, swapped, at-place, has_bit-and, has_bit-shr)
 
 -- ---- the two halves
 
@@ -78,12 +73,12 @@ all-shuffled = refl
 -- five exchanges divide the bits between the two halves; a sixth one leaves them where they are
 pub unshuffled-bit : (a b c d e f : ℕ)
     → AreMoved (partner 1 0x2222222222222222) a b → AreMoved (partner 2 0xC0C0C0C0C0C0C0C) b c → AreMoved (partner 4 0xF000F000F000F0) c d → AreMoved (partner 8 0xFF000000FF00) d e → AreMoved (partner 16 0xFFFF0000) e f → AreMoved (λ i. 2 * (i % 32) + i / 32) a f
-unshuffled-bit a b c d e f p q r s t = moved-bit _ _ _ _ _ (λ i. i) _ a b c d e f f all-unshuffled p q r s t (λ i l. refl)
+unshuffled-bit a b c d e f p q r s t = search (arith, moved-bit, all-unshuffled)
 
 -- the same exchanges in the opposite order bring them back
 pub shuffled-bit : (a b c d e f : ℕ)
     → AreMoved (partner 16 0xFFFF0000) a b → AreMoved (partner 8 0xFF000000FF00) b c → AreMoved (partner 4 0xF000F000F000F0) c d → AreMoved (partner 2 0xC0C0C0C0C0C0C0C) d e → AreMoved (partner 1 0x2222222222222222) e f → AreMoved (λ i. 32 * (i % 2) + i / 2) a f
-shuffled-bit a b c d e f p q r s t = moved-bit _ _ _ _ _ (λ i. i) _ a b c d e f f all-shuffled p q r s t (λ i l. refl)
+shuffled-bit a b c d e f p q r s t = search (arith, moved-bit, all-shuffled)
 
 -- ---- bits in the other order
 
@@ -101,15 +96,7 @@ pub all-exchanged-bit : (n s m i : ℕ) → are_halves s m ≡ true → i < 64
 all-exchanged-bit n s m i e l =
     let other = halves-at s m i e l in
     let chosen = either (has_bit n i) (has_bit n (i + s)) (has_bit n (i - s)) (has_bit m i) (has_bit m (i - s)) (leb s i) other in
-    cc (
-      has_bit-and (n / 2 ^ s) m i,
-      has_bit-shr n s i,
-      low-bits 64 (bit_and n m * 2 ^ s) i l,
-      shl-bit (bit_and n m) s i,
-      has_bit-and n m (i - s),
-      has_bit-or (bit_and (n / 2 ^ s) m) (bit_and n m * 2 ^ s % 2 ^ 64) i,
-      at-place n (i + s) (i - s) i (has_bit m i) (leb s i && has_bit m (i - s)),
-    )
+    search (arith, has_bit-and, has_bit-shr, low-bits, shl-bit, has_bit-or, at-place)
 
 -- six exchanges reverse the order of the bits
 pub reversed-bit : (a b c d e f g : ℕ)
@@ -131,10 +118,7 @@ upward-bit n c i small few =
 -- those of rows that are filled downward
 pub downward-bit : (n r c i : ℕ) → n < 2 ^ 64 → c ≤ 32 → r < 2 ^ 64 → ((i : ℕ) → i < 64 → has_bit r i ≡ has_bit (n / 2 ^ (64 - 2 * c)) (63 - i)) → has_bit (r / 2 ^ (64 - 2 * c)) i ≡ (ltb i (2 * c) && has_bit n (63 - i))
 downward-bit n r c i small few fits is = has_bit-shr r (64 - 2 * c) i ∙ elim (cases_lt i (2 * c)) [
-  | inl l ↦
-      let j = i + (64 - 2 * c) in let t : ltb i (2 * c) ≡ true = grind (arith, nat_tests) in
-      let e : 63 - j + (64 - 2 * c) ≡ 63 - i = omega arith in
-      is j (omega arith) ∙ (has_bit-shr n (64 - 2 * c) (63 - j) ∙ (ap (has_bit n) e ∙ rw t refl))
+  | inl l ↦ search (arith, nat_tests, has_bit-shr)
   | inr l ↦
       let t : ltb i (2 * c) ≡ false = grind (arith, nat_tests) in
       unset-above r 64 (i + (64 - 2 * c)) fits (omega arith) ∙ rw t refl
@@ -143,7 +127,7 @@ downward-bit n r c i small few fits is = has_bit-shr r (64 - 2 * c) i ∙ elim (
 -- the bits of one of the columns, which are a half of the word
 half-bit : (n p c j k : ℕ) (up : Bool) (h b : ℕ) → c ≤ 32 → j < 32 → has_bit h k ≡ has_bit b p → has_bit b p ≡ (ltb p (2 * c) && has_bit n (cond up (64 - 2 * c + p) (63 - p)))
     → 2 * j ≤ p → p ≤ 2 * j + 1 → has_bit h k ≡ (ltb j c && has_bit n (cond up (64 - 2 * c + p) (63 - p)))
-half-bit n p c j k up h b few l e f least most = e ∙ (f ∙ ap (λ z. z && has_bit n (cond up (64 - 2 * c + p) (63 - p))) (grind (arith, nat_tests)))
+half-bit n p c j k up h b few l e f least most = search (arith, nat_tests)
 
 -- only the bits of these rows count
 same-where : (j c p q n : ℕ) → (j < c → p ≡ q) → (ltb j c && has_bit n p) ≡ (ltb j c && has_bit n q)
@@ -161,7 +145,7 @@ halves n h b c up few small whole first j = elim (cases_lt j 32) [
       let f : 2 * (j % 32) + j / 32 ≡ 2 * j = omega arith in
       let t : ltb j 32 ≡ true = grind (arith, nat_tests) in (
         has_bit-shr h 32 j ∙ half-bit n (2 * j + 1) c j (j + 32) up h b few l (whole (j + 32) (omega arith) ∙ ap (has_bit b) e) (first (2 * j + 1)) (omega arith) (omega arith),
-        has_bit-and h (2 ^ 32 - 1) j ∙ (ap (λ z. has_bit h j && z) (has_bit-ones 32 j ∙ t) ∙ (and-true (has_bit h j) ∙ half-bit n (2 * j) c j j up h b few l (whole j (omega arith) ∙ ap (has_bit b) f) (first (2 * j)) (omega arith) (omega arith))),
+        has_bit-and h (2 ^ 32 - 1) j ∙ (ap (λ z. has_bit h j && z) (has_bit-ones 32 j ∙ t) ∙ (search (arith, half-bit))),
       )
   | inr l ↦
       let t : ltb j c ≡ false = grind (arith, nat_tests) in
@@ -182,11 +166,7 @@ pub columns-bits : (n c j : ℕ) (up : Bool) (upper lower : Bool) → c ≤ 32
     → upper ≡ (ltb j c && has_bit n (cond up (64 - 2 * c + (2 * j + 1)) (63 - (2 * j + 1))))
     → lower ≡ (ltb j c && has_bit n (cond up (64 - 2 * c + 2 * j) (63 - 2 * j)))
     → (cond up upper lower ≡ (ltb j c && has_bit n (63 - 2 * rank_in c up j))) × (cond up lower upper ≡ (ltb j c && has_bit n (62 - 2 * rank_in c up j)))
-columns-bits n c j true upper lower few e f = (
-  e ∙ same-where j c _ _ n (λ l. omega arith),
-  f ∙ same-where j c _ _ n (λ l. omega arith),
-)
-columns-bits n c j false upper lower few e f = (f, e ∙ same-where j c _ _ n (λ l. omega arith))
+columns-bits n c j up upper lower few e f = grind (arith, same-where)
 
 -- ---- two words in one
 

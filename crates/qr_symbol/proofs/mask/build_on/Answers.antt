@@ -1,6 +1,5 @@
-use Rattle.std.proofs.lemmas.{Grind.common_steps, Result.err_from_is_err_and}
-use Rattle.qr_symbol.proofs.lemmas.canvas.CanvasLemmas.{canvas-mask, canvas-drawn}
-use Rattle.{qr_symbol.proofs.lemmas.placement.PlacementLemmas.square-is, std.proofs.Common.{rules, arith}}
+use Rattle.qr_symbol.proofs.lemmas.{canvas.{canvas-mask, canvas-drawn}, placement.PlacementLemmas.square-is}
+use Rattle.std.proofs.{Common.{rules, arith}, lemmas.{Grind.common_steps, Result.err_from_is_err_and}}
 use Rattle.qr_symbol.proofs.mask.build_on.Goals as goal
 
 pub draw_data-requires : goal.draw_data-requires

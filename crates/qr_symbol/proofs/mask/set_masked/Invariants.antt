@@ -1,5 +1,4 @@
-use Rattle.{qr_matrix.{proofs.Facts.filled, specs.Grid.colour}, qr_symbol.specs.Mask.{inverts, inverted}}
-use Rattle.std.proofs.Common.{◌≡◌, ◌&&◌}
+use Rattle.{qr_matrix.{proofs.Facts.filled, specs.Grid.colour}, qr_symbol.specs.Mask.{inverts, inverted}, std.proofs.Common.{◌≡◌, ◌&&◌}}
 use Rattle.qr_symbol.proofs.mask.set_masked.Given as goal
 
 abbrev pub invariant-loop-row : goal.invariant-loop-row

@@ -3,7 +3,7 @@ use Rattle.qr_layout.specs.{Format.version_word_of, Region.{is_in_region, is_tim
 use Rattle.{qr_layout.specs.declared.role.Role.TheVariants.{Fixed, Region}, qr_matrix.proofs.Facts.square-same}
 use Rattle.qr_matrix.specs.{BitRow.has_bit, Grid.{Grid, colour, square}}
 use Rattle.qr_symbol.proofs.lemmas.patterns.PaintLemmas.{fixed-tests, light-inside, over-item, over-none, over-place, over-ring, over-same, over-side, over-sized, over-twice}
-use Rattle.qr_symbol.proofs.lemmas.patterns.TimingLemmas.{is_dark_in_six, paint-row_six, paint-column_six, six-more, six-all}
+use Rattle.qr_symbol.proofs.lemmas.patterns.TimingLemmas.{is_dark_in_six, paint-row_six, paint-column_six, six-more}
 use Rattle.qr_symbol.proofs.{lemmas.patterns.VersionLemmas.{version_drawn, version-all, version-here}, patterns.draw_fixed.Goals.After-version_word}
 use Rattle.qr_symbol.{proofs.lemmas.words.BitLemmas.set-bit, specs.Steps.Patterns.{fixed_colour, paint_of, IsOver}}
 use Rattle.std.{proofs.{Common.{rules, ◌≡◌, ℕ, ◌/◌, ◌^◌, bit_and, Bool, true, cond, eqb, ltb, ◌&&◌, ◌||◌, ap, ◌∙◌, refl, arith}, lemmas.{Bool.Decides.nat_tests, List.{take_all}}}, specs.List.list_any}
@@ -70,7 +70,7 @@ unfolding is_alignment_light
 finished c g last =
     let v = c.args.version in let w = version_word_of v in
     let e : c.loop-at.at ≡ side_of v = omega (arith, c.side-side.ensures.value) in
-    let timing = over-same {u = is_timing} c.loop-at.invariant.painted (λ r k l m. rw e (six-all _ r k l m)) in
+    let timing = over-same {u = is_timing} c.loop-at.invariant.painted (search (rules, nat_tests)) in
     let i = c.loop-centre.invariant in
     let rings = over-same {u = is_alignment_light v} i.so_far (λ r k _ _.
     ap (list_any (λ m. eqb (ring_of m.row m.col r k) 1)) (take_all c.loop-centre.centre-index _ (omega arith) ∙ i.centres)) in

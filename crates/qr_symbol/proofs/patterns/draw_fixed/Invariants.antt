@@ -1,6 +1,5 @@
 use Rattle.qr_layout.specs.{Alignment.{alignment_places, centres_of}, Region.ring_of, Steps.Rectangles.IsCentreInside, Version.side_of}
-use Rattle.{qr_matrix.specs.Grid.colour, qr_symbol.proofs.lemmas.patterns.VersionLemmas.version_drawn}
-use Rattle.qr_symbol.specs.Steps.Patterns.{paint_of, IsOver}
+use Rattle.{qr_matrix.specs.Grid.colour, qr_symbol.{proofs.lemmas.patterns.VersionLemmas.version_drawn, specs.Steps.Patterns.{paint_of, IsOver}}}
 use Rattle.std.{proofs.Common.{◌≡◌, ◌&&◌, ◌||◌, eqb, ltb, take, false}, specs.List.{list_any, All}}
 use Rattle.qr_symbol.proofs.patterns.draw_fixed.Given as goal
 

@@ -1,6 +1,5 @@
-use Rattle.qr_symbol.proofs.lemmas.patterns.FormatDrawingLemmas.{FormatDone, format-start, format-step, format-end}
-use Rattle.qr_symbol.proofs.lemmas.{placement.PlacementLemmas.painted-square, words.BitLemmas.set-bit}
-use Rattle.std.proofs.Common.{rules, subst, ℕ, arith}
+use Rattle.qr_symbol.proofs.lemmas.{patterns.FormatDrawingLemmas.{FormatDone, format-start, format-step, format-end}, placement.PlacementLemmas.painted-square}
+use Rattle.{qr_symbol.proofs.lemmas.words.BitLemmas.set-bit, std.proofs.Common.{rules, subst, ℕ, arith}}
 use Rattle.qr_symbol.proofs.patterns.draw_format.Goals as goal
 
 pub loop-bit-init : goal.loop-bit-init

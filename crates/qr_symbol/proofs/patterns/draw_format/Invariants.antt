@@ -1,5 +1,4 @@
-use Rattle.{qr_layout.specs.Version.side_of, qr_matrix.specs.Grid.IsSquare}
-use Rattle.qr_symbol.proofs.lemmas.patterns.FormatDrawingLemmas.{FormatDone}
+use Rattle.{qr_layout.specs.Version.side_of, qr_matrix.specs.Grid.IsSquare, qr_symbol.proofs.lemmas.patterns.FormatDrawingLemmas.FormatDone}
 use Rattle.qr_symbol.proofs.patterns.draw_format.Given as goal
 
 abbrev pub invariant-loop-bit : goal.invariant-loop-bit

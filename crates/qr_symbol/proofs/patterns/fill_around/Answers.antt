@@ -1,5 +1,4 @@
-use Rattle.qr_symbol.proofs.lemmas.patterns.PaintLemmas.{over-rectangle, over-same, square-rings}
-use Rattle.std.proofs.Common.{refl}
+use Rattle.{qr_symbol.proofs.lemmas.patterns.PaintLemmas.{over-rectangle, over-same, square-rings}, std.proofs.Common.refl}
 use Rattle.qr_symbol.proofs.patterns.fill_around.Goals as goal
 
 pub returns : goal.returns

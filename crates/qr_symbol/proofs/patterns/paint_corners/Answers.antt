@@ -1,9 +1,8 @@
-use Rattle.std.proofs.Common.{rules, ◌≡◌, ℕ, ◌-◌, cond, ap, sym, ◌∙◌, refl, arith}
-use Rattle.qr_layout.specs.{Region.is_corner, Role.role_of, Version.side_of}
-use Rattle.qr_matrix.{proofs.Facts.square-same, specs.Grid.Grid, specs.Grid.colour}
-use Rattle.qr_symbol.{specs.Steps.Patterns.{format_or, paint_of, IsOver}, proofs.lemmas.patterns.PaintLemmas.{over-is, over-place, over-side, over-twice}}
-use Rattle.qr_symbol.proofs.lemmas.patterns.{CornerLemmas.{begun, corners-done, dark-painted, timing-left, timing-top}, FinderLemmas.{near-right, near-below}}
-use Rattle.qr_symbol.proofs.patterns.paint_corners.Goals.{After-paint_finder-3, After-set-3}
+use Rattle.{qr_layout.specs.{Region.is_corner, Role.role_of, Version.side_of}, qr_matrix.{proofs.Facts.square-same, specs.Grid.{Grid, colour}}}
+use Rattle.qr_symbol.proofs.lemmas.patterns.{CornerLemmas.{begun, corners-done, dark-painted}, FinderLemmas.{near-right, near-below}}
+use Rattle.qr_symbol.proofs.lemmas.patterns.{PaintLemmas.{over-is, over-place, over-side, over-twice}, TimingLemmas.{paint-row_six, paint-column_six}}
+use Rattle.qr_symbol.{proofs.patterns.paint_corners.Goals.{After-paint_finder-3, After-set-3}, specs.Steps.Patterns.{format_or, paint_of, IsOver}}
+use Rattle.std.proofs.{Common.{rules, ◌≡◌, ℕ, ◌-◌, cond, ap, sym, ◌∙◌, refl, arith}, lemmas.Bool.Decides.nat_tests}
 use Rattle.qr_symbol.proofs.patterns.paint_corners.Goals as goal
 
 -- the square after the three finder patterns has the side of the symbol
@@ -47,8 +46,8 @@ all-begun c =
     let v = c.args.version in let f = c.args.format in
     let p = paint_of v f in
     let p3 = over-twice _ (over-twice _ (c.paint_finder.ensures f) (c.paint_finder-2.ensures f) (λ _ _ _ _. refl)) (c.paint_finder-3.ensures f) (λ _ _ _ _. refl) in
-    let p4 = over-twice _ p3 (over-place p _ _ 8 6 _ (over-side p3) (timing-left v f (omega arith)) c.set.ensures) (λ _ _ _ _. refl) in
-    let p5 = over-twice _ p4 (over-place p _ _ 6 8 _ (over-side p4) (timing-top v f (omega arith)) c.set-2.ensures) (λ _ _ _ _. refl) in
+    let p4 = over-twice _ p3 (over-place p _ _ 8 6 _ (over-side p3) (search (rules, paint-column_six, nat_tests)) c.set.ensures) (λ _ _ _ _. refl) in
+    let p5 = over-twice _ p4 (over-place p _ _ 6 8 _ (over-side p4) (search (rules, paint-row_six, nat_tests)) c.set-2.ensures) (λ _ _ _ _. refl) in
     over-twice _ p5 (over-place p _ _ _ 8 _ (over-side p5) (dark-painted v f (omega arith) (omega arith) ∙ ap (λ (n : ℕ). p (n - 8) 8) (sym c.side-side.ensures.value)) c.set-3.ensures) (λ _ _ _ _. refl)
 
 pub draw_format-requires : goal.draw_format-requires

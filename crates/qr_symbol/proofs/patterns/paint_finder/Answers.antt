@@ -1,6 +1,5 @@
-use Rattle.std.proofs.{Common.arith, lemmas.Bool.Decides.nat_tests}
-use Rattle.qr_symbol.proofs.lemmas.patterns.{FinderLemmas.area-paint, PaintLemmas.{over-rectangle, over-side, over-sized}}
-use Rattle.{qr_matrix.specs.Grid.Grid, std.proofs.Common.ap}
+use Rattle.{qr_matrix.specs.Grid.Grid, qr_symbol.proofs.lemmas.patterns.{FinderLemmas.area-paint, PaintLemmas.{over-rectangle, over-side, over-sized}}}
+use Rattle.std.proofs.{Common.{arith, ap}, lemmas.Bool.Decides.nat_tests}
 use Rattle.qr_symbol.proofs.patterns.paint_finder.Goals as goal
 
 pub returns : goal.returns

@@ -1,10 +1,9 @@
-use Rattle.qr_layout.proofs.Facts.{centres-inside, fixed-inside, region_outside}
-use Rattle.qr_layout.specs.{Rectangles.is_in_rectangle, Region.{is_alignment, is_in_region}, Version.side_of}
-use Rattle.qr_matrix.{proofs.Facts.square-same, specs.Grid.{Grid, colour}}
+use Rattle.qr_layout.{proofs.Facts.{centres-inside, fixed-inside, region_outside}, specs.{Rectangles.is_in_rectangle, Region.{is_alignment, is_in_region}}}
+use Rattle.{qr_layout.specs.Version.side_of, qr_matrix.{proofs.Facts.square-same, specs.Grid.{Grid, colour}}}
 use Rattle.qr_symbol.proofs.lemmas.patterns.PaintLemmas.{no_rectangle, over-item, over-none, over-rectangle, over-side, region-tests}
 use Rattle.qr_symbol.{proofs.patterns.region_of.Goals.After-fill, specs.Steps.Patterns.IsOver}
-use Rattle.std.proofs.Common.{rules, ◌≡◌, ℕ, Bool, true, ◌&&◌, leb, ltb, take, sym, ap, ◌∙◌, arith}
-use Rattle.std.{proofs.lemmas.{Bool.Decides.nat_tests, List.{take_all}}, specs.List.list_any}
+use Rattle.std.proofs.{Common.{rules, ◌≡◌, ℕ, Bool, true, ◌&&◌, leb, ltb, take, sym, ap, ◌∙◌, arith}, lemmas.{Bool.Decides.nat_tests, List.take_all}}
+use Rattle.std.specs.List.{list_any}
 use Rattle.qr_symbol.proofs.patterns.region_of.Goals as goal
 
 -- the test that a place is in the square

@@ -1,7 +1,5 @@
-use Rattle.qr_matrix.proofs.Facts.{square-same}
-use Rattle.std.proofs.Common.{rules}
-use Rattle.{std.proofs.Common.{sym, subst, arith}, qr_layout.specs.Order.IsOrder}
-use Rattle.qr_symbol.proofs.lemmas.placement.WalkLemmas.{walked-start, walked-in, walked-step, walked-small}
+use Rattle.{qr_layout.specs.Order.IsOrder, qr_matrix.proofs.Facts.square-same}
+use Rattle.{qr_symbol.proofs.lemmas.placement.WalkLemmas.{walked-start, walked-in, walked-step, walked-small}, std.proofs.Common.{rules, sym, subst, arith}}
 use Rattle.qr_symbol.proofs.placement.draw_along_walk.Goals as goal
 
 pub loop-module-init : goal.loop-module-init

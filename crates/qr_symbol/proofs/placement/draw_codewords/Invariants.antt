@@ -1,5 +1,4 @@
-use Rattle.qr_layout.{proofs.Facts.Inside, specs.{Strips.places_of, Version.side_of}}
-use Rattle.qr_matrix.specs.Grid.{transposed, IsSquare}
+use Rattle.{qr_layout.{proofs.Facts.Inside, specs.{Strips.places_of, Version.side_of}}, qr_matrix.specs.Grid.{transposed, IsSquare}}
 use Rattle.{qr_symbol.proofs.lemmas.placement.PlacementLemmas.IsPlaced, std.specs.List.All}
 use Rattle.qr_symbol.proofs.placement.draw_codewords.Given as goal
 

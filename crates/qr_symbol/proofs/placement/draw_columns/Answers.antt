@@ -1,7 +1,6 @@
-use Rattle.std.proofs.Common.{rules}
-use Rattle.{std.proofs.Common.{◌≡◌, ◌+◌, ◌-◌, ◌≤◌, ◌&&◌, ◌||◌, leb, ap, ◌∙◌, refl, arith}, qr_layout.specs.Version.side_of, qr_matrix.specs.BitRow.has}
+use Rattle.{qr_layout.specs.Version.side_of, qr_matrix.specs.BitRow.has}
 use Rattle.qr_symbol.proofs.lemmas.placement.SpanDrawnLemmas.{both-drawn, left-drawn, light-later, outside-drawn, right-drawn, span-added}
-use Rattle.qr_symbol.proofs.lemmas.words.BitLemmas.{highest-within}
+use Rattle.{qr_symbol.proofs.lemmas.words.BitLemmas.highest-within, std.proofs.Common.{rules, ◌≡◌, ◌+◌, ◌-◌, ◌≤◌, ◌&&◌, ◌||◌, leb, ap, ◌∙◌, refl, arith}}
 use Rattle.qr_symbol.proofs.placement.draw_columns.Goals as goal
 
 pub set_bits-requires-in-Right-clause-fits : goal.set_bits-requires-in-Right-clause-fits

@@ -1,6 +1,5 @@
-use Rattle.qr_layout.specs.declared.level.Level.{Level, TheVariants.{L, M, Q, H}}
-use Rattle.{qr_matrix.specs.Grid.Grid, qr_symbol.specs.Reading.IsFormat}
-use Rattle.std.proofs.{Common.{ℕ, ◌<◌, [], ◌∷◌, get_or, inl, inr, subst, arith}, lemmas.Bool.cases_lt}
+use Rattle.{qr_layout.specs.declared.level.Level.{Level, TheVariants.{L, M, Q, H}}, qr_matrix.specs.Grid.Grid, qr_symbol.specs.Reading.IsFormat}
+use Rattle.std.proofs.{Common.{rules, ℕ, ◌<◌, [], ◌∷◌, get_or, inl, inr, arith}, lemmas.Bool.cases_lt}
 use Rattle.qr_symbol.proofs.reading.format_of.Goals as goal
 
 -- the level with the number k
@@ -17,7 +16,7 @@ every g none H = none 3 (omega arith)
 pub loop-level-preserved : goal.loop-level-preserved
 loop-level-preserved c = λ k less mask f. elim (cases_lt k _) [
   | inl l ↦ c.loop-level.invariant k l mask f
-  | inr l ↦ c.in_default.ensures mask (subst (λ (i : ℕ). IsFormat c.args.matrix.now (level i) mask) (omega arith) f)
+  | inr l ↦ c.in_default.ensures mask (search rules)
 ]
 
 pub returns : goal.returns

@@ -1,5 +1,4 @@
-use Rattle.{qr_layout.specs.declared.level.Level.TheVariants.{L, M, Q, H}, qr_symbol.specs.Reading.IsFormat}
-use Rattle.std.proofs.Common.{ℕ, ◌<◌, [], ◌∷◌, get_or}
+use Rattle.{qr_layout.specs.declared.level.Level.TheVariants.{L, M, Q, H}, qr_symbol.specs.Reading.IsFormat, std.proofs.Common.{ℕ, ◌<◌, [], ◌∷◌, get_or}}
 use Rattle.qr_symbol.proofs.reading.format_of.Given as goal
 
 abbrev pub invariant-loop-level : goal.invariant-loop-level

@@ -1,5 +1,4 @@
-use Rattle.{qr_layout.specs.Format.first_place, qr_matrix.specs.{BitRow.has_bit, Grid.colour}}
-use Rattle.std.proofs.Common.{◌≡◌, ℕ, ◌<◌}
+use Rattle.{qr_layout.specs.Format.first_place, qr_matrix.specs.{BitRow.has_bit, Grid.colour}, std.proofs.Common.{◌≡◌, ℕ, ◌<◌}}
 use Rattle.qr_symbol.proofs.reading.has_format.Given as goal
 
 abbrev pub invariant-loop-i : goal.invariant-loop-i

@@ -1,6 +1,5 @@
-use Rattle.qr_matrix.specs.Grid.{Grid, colour, square}
-use Rattle.qr_symbol.proofs.lemmas.{placement.PlacementLemmas.square-is, reading.SymbolReadLemmas.read-masked}
-use Rattle.qr_symbol.specs.{Mask.inverts, Mask.inverted, Reading.IsRead}
+use Rattle.{qr_matrix.specs.Grid.{Grid, colour, square}, qr_symbol.proofs.lemmas.{placement.PlacementLemmas.square-is, reading.SymbolReadLemmas.read-masked}}
+use Rattle.qr_symbol.specs.{Mask.{inverts, inverted}, Reading.IsRead}
 use Rattle.std.proofs.{Common.{rules, ◌≡◌, ℕ, ◌≤◌, ◌&&◌, ap, ◌∙◌, arith}, lemmas.Result.{IfOk-from_err, IfOk-weaker}}
 use Rattle.qr_symbol.proofs.reading.read_codewords.Goals as goal
 

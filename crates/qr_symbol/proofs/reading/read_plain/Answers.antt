@@ -1,6 +1,5 @@
+use Rattle.{qr_matrix.proofs.Facts.colour-transposed, qr_symbol.proofs.lemmas.reading.SymbolReadLemmas.read-same}
 use Rattle.std.proofs.{Common.arith, lemmas.Result.IfOk-weaker}
-use Rattle.qr_matrix.proofs.Facts.{colour-transposed}
-use Rattle.qr_symbol.proofs.lemmas.reading.SymbolReadLemmas.{read-same}
 use Rattle.qr_symbol.proofs.reading.read_plain.Goals as goal
 
 pub returns-clause-read : goal.returns-clause-read

@@ -1,5 +1,4 @@
-use Rattle.std.proofs.Common.{rules, ◌∙◌}
-use Rattle.qr_symbol.{proofs.reading.read_symbol.Goals.In-Some, specs.Reading.IsOfVersion}
+use Rattle.{qr_symbol.{proofs.reading.read_symbol.Goals.In-Some, specs.Reading.IsOfVersion}, std.proofs.Common.{rules, ◌∙◌}}
 use Rattle.qr_symbol.proofs.reading.read_symbol.Goals as goal
 
 -- the version that was found

@@ -1,15 +1,13 @@
-use Rattle.qr_bits.proofs.Facts.{length-stream}
-use Rattle.qr_symbol.proofs.lemmas.{version_choice.FitLemmas.fits-bits, fault.ExactLemmas.{empty-has-series, empty-many, not-empty, too-many-exactly}}
-use Rattle.std.proofs.lemmas.{Grind.common_steps, Result.{err_from_is_err_and, IfOk-weaker, MatchResult-at_err, MatchResult-weaker}}
+use Rattle.qr_bits.{proofs.Facts.length-stream, specs.{Interpretation.MayWrite, Modes.may_use, declared.interpretation.Interpretation.Interpretation}}
+use Rattle.{qr_bits.specs.declared.modes.{Mode.TheVariants.Kanji, Rule.Rule}, qr_layout.specs.declared.level.Level.Level}
+use Rattle.qr_symbol.proofs.lemmas.{fault.{empty-has-series, empty-many, not-empty, too-many-exactly}, series.PartExistenceLemmas.none-shorter}
+use Rattle.qr_symbol.proofs.lemmas.series.{PartLemmas.lengths-some, SeriesLemmas.{series-interpreted, series-joined, split-series}, SizeLemmas.series-shortest}
+use Rattle.qr_symbol.{proofs.lemmas.version_choice.fits-bits, specs.Joining.{AreInterpreted, IsJoined}}
+use Rattle.qr_symbol.specs.{Series.{squares_of, HasNoSeries, IsSeries, NeedsParts}, declared.{fault.EncodeFault.EncodeFault, symbol.Symbol.Symbol}}
 use Rattle.std.proofs.Common.{◌≡◌, ◌≢◌, ◌≤◌, ◌↔◌, ◌⊎◌, [], inl, inr, false, ℕ, List, length, Result, Err, Vec, Global, sym, ap, ◌∙◌, arith, rules}
-use Rattle.std.proofs.{Math.Nat.pos_of_ne-zero, lemmas.{Bool.{eqb-false, eqb-true}, List.nil_from_length, Option.{MatchOption-at_none, MatchOption-at_some}}}
-use Rattle.std.specs.Prelude.{IfOk, IfErr, MatchResult}
-use Rattle.qr_bits.specs.{Interpretation.MayWrite, Modes.may_use, declared.interpretation.Interpretation.Interpretation, declared.modes.{Mode.TheVariants.Kanji, Rule.Rule}}
-use Rattle.qr_layout.specs.declared.level.Level.{Level}
-use Rattle.qr_symbol.proofs.lemmas.series.{PartExistenceLemmas.none-shorter, PartLemmas.lengths-some, SizeLemmas.series-shortest}
-use Rattle.qr_symbol.proofs.lemmas.series.SeriesLemmas.{series-interpreted, series-joined, split-series}
-use Rattle.qr_symbol.specs.{Joining.{AreInterpreted, IsJoined}, Series.{squares_of, HasNoSeries, IsSeries, NeedsParts}}
-use Rattle.qr_symbol.specs.declared.{fault.EncodeFault.EncodeFault, symbol.Symbol.Symbol}
+use Rattle.std.proofs.{Math.Nat.pos_of_ne-zero, lemmas.{Bool.{eqb-false, eqb-true}, Grind.common_steps, List.nil_from_length}}
+use Rattle.std.proofs.lemmas.Option.{MatchOption-at_none, MatchOption-at_some}
+use Rattle.std.{proofs.lemmas.Result.{err_from_is_err_and, IfOk-weaker, MatchResult-at_err, MatchResult-weaker}, specs.Prelude.{IfOk, IfErr, MatchResult}}
 use Rattle.qr_symbol.specs.declared.fault.EncodeFault.TheVariants as fault
 use Rattle.qr_symbol.proofs.series.encode_series.Goals as goal
 

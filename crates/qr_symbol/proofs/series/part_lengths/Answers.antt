@@ -1,7 +1,6 @@
-use Rattle.qr_symbol.specs.Steps.Series.{AreLengths}
 use Rattle.qr_bits.{proofs.Facts.{may_write-drop, may_write-take}, specs.{Padding.room_of, Segmentation.IsLongestFit}}
 use Rattle.qr_symbol.proofs.{lemmas.series.PartLemmas.{lengths-more, longest-cut, longest-some, parts-some, prefixes-more}, series.part_lengths.Goals.In_ok-len}
-use Rattle.std.proofs.Common.{rules, ◌+◌, ◌<◌, [], ◌∷◌, inr, length, refl, sym, ◌∙◌, length-append, arith}
+use Rattle.{qr_symbol.specs.Steps.Series.AreLengths, std.proofs.Common.{rules, ◌+◌, ◌<◌, [], ◌∷◌, inr, length, refl, sym, ◌∙◌, length-append, arith}}
 use Rattle.std.proofs.lemmas.{Bool.{eqb-true, Decides.nat_tests}, List.{append-nil, nil_from_length, length-drop}}
 use Rattle.qr_symbol.proofs.series.part_lengths.Goals as goal
 

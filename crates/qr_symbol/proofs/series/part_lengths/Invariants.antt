@@ -1,6 +1,5 @@
+use Rattle.{qr_bits.specs.Interpretation.MayWrite, qr_symbol.specs.{Series.AreParts, Steps.Series.AreLengths}}
 use Rattle.std.proofs.Common.{ℕ, ◌+◌, ◌≤◌, List, ◌++◌, length}
-use Rattle.qr_bits.specs.Interpretation.{MayWrite}
-use Rattle.qr_symbol.specs.{Series.AreParts, Steps.Series.AreLengths}
 use Rattle.qr_symbol.proofs.series.part_lengths.Given as goal
 
 -- the lengths found and those of the rest are the lengths of the input, which has at least as many parts as lengths found

@@ -1,6 +1,5 @@
-use Rattle.std.proofs.Common.{◌-◌, arith}
 use Rattle.qr_bits.{proofs.Facts.{capacity-least, least-most, least_fits}, specs.{Interpretation.interpretation_bits, Padding.capacity_of}}
-use Rattle.qr_symbol.proofs.lemmas.{encoding.SymbolMakingLemmas.version-fits, version_choice.FitLemmas.{interpretation-most, version-short}}
+use Rattle.{qr_symbol.proofs.lemmas.{encoding.version-fits, version_choice.{interpretation-most, version-short}}, std.proofs.Common.{◌-◌, arith}}
 use Rattle.qr_symbol.proofs.series.plain_symbol.Goals as goal
 
 pub returns-then-input-gt-SYMBOL_BYTES_MAX : goal.returns-then-input-gt-SYMBOL_BYTES_MAX

@@ -1,8 +1,7 @@
-use Rattle.qr_symbol.specs.{Steps.Series.parts_of, Series.AreSymbolsFrom}
-use Rattle.std.proofs.{lemmas.Grind.common_steps, Common.{rules, ◌≡◌, get_or, [], ◌∷◌, drop, length, ◌∙◌, ap, length-append, arith}}
+use Rattle.{qr_bits.proofs.Facts.{may_write-drop, may_write-take}, qr_symbol.proofs.lemmas.encoding.behind-header}
+use Rattle.qr_symbol.{proofs.lemmas.series.PartLemmas.{lengths-at, symbols-more}, specs.{Series.AreSymbolsFrom, Steps.Series.parts_of}}
+use Rattle.std.proofs.{Common.{rules, ◌≡◌, get_or, [], ◌∷◌, drop, length, ◌∙◌, ap, length-append, arith}, lemmas.Grind.common_steps}
 use Rattle.std.proofs.lemmas.{List.{append-nil, drop_all, length-drop}, Result.err_from_is_err_and}
-use Rattle.qr_bits.proofs.Facts.{may_write-drop, may_write-take}
-use Rattle.qr_symbol.proofs.lemmas.{encoding.SymbolMakingLemmas.behind-header, series.PartLemmas.{lengths-at, symbols-more}}
 use Rattle.qr_symbol.proofs.series.symbols_on.Goals as goal
 
 pub split_at-requires : goal.split_at-requires

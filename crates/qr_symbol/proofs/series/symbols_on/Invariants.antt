@@ -1,6 +1,5 @@
-use Rattle.qr_bits.specs.{Header.parity_of, Interpretation.MayWrite}
-use Rattle.qr_symbol.specs.{Series.AreSymbolsFrom, Steps.Series.{AreLengths, parts_of}, declared.symbol.Symbol.Symbol}
-use Rattle.std.{proofs.Common.{◌≡◌, ◌-◌, ◌≤◌, List, ◌++◌, length, drop}, specs.Prelude.vec_len}
+use Rattle.{qr_bits.specs.{Header.parity_of, Interpretation.MayWrite}, qr_symbol.specs.{Series.AreSymbolsFrom, Steps.Series.{AreLengths, parts_of}}}
+use Rattle.{qr_symbol.specs.declared.symbol.Symbol.Symbol, std.{proofs.Common.{◌≡◌, ◌-◌, ◌≤◌, List, ◌++◌, length, drop}, specs.Prelude.vec_len}}
 use Rattle.qr_symbol.proofs.series.symbols_on.Given as goal
 
 -- the symbols made and those of the rest are the symbols of all parts

@@ -1,5 +1,4 @@
-use Rattle.std.proofs.{Common.{rules}, lemmas.Result.IfOk-from_err}
-use Rattle.qr_symbol.proofs.lemmas.{placement.PlacementLemmas.square-is, canvas.CanvasLemmas.canvas-drawn}
+use Rattle.{qr_symbol.proofs.lemmas.{canvas.canvas-drawn, placement.PlacementLemmas.square-is}, std.proofs.{Common.rules, lemmas.Result.IfOk-from_err}}
 use Rattle.qr_symbol.proofs.symbol.draw_symbol.Goals as goal
 
 pub draw_data-requires : goal.draw_data-requires

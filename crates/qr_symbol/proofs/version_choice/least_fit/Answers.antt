@@ -1,8 +1,8 @@
-use Rattle.std.proofs.{lemmas.Grind.common_steps, Common.{rules, ◌≡◌, ◌≤◌, Option, Some, ℕ, inl, inr, length, refl, sym, ap, ◌∙◌, ◌+◌, ◌-◌, ◌<◌, arith}}
+use Rattle.std.proofs.{lemmas.Grind.common_steps, Common.{rules, ◌≡◌, ◌≤◌, Option, Some, ℕ, inl, inr, length, refl, sym, ap, ◌∙◌, ◌+◌, ◌-◌, arith}}
 use Rattle.{std.{proofs.lemmas.{Bool.{cases_lt, eqb-false, eqb-true}, List.nil_from_length, Result.err_from_is_err_and}, specs.Option.SomeIff}, qr_layout.specs.declared.version.Version.Version}
-use Rattle.qr_symbol.proofs.lemmas.fault.ExactLemmas.{empty-has-version, empty-long, empty-short, exactly, long-has-no-version, refused-some}
+use Rattle.qr_symbol.proofs.lemmas.fault.{empty-has-version, empty-long, empty-short, exactly, long-has-no-version, refused-some}
 use Rattle.qr_bits.{proofs.Facts.{capacity-26, capacity-least, capacity-nine, fitting-medium, least-most, least_fits}, specs.{Interpretation.interpretation_bits, Padding.capacity_of, Segmentation.bits}}
-use Rattle.qr_symbol.proofs.lemmas.version_choice.FitLemmas.{FitNone, HaveSameWidths, LackRoom, interpretation-most, segmentation-same, version-found, none-fits}
+use Rattle.qr_symbol.proofs.lemmas.version_choice.{FitNone, HaveSameWidths, LackRoom, interpretation-most, segmentation-same, version-found, none-fits}
 use Rattle.qr_symbol.specs.VersionChoice.{IsVersion}
 use Rattle.qr_symbol.proofs.version_choice.least_fit.Goals as goal
 use Rattle.qr_symbol.proofs.version_choice.least_fit.Goals.{then-input-gt-MEDIUM_BYTES, else-input-gt-MEDIUM_BYTES+then-matches, else-input-gt-MEDIUM_BYTES+else-matches+then-bits-capacity_at, else-input-gt-MEDIUM_BYTES+else-matches+else-bits-capacity_at+then-bits-capacity_at-2, else-input-gt-MEDIUM_BYTES+else-matches+else-bits-capacity_at+else-bits-capacity_at-2}
@@ -20,7 +20,6 @@ loop-last-init c =
       none = λ v a b fits.
           let l = c.args.level in let i = c.args.interpretation in
           let one : 1 ≤ v = omega arith in
-          let below : v < c.if-input-gt-MEDIUM_BYTES.start = omega arith in
           elim c.if-input-gt-MEDIUM_BYTES.branch [
             | then-input-gt-MEDIUM_BYTES w ↦ (let few = fits.2 in omega (arith, w.start-is, w.if-input-gt-MEDIUM_BYTES.true, fitting-medium i v l _ _ one (omega (arith, w.start-is)) (fits.0, fits.1, omega arith)))
             | else-input-gt-MEDIUM_BYTES+then-matches w ↦ omega (arith, w.start-is)
@@ -92,7 +91,7 @@ least c =
     let range = ranged (goal.at.Then-bits-capacity c).After-segments in let e = c.number-number.ensures.value in
     version-found _ _ _ _ _ _ c.loop-last.first c.unwrap-version.result _ (omega arith) c.loop-last.invariant.from (omega (arith, is, e, c.loop-number.auto.number)) (omega arith) c.loop-last.invariant.none
     (λ w i j. range.2 w i (omega (arith, is, c.loop-number-test.true))) c.in_ok-segmented.ensures.ok
-    (λ w i j. let less = c.loop-number.invariant w (omega (arith, e)) (omega (arith, is)) in omega (arith, c.needed_bits-bits.ensures))
+    (λ w i j. omega (arith, c.needed_bits-bits.ensures))
     (omega (arith, c.needed_bits-bits.ensures, c.if-bits-capacity.true, c.capacity.ensures.value))
 
 pub returns-then-bits-capacity-clause-fit : goal.returns-then-bits-capacity-clause-fit

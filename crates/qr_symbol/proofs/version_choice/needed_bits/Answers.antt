@@ -1,5 +1,4 @@
-use Rattle.std.proofs.Common.{rules}
-use Rattle.qr_bits.{proofs.Facts.{bits-most, covers-all}}
+use Rattle.{qr_bits.proofs.Facts.{bits-most, covers-all}, std.proofs.Common.rules}
 use Rattle.qr_symbol.proofs.version_choice.needed_bits.Goals as goal
 
 pub bit_len-requires : goal.bit_len-requires

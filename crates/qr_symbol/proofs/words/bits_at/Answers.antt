@@ -10,13 +10,12 @@ pub overflow_add-eight : goal.overflow_add-eight
 overflow_add-eight c = omega (arith, codewords-room _ _ (omega arith) c.loop-next.invariant.small)
 
 pub loop-next-preserved : goal.loop-next-preserved
-loop-next-preserved c = let i = c.loop-next.invariant in record {
-  small = codewords-fits _ _ _ i.small (omega arith);
+loop-next-preserved c = record {
+  small = codewords-fits _ _ _ c.loop-next.invariant.small (omega arith);
   held = search (rules, codewords-more);
 }
 
 pub returns : goal.returns
 returns c = λ k l.
-    let n = c.args.number in let cw = c.args.codewords.now in
-    let held : (j : ℕ) → j < 64 → has_bit c.if-first-codewords.bits (63 - j) ≡ codeword_bit cw (8 * (n / 8) + j) = search rules in
+    let n = c.args.number in let held : (j : ℕ) → j < 64 → has_bit c.if-first-codewords.bits (63 - j) ≡ codeword_bit c.args.codewords.now (8 * (n / 8) + j) = search rules in
     search (rules, next-bit, codeword_bit)

@@ -1,5 +1,4 @@
-use Rattle.std.proofs.Common.{rules}
-use Rattle.{std.proofs.Common.{◌≡◌, ◌+◌, ◌-◌, ◌*◌, arith}, qr_matrix.proofs.Facts.has_bit-shr}
+use Rattle.{qr_matrix.proofs.Facts.has_bit-shr, std.proofs.Common.{rules, ◌≡◌, ◌+◌, ◌-◌, ◌*◌, arith}}
 use Rattle.qr_symbol.proofs.words.joined.Goals as goal
 
 pub returns-else-upward : goal.returns-else-upward

@@ -1,5 +1,4 @@
-use Rattle.{std.proofs.Common.{rules, ◌≡◌, ◌+◌, get_or, arith}}
-use Rattle.qr_symbol.proofs.lemmas.words.BitLemmas.{codewords-more, codewords-fits, codewords-room}
+use Rattle.{qr_symbol.proofs.lemmas.words.BitLemmas.{codewords-more, codewords-fits, codewords-room}, std.proofs.Common.{rules, ◌≡◌, ◌+◌, get_or, arith}}
 use Rattle.qr_symbol.proofs.words.last_codewords.Goals as goal
 
 pub overflow_mul-bits : goal.overflow_mul-bits

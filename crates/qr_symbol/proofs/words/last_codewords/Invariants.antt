@@ -1,5 +1,4 @@
-use Rattle.{qr_bits.specs.Bits.codeword_bit, qr_matrix.specs.BitRow.has_bit}
-use Rattle.std.proofs.Common.{◌≡◌, ℕ, ◌+◌, ◌-◌, ◌*◌, ◌^◌, ◌<◌}
+use Rattle.{qr_bits.specs.Bits.codeword_bit, qr_matrix.specs.BitRow.has_bit, std.proofs.Common.{◌≡◌, ℕ, ◌+◌, ◌-◌, ◌*◌, ◌^◌, ◌<◌}}
 use Rattle.qr_symbol.proofs.words.last_codewords.Given as goal
 
 abbrev pub invariant-loop-next : goal.invariant-loop-next

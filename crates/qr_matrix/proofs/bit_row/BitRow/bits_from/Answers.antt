@@ -1,5 +1,4 @@
-use Rattle.std.proofs.Common.{rules, get_or}
-use Rattle.qr_matrix.proofs.lemmas.bit_row.PlaceLemmas.{has-place, has_bit-shr, words-small}
+use Rattle.{qr_matrix.proofs.lemmas.bit_row.PlaceLemmas.{has-place, has_bit-shr, words-small}, std.proofs.Common.{rules, get_or}}
 use Rattle.qr_matrix.proofs.bit_row.BitRow.bits_from.Goals as goal
 
 pub returns : goal.returns

@@ -1,6 +1,5 @@
-use Rattle.std.proofs.Common.{rules}
-use Rattle.{std.proofs.Common.{get_or, refl, arith}, qr_matrix.specs.BitRow.{has, bit_row_number}}
-use Rattle.qr_matrix.proofs.lemmas.bit_row.FirstLemmas.{first-low, first-middle, first-high, first-none}
+use Rattle.qr_matrix.{proofs.lemmas.bit_row.FirstLemmas.{first-low, first-middle, first-high, first-none}, specs.BitRow.{has, bit_row_number}}
+use Rattle.std.proofs.Common.{rules, get_or, refl, arith}
 use Rattle.qr_matrix.proofs.bit_row.BitRow.first.Goals as goal
 
 pub returns-then-a-ne0-clause-before : goal.returns-then-a-ne0-clause-before

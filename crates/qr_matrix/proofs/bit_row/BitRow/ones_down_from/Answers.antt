@@ -1,5 +1,4 @@
-use Rattle.std.proofs.Common.{rules}
-use Rattle.qr_matrix.proofs.lemmas.bit_row.{PlaceLemmas.words-small, SetLemmas.set-down}
+use Rattle.{qr_matrix.proofs.lemmas.bit_row.{PlaceLemmas.words-small, SetLemmas.set-down}, std.proofs.Common.rules}
 use Rattle.qr_matrix.proofs.bit_row.BitRow.ones_down_from.Goals as goal
 
 pub returns-clause-few : goal.returns-clause-few

@@ -1,5 +1,4 @@
-use Rattle.std.proofs.{Common.{rules, arith}, lemmas.Nat.or_lt}
-use Rattle.qr_matrix.proofs.lemmas.bit_row.{PlaceLemmas.{words-small, set-words}, SetLemmas.bits-set}
+use Rattle.{qr_matrix.proofs.lemmas.bit_row.{PlaceLemmas.{words-small, set-words}, SetLemmas.bits-set}, std.proofs.{Common.{rules, arith}, lemmas.Nat.or_lt}}
 use Rattle.qr_matrix.proofs.bit_row.BitRow.set_bits.Goals as goal
 
 pub returns : goal.returns

@@ -1,5 +1,4 @@
-use Rattle.std.proofs.Common.{rules, arith}
-use Rattle.qr_matrix.{specs.BitRow.has, proofs.lemmas.bit_row.FirstLemmas.{passing-first, passing-none}}
+use Rattle.{qr_matrix.{proofs.lemmas.bit_row.FirstLemmas.{passing-first, passing-none}, specs.BitRow.has}, std.proofs.Common.{rules, arith}}
 use Rattle.qr_matrix.proofs.bit_row.BitRow.take_first.Goals as goal
 
 pub returns-then-index : goal.returns-then-index

@@ -1,6 +1,5 @@
-use Rattle.std.proofs.Common.{rules}
-use Rattle.{std.proofs.Common.{get_or, arith}, qr_matrix.specs.BitRow.{has, bit_row_number}}
-use Rattle.qr_matrix.proofs.lemmas.bit_row.{WordLemmas.three-and, PlaceLemmas.has_bit-and}
+use Rattle.qr_matrix.{proofs.lemmas.bit_row.{PlaceLemmas.has_bit-and, WordLemmas.three-and}, specs.BitRow.{has, bit_row_number}}
+use Rattle.std.proofs.Common.{rules, get_or, arith}
 use Rattle.qr_matrix.proofs.bit_row.BitRowBitAnd.bitand.Goals as goal
 
 pub returns : goal.returns

@@ -1,6 +1,5 @@
-use Rattle.std.proofs.Common.{rules, ◌-◌, ◌*◌, ◌/◌, ◌%◌, ◌^◌, get_or, refl, arith}
-use Rattle.{std.proofs.lemmas.Nat.or_lt, qr_matrix.specs.BitRow.{has, bit_row_number}}
-use Rattle.qr_matrix.proofs.lemmas.bit_row.{WordLemmas.three-down, PlaceLemmas.has_bit-shr}
+use Rattle.qr_matrix.{proofs.lemmas.bit_row.{PlaceLemmas.has_bit-shr, WordLemmas.three-down}, specs.BitRow.{has, bit_row_number}}
+use Rattle.std.proofs.{Common.{rules, ◌-◌, ◌*◌, ◌/◌, ◌%◌, ◌^◌, get_or, refl, arith}, lemmas.Nat.or_lt}
 use Rattle.qr_matrix.proofs.bit_row.BitRowRows.shifted_left.Goals as goal
 
 pub returns : goal.returns

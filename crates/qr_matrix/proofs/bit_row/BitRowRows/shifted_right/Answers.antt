@@ -1,6 +1,5 @@
-use Rattle.std.proofs.Common.{rules, ◌*◌, ◌/◌, ◌%◌, ◌^◌, get_or, refl, arith}
-use Rattle.{std.proofs.lemmas.Nat.or_lt, qr_matrix.specs.BitRow.{has, bit_row_number}}
-use Rattle.qr_matrix.proofs.lemmas.bit_row.{WordLemmas.three-up, PlaceLemmas.has_bit-up}
+use Rattle.qr_matrix.{proofs.lemmas.bit_row.{PlaceLemmas.has_bit-up, WordLemmas.three-up}, specs.BitRow.{has, bit_row_number}}
+use Rattle.std.proofs.{Common.{rules, ◌*◌, ◌/◌, ◌%◌, ◌^◌, get_or, refl, arith}, lemmas.Nat.or_lt}
 use Rattle.qr_matrix.proofs.bit_row.BitRowRows.shifted_right.Goals as goal
 
 pub returns : goal.returns

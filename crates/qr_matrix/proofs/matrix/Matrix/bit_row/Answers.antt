@@ -1,5 +1,4 @@
-use Rattle.std.proofs.Common.{rules, refl, ap, arith}
-use Rattle.qr_matrix.{specs.Grid.Grid, proofs.lemmas.matrix.MatrixLemmas.{row-read, row-past}}
+use Rattle.{qr_matrix.{proofs.lemmas.matrix.MatrixLemmas.{row-read, row-past}, specs.Grid.Grid}, std.proofs.Common.{rules, refl, ap, arith}}
 use Rattle.qr_matrix.proofs.matrix.Matrix.bit_row.Goals as goal
 
 pub index-requires : goal.index-requires

@@ -1,5 +1,4 @@
-use Rattle.std.proofs.Common.{rules, false}
-use Rattle.qr_matrix.specs.Steps.{is_change}
+use Rattle.{qr_matrix.specs.Steps.is_change, std.proofs.Common.{rules, false}}
 use Rattle.qr_matrix.proofs.matrix.Matrix.changes.Goals as goal
 
 pub returns-clause-changes : goal.returns-clause-changes

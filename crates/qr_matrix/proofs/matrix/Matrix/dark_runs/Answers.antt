@@ -1,5 +1,4 @@
-use Rattle.std.proofs.Common.{rules}
-use Rattle.qr_matrix.proofs.lemmas.dark_runs.DarkRunLemmas.{runs-of-row}
+use Rattle.{qr_matrix.proofs.lemmas.dark_runs.runs-of-row, std.proofs.Common.rules}
 use Rattle.qr_matrix.proofs.matrix.Matrix.dark_runs.Goals as goal
 
 pub returns : goal.returns

@@ -1,5 +1,5 @@
 use Rattle.std.proofs.{Common.rules, lemmas.List.length-replicate}
-use Rattle.qr_matrix.proofs.lemmas.{rows.AdderLemmas.never, matrix.MatrixLemmas.light-square, matrix_pair.PairLemmas.{dark-lanes, one-view}}
+use Rattle.qr_matrix.proofs.lemmas.{rows.never, matrix.MatrixLemmas.light-square, matrix_pair.PairLemmas.{dark-lanes, one-view}}
 use Rattle.qr_matrix.proofs.matrix_pair.MatrixPair.new.Goals as goal
 
 pub invariant_of-result : goal.invariant_of-result

@@ -1,5 +1,4 @@
-use Rattle.std.proofs.Common.{rules, ◌∙◌, ap, sym, subst, false, true}
-use Rattle.qr_matrix.specs.{Grid.colour, Penalty.penalty_of, Steps.IsCounted}
+use Rattle.{qr_matrix.specs.{Grid.colour, Penalty.penalty_of, Steps.IsCounted}, std.proofs.Common.{rules, ◌∙◌, ap, sym, subst, false, true}}
 use Rattle.qr_matrix.proofs.matrix_pair.MatrixPair.penalties.Goals as goal
 
 pub points-requires : goal.points-requires

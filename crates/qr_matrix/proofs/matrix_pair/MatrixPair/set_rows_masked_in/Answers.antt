@@ -1,6 +1,8 @@
+use Rattle.std.proofs.lemmas.List.{map-set}
+use Rattle.std.proofs.Common.{rules}
 use Rattle.std.proofs.{Common.{ℕ, List, Bool, ◌≡◌, ◌<◌, ◌≤◌, ◌%◌, ◌*◌, ◌∙◌, ◌&&◌, length, ltb, eqb, not, cond, ap, set, sym, false, true, refl, arith}, lemmas.Bool.Decides.nat_tests, Math.ListN.length-set}
 use Rattle.qr_matrix.specs.{Grid.{colour, is_same, square}, BitRow.{has, has_bit, dark_in}, Steps.{lane, lanes}}
-use Rattle.qr_matrix.proofs.lemmas.{matrix.{GridLemmas.{colour-square, square-same}, MatrixLemmas.{line-inside, line-set, masked-past, row-past}}, matrix_pair.{PairLemmas.{lane-read, lanes-long, lanes-set, one-view, side-of, square-of}, TurnLemmas.{all-passed, passed-step}}}
+use Rattle.qr_matrix.proofs.lemmas.{matrix.{GridLemmas.{colour-square, square-same}, MatrixLemmas.{line-inside, line-set, masked-past, row-past}}, matrix_pair.{PairLemmas.{lane-read, lanes-long, one-view, side-of, square-of}, TurnLemmas.passed-step}}
 use Rattle.qr_matrix.proofs.matrix_pair.MatrixPair.set_rows_masked_in.Goals as goal
 
 -- the bits of a row of each square that is the same row of one square
@@ -34,8 +36,7 @@ loop-row-preserved c =
     let here : row < length rows = omega (arith, i.long, c.from-side.ensures, c.loop-row-test.true) in
     let bits = λ (s : Bool) (k : ℕ). both c.of-in-loop-row.result c.bit_row-bits.result s c.of-in-loop-row.ensures.first c.of-in-loop-row.ensures.second k in
     let region = λ (s : Bool) (k : ℕ). both c.of.result c.bit_row-region.result s c.of.ensures.first c.of.ensures.second k in
-    let line : (s : Bool) (r k : ℕ) → dark_in (lanes (set rows row p) s) r k ≡ cond (eqb r row) (has (lane p s) k) (dark_in (lanes rows s) r k) = λ s r k.
-    ap (λ z. dark_in z r k) (lanes-set rows row p s) ∙ line-set (lanes rows s) row row (lane p s) refl (omega (arith, lanes-long rows s)) r k in
+    let line : (s : Bool) (r k : ℕ) → dark_in (lanes (set rows row p) s) r k ≡ cond (eqb r row) (has (lane p s) k) (dark_in (lanes rows s) r k) = search (rules, line-set, lanes-long, map-set) in
     let f = λ (s : Bool) (r k : ℕ). cond (colour c.args.within.now r k && has_bit (cond s c.args.patterns.1 c.args.patterns.0) (k % 6)) (not (colour c.args.plain.now r k)) (colour c.args.plain.now r k) in
     record {
       turn = omega (arith, i.turn);
@@ -61,6 +62,4 @@ returns c = λ s.
     let n = c.self.inside.side in
     let e = side-of n first c.args.self.now c.self.view_is false in
     let f = λ (r k : ℕ). cond (colour c.args.within.now r k && has_bit (cond s c.args.patterns.1 c.args.patterns.0) (k % 6)) (not (colour c.args.plain.now r k)) (colour c.args.plain.now r k) in
-    one-view c.loop-row.self-inside.side rows s ∙ (ap (λ z. square z (dark_in (lanes rows s))) (i.same ∙ e) ∙ square-same _ _ _ (λ r k l m. i.so_far s r k (omega arith)
-    ∙ (λ j. cond (all-passed c.args.first c.loop-row.row r (omega (arith, c.from-side.ensures, c.loop-row-test.false)) j) (f r k)
-    ((sym (colour-square n (dark_in (lanes first s)) r k (omega arith) (omega arith)) ∙ ap (λ z. colour z r k) (square-of n first c.args.self.now c.self.view_is s)) j))))
+    one-view c.loop-row.self-inside.side rows s ∙ (ap (λ z. square z (dark_in (lanes rows s))) (i.same ∙ e) ∙ square-same _ _ _ (search (rules, colour-square, square-of, nat_tests)))

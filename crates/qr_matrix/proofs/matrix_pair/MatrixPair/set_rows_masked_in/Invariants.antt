@@ -1,6 +1,5 @@
+use Rattle.qr_matrix.{proofs.lemmas.matrix_pair.TurnLemmas.is-passed, specs.{BitRow.{dark_in, has_bit}, Grid.colour, Steps.lanes}}
 use Rattle.std.proofs.Common.{◌≡◌, ℕ, ◌<◌, ◌≤◌, ◌-◌, ◌%◌, ◌&&◌, Bool, false, cond, not, length}
-use Rattle.qr_matrix.specs.{Grid.colour, BitRow.{dark_in, has_bit}, Steps.lanes}
-use Rattle.qr_matrix.proofs.lemmas.matrix_pair.TurnLemmas.{is-passed}
 use Rattle.qr_matrix.proofs.matrix_pair.MatrixPair.set_rows_masked_in.Given as goal
 
 abbrev pub invariant-loop-row : goal.invariant-loop-row

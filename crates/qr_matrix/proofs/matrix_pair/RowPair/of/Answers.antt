@@ -1,5 +1,4 @@
-use Rattle.std.proofs.Common.{ap}
-use Rattle.qr_matrix.specs.{Steps.lane, BitRow.{has, bit_row_number}}
+use Rattle.{qr_matrix.specs.{BitRow.{has, bit_row_number}, Steps.lane}, std.proofs.Common.ap}
 use Rattle.qr_matrix.proofs.matrix_pair.RowPair.of.Goals as goal
 
 pub returns-clause-first : goal.returns-clause-first

@@ -1,5 +1,4 @@
-use Rattle.std.proofs.Common.{rules, arith}
-use Rattle.qr_matrix.proofs.lemmas.matrix_pair.NeighbourLemmas.{put-in-one, put-in-two}
+use Rattle.{qr_matrix.proofs.lemmas.matrix_pair.NeighbourLemmas.{put-in-one, put-in-two}, std.proofs.Common.{rules, arith}}
 use Rattle.qr_matrix.proofs.matrix_pair.RowPair.put_bits.Goals as goal
 
 pub returns-then-at-count-gt64 : goal.returns-then-at-count-gt64

@@ -1,5 +1,4 @@
-use Rattle.std.proofs.Common.{rules}
-use Rattle.qr_matrix.proofs.lemmas.matrix_pair.NeighbourLemmas.{chosen-low, chosen-middle, chosen-high, chosen-pair}
+use Rattle.{qr_matrix.proofs.lemmas.matrix_pair.NeighbourLemmas.{chosen-low, chosen-middle, chosen-high, chosen-pair}, std.proofs.Common.rules}
 use Rattle.qr_matrix.proofs.matrix_pair.RowPair.put_in.Goals as goal
 
 pub invariant_of-self : goal.invariant_of-self

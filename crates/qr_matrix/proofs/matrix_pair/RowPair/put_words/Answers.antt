@@ -1,5 +1,4 @@
-use Rattle.std.proofs.Common.{rules}
-use Rattle.qr_matrix.proofs.lemmas.matrix_pair.WordsLemmas.{over-one, over-two, over-three}
+use Rattle.{qr_matrix.proofs.lemmas.matrix_pair.WordsLemmas.{over-one, over-two, over-three}, std.proofs.Common.rules}
 use Rattle.qr_matrix.proofs.matrix_pair.RowPair.put_words.Goals as goal
 
 pub returns-in-1 : goal.returns-in-1

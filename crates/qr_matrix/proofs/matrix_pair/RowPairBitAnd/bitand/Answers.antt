@@ -1,5 +1,4 @@
-use Rattle.qr_matrix.proofs.lemmas.{matrix_pair.PairLemmas.{word-small, zip-pair, lane-and}, bit_row.PlaceLemmas.and-small}
-use Rattle.std.proofs.Common.{arith, rules}
+use Rattle.{qr_matrix.proofs.lemmas.{bit_row.PlaceLemmas.and-small, matrix_pair.PairLemmas.{word-small, zip-pair, lane-and}}, std.proofs.Common.{arith, rules}}
 use Rattle.qr_matrix.proofs.matrix_pair.RowPairBitAnd.bitand.Goals as goal
 
 pub invariant_of-result : goal.invariant_of-result

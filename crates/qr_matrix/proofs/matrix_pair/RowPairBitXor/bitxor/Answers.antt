@@ -1,5 +1,4 @@
-use Rattle.std.proofs.Common.{rules}
-use Rattle.qr_matrix.proofs.lemmas.matrix_pair.PairLemmas.{xor-pair, lane-xor}
+use Rattle.{qr_matrix.proofs.lemmas.matrix_pair.PairLemmas.{xor-pair, lane-xor}, std.proofs.Common.rules}
 use Rattle.qr_matrix.proofs.matrix_pair.RowPairBitXor.bitxor.Goals as goal
 
 pub invariant_of-result : goal.invariant_of-result

@@ -1,5 +1,4 @@
-use Rattle.std.proofs.Common.{ℕ, ◌+◌, true, false, ap, arith}
-use Rattle.qr_matrix.specs.{Steps.lane, BitRow.{has, bit_row_number}}
+use Rattle.{qr_matrix.specs.{BitRow.{has, bit_row_number}, Steps.lane}, std.proofs.Common.{ℕ, ◌+◌, true, false, ap, arith}}
 use Rattle.qr_matrix.proofs.matrix_pair.RowPairRows.add_to.Goals as goal
 
 pub overflow_add-result : goal.overflow_add-result

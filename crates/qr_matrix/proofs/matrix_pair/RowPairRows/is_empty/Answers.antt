@@ -1,5 +1,4 @@
-use Rattle.std.proofs.Common.{rules}
-use Rattle.qr_matrix.proofs.lemmas.matrix_pair.PairLemmas.{no-bits}
+use Rattle.{qr_matrix.proofs.lemmas.matrix_pair.PairLemmas.no-bits, std.proofs.Common.rules}
 use Rattle.qr_matrix.proofs.matrix_pair.RowPairRows.is_empty.Goals as goal
 
 pub returns : goal.returns

@@ -1,5 +1,4 @@
-use Rattle.std.proofs.Common.{rules}
-use Rattle.qr_matrix.proofs.lemmas.matrix_pair.PairLemmas.{into-down, last-down, lane-down}
+use Rattle.{qr_matrix.proofs.lemmas.matrix_pair.PairLemmas.{into-down, last-down, lane-down}, std.proofs.Common.rules}
 use Rattle.qr_matrix.proofs.matrix_pair.RowPairRows.shifted_left.Goals as goal
 
 pub invariant_of-result : goal.invariant_of-result

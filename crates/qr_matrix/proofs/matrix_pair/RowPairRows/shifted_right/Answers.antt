@@ -1,5 +1,4 @@
-use Rattle.std.proofs.Common.{rules}
-use Rattle.qr_matrix.proofs.lemmas.matrix_pair.PairLemmas.{into-up, first-up, lane-up}
+use Rattle.{qr_matrix.proofs.lemmas.matrix_pair.PairLemmas.{into-up, first-up, lane-up}, std.proofs.Common.rules}
 use Rattle.qr_matrix.proofs.matrix_pair.RowPairRows.shifted_right.Goals as goal
 
 pub invariant_of-result : goal.invariant_of-result

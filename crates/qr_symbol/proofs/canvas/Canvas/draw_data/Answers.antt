@@ -1,5 +1,4 @@
-use Rattle.qr_symbol.{proofs.lemmas.canvas.CanvasLemmas.{patterns-kept, patterns-drawn}, specs.Steps.Canvas.HasPatterns}
-use Rattle.std.proofs.Common.{sym, ◌∙◌, subst, arith}
+use Rattle.{qr_symbol.{proofs.lemmas.canvas.{patterns-kept, patterns-drawn}, specs.Steps.Canvas.HasPatterns}, std.proofs.Common.{sym, ◌∙◌, subst, arith}}
 use Rattle.qr_symbol.proofs.canvas.Canvas.draw_data.Goals as goal
 
 pub invariant_of-self : goal.invariant_of-self

@@ -1,7 +1,6 @@
-use Rattle.qr_layout.specs.{Format.format_word_of, Role.role_of, Version.side_of}
-use Rattle.qr_matrix.{proofs.Facts.{square-same, colour-square}, specs.Grid.{Grid, square, colour}}
-use Rattle.qr_symbol.{proofs.lemmas.placement.PlacementLemmas.square-is, specs.{Mask.{inverts, inverted}, Steps.{Patterns.format_or, Placement.masked_colour}}}
-use Rattle.std.proofs.Common.{rules, ◌≡◌, ℕ, ◌&&◌, ◌∙◌, ap}
+use Rattle.{qr_layout.specs.{Format.format_word_of, Role.role_of, Version.side_of}, qr_matrix.proofs.Facts.{square-same, colour-square}}
+use Rattle.{qr_matrix.specs.Grid.{Grid, square, colour}, qr_symbol.{proofs.lemmas.placement.PlacementLemmas.square-is, specs.Mask.{inverts, inverted}}}
+use Rattle.{qr_symbol.specs.Steps.{Patterns.format_or, Placement.masked_colour}, std.proofs.Common.{rules, ◌≡◌, ℕ, ◌&&◌, ◌∙◌, ap}}
 use Rattle.qr_symbol.proofs.canvas.Canvas.draw_masked.Goals as goal
 
 pub draw_format-requires : goal.draw_format-requires

@@ -1,5 +1,4 @@
-use Rattle.qr_matrix.proofs.Facts.{colour-square}
-use Rattle.qr_symbol.proofs.lemmas.placement.PlacementLemmas.{outside, square-is}
+use Rattle.{qr_matrix.proofs.Facts.colour-square, qr_symbol.proofs.lemmas.placement.PlacementLemmas.{outside, square-is}}
 use Rattle.std.proofs.{Common.rules, lemmas.Result.IfOk-from_err}
 use Rattle.qr_symbol.proofs.canvas.Canvas.new.Goals as goal
 

@@ -1,5 +1,4 @@
-use Rattle.std.proofs.Common.{◌≡◌, length}
-use Rattle.qr_symbol.{specs.Interleaving.codeword_count, proofs.lemmas.interleaving.OrderLemmas.IsPlaced}
+use Rattle.{qr_symbol.{proofs.lemmas.interleaving.OrderLemmas.IsPlaced, specs.Interleaving.codeword_count}, std.proofs.Common.{◌≡◌, length}}
 use Rattle.qr_symbol.proofs.interleaving.BlockSizes.scatter.Given as goal
 
 abbrev pub invariant-loop-block : goal.invariant-loop-block

@@ -9,6 +9,6 @@ returns-then-self-clause-set c = λ j l m.
 
 pub returns-else-self-clause-set : goal.returns-else-self-clause-set
 returns-else-self-clause-set c = λ j l m.
-    let s = c.args.self.now.side in let k = c.args.self.now.passed in
+    let k = c.args.self.now.passed in
     let e : k + (j - k) ≡ j = omega arith in
     search rules

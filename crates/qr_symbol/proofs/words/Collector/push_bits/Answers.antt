@@ -27,5 +27,4 @@ pub returns : goal.returns
 returns c =
     let w = c.self.inside in let n = c.args.count in let left = (w.width + n) % 8 in
     rw (power-fits left 7 18446744073709551616 (omega arith) (omega arith))
-    (rw (← c.self.view_is) (pushed _ _ _ _ _ (λ e. rw (push-made _ _ _ _ _ c.extend_from_slice.ensures.items c.is_err.ensures.negation e, c.from-2.ensures, c.to_be_bytes-codewords.ensures, whole (goal.at.returns c).After-from)
-    (codewords-joined w.whole.items w.width n w.rest c.args.bits c.self.invariant.1 c.self.invariant.0 c.requires.few))))
+    (rw (← c.self.view_is) (pushed _ _ _ _ _ (search (rules, push-made, whole, codewords-joined))))
