@@ -37,7 +37,7 @@ fn push_digit<const CAP: usize>(text: &mut Piece<CAP>, digit: u16)
     text.push(b'0' + digit as u8);
 }
 
-#[tactic(auto, using(crate::proofs::lemmas::svg::DigitLemmas::one_digit, crate::proofs::lemmas::svg::DigitLemmas::more_digits))]
+#[tactic(auto, using(crate::proofs::lemmas::svg::one_digit, crate::proofs::lemmas::svg::more_digits))]
 fn push_two<const CAP: usize>(text: &mut Piece<CAP>, number: u16)
     requires number { number < 100 }
     requires room { length text.old + 2 ≤ CAP }
@@ -52,7 +52,7 @@ fn push_two<const CAP: usize>(text: &mut Piece<CAP>, number: u16)
     }
 }
 
-#[tactic(auto, using(crate::proofs::lemmas::svg::DigitLemmas::more_digits))]
+#[tactic(auto, using(crate::proofs::lemmas::svg::more_digits))]
 fn push_three<const CAP: usize>(text: &mut Piece<CAP>, number: u16)
     requires number { number < 1000 }
     requires room { length text.old + 3 ≤ CAP }
@@ -67,7 +67,7 @@ fn push_three<const CAP: usize>(text: &mut Piece<CAP>, number: u16)
     }
 }
 
-#[tactic(auto, using(crate::proofs::lemmas::svg::DigitLemmas::more_digits))]
+#[tactic(auto, using(crate::proofs::lemmas::svg::more_digits))]
 fn push_number<const CAP: usize>(text: &mut Piece<CAP>, number: u16)
     requires room { length text.old + 5 ≤ CAP }
     ensures items { text.new ≡ text.old ++ decimal number }

@@ -71,7 +71,7 @@ fn push_cell(text: &mut Piece<PEN_SIZE>, style: TextStyle, upper: bool, lower: b
 // Returns eight modules of row `y` of the raster, from column `col` of the square on. All are light if the first of them
 // is not in the square.
 #[inline(always)]
-#[tactic(auto, using(crate::proofs::lemmas::svg::PathLemmas::is_dark_at_above, crate::proofs::lemmas::svg::PathLemmas::is_dark_at_below, crate::proofs::lemmas::text::CellLemmas::dark_none))]
+#[tactic(auto, using(crate::proofs::lemmas::svg::is_dark_at_above, crate::proofs::lemmas::svg::is_dark_at_below, crate::proofs::lemmas::text::CellLemmas::dark_none))]
 fn dark_bits(raster: &Raster, y: u16, col: u8) -> u8
     requires { col % 8 ≡ 0 }
     ensures { AreDark raster.now.margin raster.now.matrix.now y col result }

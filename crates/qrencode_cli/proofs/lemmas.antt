@@ -1,4 +1,4 @@
--- Lemmas, in folders by the file of src that they serve, in the order in which they are read.
+-- Lemmas, in files and folders with the name of the file of src that they serve, in the order in which to read them.
 pub mod arguments
 pub mod settings
 pub mod command

@@ -1,5 +1,4 @@
-use Rattle.std.{proofs.Common.{◌≡◌, ◌++◌, map}, specs.List.range_with_len}
-use Rattle.{qr_matrix.specs.Grid.colour, example_label.specs.Label.character_of}
+use Rattle.{example_label.specs.Label.character_of, qr_matrix.specs.Grid.colour, std.{proofs.Common.{◌≡◌, ◌++◌, map}, specs.List.range_with_len}}
 use Rattle.example_label.proofs.push_line.Given as goal
 
 -- the characters of the modules before the current one have been added

@@ -1,5 +1,4 @@
-use Rattle.std.proofs.{Common.{◌≡◌, [], ◌∷◌, refl, arith}, lemmas.List.Elements.{All-cons, All-nil}}
-use Rattle.qr_matrix.specs.Grid.{Grid}
+use Rattle.{qr_matrix.specs.Grid.Grid, std.proofs.{Common.{◌≡◌, [], ◌∷◌, refl, arith}, lemmas.List.Elements.{All-cons, All-nil}}}
 use Rattle.command_tests.proofs.drawings.svg_of_two_symbols.Goals as goal
 
 pub draw-requires-clause-one_side : goal.draw-requires-clause-one_side

@@ -1,6 +1,5 @@
-use Rattle.std.proofs.{Common.{MatchResult, map, rules}, lemmas.Result.err_from_is_err_and}
-use Rattle.qr_drawing.{specs.{Drawing.drawn, Steps.Writing.{Stops, Writes}}, proofs.lemmas.pen.WritingLemmas.{emptied, written}}
-use Rattle.qr_drawing.proofs.drawing.draw.{Given.Over, Goals.{Joined-kind, in-Ascii, in-AsciiInverse, in-Svg, in-Utf8}}
+use Rattle.qr_drawing.proofs.{drawing.draw.{Given.Over, Goals.{Joined-kind, in-Ascii, in-AsciiInverse, in-Svg, in-Utf8}}, lemmas.pen.{emptied, written}}
+use Rattle.{qr_drawing.specs.{Drawing.drawn, Steps.Writing.{Stops, Writes}}, std.proofs.{Common.{MatchResult, map, rules}, lemmas.Result.err_from_is_err_and}}
 use Rattle.qr_drawing.proofs.drawing.draw.Goals as goal
 
 -- what is written before the pen is emptied

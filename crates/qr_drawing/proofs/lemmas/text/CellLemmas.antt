@@ -3,11 +3,11 @@ use Rattle.std.proofs.Common.{◌≡◌, ◌++◌, ◌∙◌, ◌<◌, ◌≤◌
 use Rattle.std.{proofs.Math.Nat.{add-mul, mul-le-mul_right}, specs.Cmp.Lexicographic.{pointwise, same_text}}
 use Rattle.qr_matrix.specs.{Grid.{Grid, colour, is_same}, BitRow.has_bit, Sums.all_below}
 use Rattle.qr_matrix.proofs.Facts.{&&-left, &&-right, below-at, has_bit-shr, low-bits, same-same}
-use Rattle.qr_drawing.specs.{Raster.{is_dark_at, raster_width, texts_below}, Text.{cell_of, cells_of_line, half_blocks}}
+use Rattle.qr_drawing.specs.{Raster.{is_dark_at, raster_width, texts_below}, Text.{cell_of, cells_of_line}}
 use Rattle.qr_drawing.specs.Steps.Text.{AreDark, bits_text, cell_at, cell_room, cell_text, pair_text, top_row}
 use Rattle.qr_drawing.specs.declared.text.{TheConstants.{ASCII_QUADS, HALF_BLOCK_PAIRS}, TextStyle.{TextStyle, TheVariants.{Plain, Inverse, HalfBlocks}}}
 use Rattle.qr_drawing.proofs.lemmas.text.LineLemmas.{added-more, texts_below-add, texts_below-alike, texts_below-length}
-use Rattle.qr_drawing.proofs.lemmas.svg.PathLemmas.{is_dark_at-inside, is_dark_at-left, is_dark_at-right}
+use Rattle.qr_drawing.proofs.lemmas.svg.{is_dark_at-inside, is_dark_at-left, is_dark_at-right}
 
 -- no bit of 0 is set: computed
 none-set : all_below 8 (λ k. is_same (has_bit 0 k) false) ≡ true
@@ -15,12 +15,11 @@ unfolding has_bit
 none-set = refl
 
 light-bit : (k : ℕ) → k < 8 → has_bit 0 k ≡ false
-light-bit k lt = same-same _ _ (below-at 8 (λ k. is_same (has_bit 0 k) false) none-set k lt)
+light-bit k lt = search (arith, same-same, below-at, none-set)
 
 -- four cells of modules that are bits of 0 are four light cells
 pub light-quad : (style : TextStyle) → bits_text 4 style 0 0 ≡ texts_below 4 (λ _. cell_text style false false)
-light-quad style =
-    texts_below-alike 4 _ _ (λ k lt. let light = light-bit k (omega arith) in λ i. cell_text style (light i) (light i))
+light-quad style = search (arith, texts_below-alike, light-bit)
 
 -- if a row of the raster is light, the number 0 has the bits of eight of its modules
 pub dark_none : (margin : ℕ) (g : Grid) (y col : ℕ) → ((x : ℕ) → is_dark_at margin g y x ≡ false) → AreDark margin g y col 0
@@ -29,8 +28,7 @@ dark_none margin g y col h k lt inside = light-bit k lt ∙ sym (h (margin + (co
 -- the bits of eight modules of the square are those of eight places of the raster
 pub dark-eight : (margin : ℕ) (g : Grid) (y row col bits : ℕ) → margin + row ≡ y → row < g.side
     → ((k : ℕ) → k < 8 → has_bit bits k ≡ colour g row (col + k)) → AreDark margin g y col bits
-dark-eight margin g y row col bits e inside h k lt col_in =
-    h k lt ∙ sym (ap (λ r. is_dark_at margin g r (margin + (col + k))) (sym e) ∙ is_dark_at-inside margin row (col + k) g inside col_in)
+dark-eight margin g y row col bits e inside h k lt col_in = search (arith, is_dark_at-inside)
 
 -- if n cells are added to the cells of `col` columns, the result is the cells of `col` + n columns
 pub added-cells : (style : TextStyle) (margin : ℕ) (g : Grid) (row col n upper lower : ℕ) (h t u : List ℕ) →
@@ -40,15 +38,12 @@ pub added-cells : (style : TextStyle) (margin : ℕ) (g : Grid) (row col n upper
     u ≡ h ++ texts_below (col + n) (λ i. cell_at style margin g row (margin + i))
 added-cells style margin g row col n upper lower h t u few fits up down p q =
     added-more h t u col n _ _ p q
-    (texts_below-alike n _ _ (λ k lt. λ i. cell_text style (up k (omega arith) (omega arith) i) (down k (omega arith) (omega arith) i)))
+    (search (arith, texts_below-alike))
 
 -- the texts of n + d cells are those of the n lowest bits and of the d bits after them
 bits-split : (n d : ℕ) (style : TextStyle) (upper lower : ℕ)
     → bits_text (n + d) style upper lower ≡ bits_text n style upper lower ++ bits_text d style (upper / 2 ^ n) (lower / 2 ^ n)
-bits-split n d style upper lower =
-    let up : (b k : ℕ) → has_bit b (n + k) ≡ has_bit (b / 2 ^ n) k = λ b k. let e : n + k ≡ k + n = omega arith in ap (has_bit b) e ∙ sym (has_bit-shr b n k) in
-    texts_below-add n d _
-    ∙ ap (λ l. bits_text n style upper lower ++ l) (texts_below-alike d _ _ (λ k lt. λ i. cell_text style (up upper k i) (up lower k i)))
+bits-split n d style upper lower = search (arith, has_bit-shr, texts_below-add, texts_below-alike)
 
 -- if four cells are added and then four more, eight cells are added
 pub eight-quads : (h t u : List ℕ) (style : TextStyle) (upper lower : ℕ) → t ≡ h ++ bits_text 4 style upper lower
@@ -115,20 +110,19 @@ half-pair upper lower =
     (below-at 4 (λ b. all_below 2 (test a b)) (below-at 4 (λ a. all_below 4 (λ b. all_below 2 (test a b))) all-pairs a (omega arith)) b (omega arith)) in
     let up : (k : ℕ) → k < 2 → has_bit (a + b * 4) k ≡ has_bit upper k = λ k lt. same-same _ _ (&&-left _ _ (both k lt)) ∙ low-bits 2 upper k lt in
     let down : (k : ℕ) → k < 2 → has_bit (a + b * 4) (2 + k) ≡ has_bit lower k = λ k lt. same-same _ _ (&&-right _ _ (both k lt)) ∙ low-bits 2 lower k lt in
-    texts_below-alike 2 _ _ (λ k lt. λ i. half_blocks (up k lt i) (down k lt i))
+    search (arith, texts_below-alike)
 
 -- if two characters of half blocks are added and then two more, four characters are added
 pub half-block-pairs : (h t u : List ℕ) (upper lower : ℕ) → t ≡ h ++ pair_text (upper % 4 + lower % 4 * 4)
     → u ≡ t ++ pair_text (upper / 4 % 4 + lower / 4 % 4 * 4) → u ≡ h ++ bits_text 4 HalfBlocks upper lower
 half-block-pairs h t u upper lower p q =
     let low = bits_text 2 HalfBlocks upper lower in
-    let high = bits_text 2 HalfBlocks (upper / 4) (lower / 4) in
     cc (
       q,
       p,
       half-pair upper lower,
       half-pair (upper / 4) (lower / 4),
-      append_assoc h low high,
+      append_assoc h low (bits_text 2 HalfBlocks (upper / 4) (lower / 4)),
       bits-split 2 2 HalfBlocks upper lower,
     )
 
@@ -146,7 +140,7 @@ cells-length h t n count b text most e le =
 pub room-left : (h t : List ℕ) (n d o b room : ℕ) (text : ℕ → List ℕ) → ((k : ℕ) → length (text k) ≤ b) → t ≡ h ++ texts_below n text
     → n + d ≤ o → length h + o * b ≤ room → length t + d * b ≤ room
 room-left h t n d o b room text most e le fits =
-    let l : length t ≡ length h + length (texts_below n text) = ap (λ l. length l) e ∙ length-append h (texts_below n text) in
+    let l : length t ≡ length h + length (texts_below n text) = search (arith, length-append) in
     omega (arith, l, texts_below-length n b text most, add-mul n d b, mul-le-mul_right b le, fits)
 
 -- if there was room for four characters of half blocks, then after two there is room for two more
@@ -173,8 +167,7 @@ cell-of style margin g y x = grind arith
 light-cells : (style : TextStyle) (margin : ℕ) (g : Grid) (row first n : ℕ) →
     ((y k : ℕ) → k < n → is_dark_at margin g y (first + k) ≡ false) →
     texts_below n (λ i. cell_at style margin g row (first + i)) ≡ texts_below n (λ _. cell_text style false false)
-light-cells style margin g row first n light =
-    texts_below-alike n _ _ (λ k lt. λ i. cell_text style (light row k lt i) (light (row + 1) k lt i))
+light-cells style margin g row first n light = search (arith, texts_below-alike)
 
 -- n cells of the columns from `col` + d on, by the bits of the eight modules from `col` on
 pub later-cells : (style : TextStyle) (margin : ℕ) (g : Grid) (row col d n upper lower up down : ℕ) → d + n ≤ 8 → col + d + n ≤ g.side →
@@ -182,8 +175,8 @@ pub later-cells : (style : TextStyle) (margin : ℕ) (g : Grid) (row col d n upp
     bits_text n style up down ≡ texts_below n (λ i. cell_at style margin g row (margin + (col + d) + i))
 later-cells style margin g row col d n upper lower up down few fits above below e f =
     let at : (y bits k : ℕ) → AreDark margin g y col bits → k < n → has_bit (bits / 2 ^ d) k ≡ is_dark_at margin g y (margin + (col + d) + k) =
-    λ y bits k dark lt. has_bit-shr bits d k ∙ (dark (k + d) (omega arith) (omega arith) ∙ ap (is_dark_at margin g y) (omega arith)) in
-    rw (e, f) (texts_below-alike n _ _ (λ k lt. λ i. cell_text style (at row upper k above lt i) (at (row + 1) lower k below lt i)))
+    λ y bits k dark lt. has_bit-shr bits d k ∙ (search arith) in
+    search (arith, texts_below-alike)
 
 -- a line is the margin, the first `col` columns of the square, the n columns that are left, the margin and a newline
 pub line-parts : (style : TextStyle) (margin : ℕ) (g : Grid) (y col n : ℕ) → col + n ≡ g.side → cells_of_line style margin g y ++ 10 ∷ []

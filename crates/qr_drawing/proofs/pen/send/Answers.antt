@@ -1,6 +1,5 @@
-use Rattle.std.proofs.Common.{rules, ◌≡◌, ◌<◌, ◌≤◌, ◌+◌, ◌-◌, ℕ, List, min, length, take, drop, refl, arith}
-use Rattle.{std.proofs.lemmas.List.{length-drop, length-take}, qr_drawing.proofs.lemmas.pen.WritingLemmas.writes-none}
-use Rattle.qr_drawing.proofs.lemmas.pen.SendingLemmas.{sends-more, sends-again, refused-zero, refused-failed, refused-tried}
+use Rattle.qr_drawing.proofs.lemmas.pen.{writes-none, sends-more, sends-again, refused-zero, refused-failed, refused-tried}
+use Rattle.std.proofs.{Common.{rules, ◌≡◌, ◌<◌, ◌≤◌, ◌+◌, ◌-◌, ℕ, List, min, length, take, drop, refl, arith}, lemmas.List.{length-drop, length-take}}
 use Rattle.qr_drawing.proofs.pen.send.Goals as goal
 
 -- a write offers some bytes, at most 1,200, and no more than are left
@@ -26,33 +25,30 @@ returns-then-taken-eq0-clause-writes g c =
 
 pub offers-preserved-in-Ok : goal.offers-preserved-in-Ok
 offers-preserved-in-Ok g c =
-    let o = offered c.args.bytes.now c.offers.at c.min-len.result c.offers-test.true c.min-len.ensures in
     record {
       within = search rules;
       few = c.offers.invariant.few;
       writes = sends-more _ _ _ _ c.offers.at (c.offers.at + c.min-len.result - c.offers.at) _ _ _ _ c.offers.invariant.writes
-          c.in-Ok.ensures.bound o.1 c.if-taken-eq0.false refl c.in-Ok.ensures.bytes c.in-Ok.ensures.counted;
+          c.in-Ok.ensures.bound (offered c.args.bytes.now c.offers.at c.min-len.result c.offers-test.true c.min-len.ensures).1 c.if-taken-eq0.false refl c.in-Ok.ensures.bytes c.in-Ok.ensures.counted;
     }
 
 pub offers-preserved : goal.offers-preserved
 offers-preserved g c =
-    let o = offered c.args.bytes.now c.offers.at c.min-len.result c.offers-test.true c.min-len.ensures in
     let few = again c.offers.tries c.offers.invariant.few c.if-tries-eq-INTERRUPTIONS_MAX.false in
     record {
       within = c.offers.invariant.within;
       few = few;
-      writes = sends-again _ _ _ _ _ _ _ c.offers.invariant.writes o.1 few
+      writes = sends-again _ _ _ _ _ _ _ c.offers.invariant.writes (offered c.args.bytes.now c.offers.at c.min-len.result c.offers-test.true c.min-len.ensures).1 few
           c.in-Err-Interrupted.ensures.bytes (rw c.in-Err-Interrupted.field-0-is at c.in-Err-Interrupted.ensures.counted);
     }
 
 pub returns-then-tries-eq-INTERRUPTIONS_MAX-clause-writes :
     goal.returns-then-tries-eq-INTERRUPTIONS_MAX-clause-writes
 returns-then-tries-eq-INTERRUPTIONS_MAX-clause-writes g c =
-    let o = offered c.args.bytes.now c.offers.at c.min-len.result c.offers-test.true c.min-len.ensures in
-    refused-tried _ _ _ _ _ _ _ _ c.if-tries-eq-INTERRUPTIONS_MAX.true c.offers.invariant.writes o.1
+    refused-tried _ _ _ _ _ _ _ _ c.if-tries-eq-INTERRUPTIONS_MAX.true c.offers.invariant.writes (offered c.args.bytes.now c.offers.at c.min-len.result c.offers-test.true c.min-len.ensures).1
     c.in-Err-Interrupted.ensures.bytes (rw c.in-Err-Interrupted.field-0-is at c.in-Err-Interrupted.ensures.counted)
 
 pub returns-in-Err-Failed-clause-writes : goal.returns-in-Err-Failed-clause-writes
 returns-in-Err-Failed-clause-writes g c =
     refused-failed _ _ _ _ _ _ _ _ c.offers.invariant.writes (offered c.args.bytes.now c.offers.at c.min-len.result c.offers-test.true c.min-len.ensures).1
-    c.in-Err-Failed.ensures.bytes (rw c.in-Err-Failed.field-0-is at c.in-Err-Failed.ensures.counted)
+    c.in-Err-Failed.ensures.bytes (search rules)

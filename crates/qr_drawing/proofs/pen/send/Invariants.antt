@@ -1,5 +1,4 @@
-use Rattle.std.proofs.Common.{◌+◌, ◌-◌, ◌<◌, ◌≤◌, [], length, take}
-use Rattle.qr_drawing.specs.Steps.Writing.{Writes}
+use Rattle.{qr_drawing.specs.Steps.Writing.Writes, std.proofs.Common.{◌+◌, ◌-◌, ◌<◌, ◌≤◌, [], length, take}}
 use Rattle.qr_drawing.proofs.pen.send.Given as goal
 
 abbrev pub invariant-offers : goal.invariant-offers

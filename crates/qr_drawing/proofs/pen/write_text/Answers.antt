@@ -1,5 +1,4 @@
-use Rattle.std.proofs.{Common.Ok, lemmas.Result.err_from_is_err_and}
-use Rattle.qr_drawing.proofs.lemmas.pen.WritingLemmas.{written}
+use Rattle.{qr_drawing.proofs.lemmas.pen.written, std.proofs.{Common.Ok, lemmas.Result.err_from_is_err_and}}
 use Rattle.qr_drawing.proofs.pen.write_text.Goals as goal
 
 pub returns-in_err-send : goal.returns-in_err-send

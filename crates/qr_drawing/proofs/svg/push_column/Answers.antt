@@ -1,5 +1,4 @@
-use Rattle.{std.proofs.lemmas.Fmt.decimal_digit, qr_drawing.{specs.Svg.numbered, proofs.lemmas.svg.DigitLemmas.{three, two}}}
-use Rattle.std.proofs.Common.{rules}
+use Rattle.{qr_drawing.{proofs.lemmas.svg.{three, two}, specs.Svg.numbered}, std.proofs.{Common.rules, lemmas.Fmt.decimal_digit}}
 use Rattle.qr_drawing.proofs.svg.push_column.Goals as goal
 
 pub returns-then-x-lt10-clause-items : goal.returns-then-x-lt10-clause-items

@@ -1,5 +1,4 @@
-use Rattle.std.proofs.Common.{rules}
-use Rattle.qr_drawing.proofs.lemmas.svg.DigitLemmas.{short-at}
+use Rattle.{qr_drawing.proofs.lemmas.svg.short-at, std.proofs.Common.rules}
 use Rattle.qr_drawing.proofs.svg.push_width.Goals as goal
 
 pub returns-then-modules-lt10 : goal.returns-then-modules-lt10

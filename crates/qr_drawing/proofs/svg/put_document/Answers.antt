@@ -1,6 +1,5 @@
-use Rattle.std.proofs.{Common.refl, lemmas.Result.err_from_is_err_and}
-use Rattle.qr_drawing.{specs.{Svg.closing, Steps.Svg.tail}, proofs.lemmas.svg.PathLemmas.document-parts}
-use Rattle.qr_drawing.proofs.lemmas.pen.WritingLemmas.{formed, stops-before, stops-between, stops-first, writes-on, writes-stop}
+use Rattle.qr_drawing.{proofs.lemmas.{pen.{formed, stops-before, stops-between, stops-first, writes-on, writes-stop}, svg.document-parts}, specs.Steps.Svg.tail}
+use Rattle.{qr_drawing.specs.Svg.closing, std.proofs.{Common.refl, lemmas.Result.err_from_is_err_and}}
 use Rattle.qr_drawing.proofs.svg.put_document.Goals as goal
 
 pub returns-in_err-reserve : goal.returns-in_err-reserve
@@ -8,20 +7,18 @@ returns-in_err-reserve g c = rw ((err_from_is_err_and c.from_residual.result c.f
 
 pub returns-in_err-put_stack : goal.returns-in_err-put_stack
 returns-in_err-put_stack g c =
-    let p = err_from_is_err_and c.from_residual-in_err-put_stack.result c.from_residual-in_err-put_stack.ensures.1 in
     let held = c.args.pen.now.piece in
     let parts = document-parts g.S.HasSquare.grid c.args.margin c.width-width.result _ c.args.symbols.now c.index-symbols-0.result c.requires.some
     (rw (c.square.ensures, c.index-symbols-0.is) at c.width-width.ensures.value) refl in
-    rw (p.1, parts) (stops-first _ _ _ held _ _ (writes-stop _ _ _ _ _ held _ _ _
+    rw ((err_from_is_err_and c.from_residual-in_err-put_stack.result c.from_residual-in_err-put_stack.ensures.1).1, parts) (stops-first _ _ _ held _ _ (writes-stop _ _ _ _ _ held _ _ _
     (formed _ _ _ _ held _ _ _ c.in_ok-reserve.ensures.writes c.push_head.ensures) c.in_err-put_stack.ensures))
 
 pub returns-in_err-reserve-2 : goal.returns-in_err-reserve-2
 returns-in_err-reserve-2 g c =
-    let p = err_from_is_err_and c.from_residual-in_err-reserve-2.result c.from_residual-in_err-reserve-2.ensures.1 in
     let held = c.args.pen.now.piece in
     let parts = document-parts g.S.HasSquare.grid c.args.margin c.width-width.result _ c.args.symbols.now c.index-symbols-0.result c.requires.some
     (rw (c.square.ensures, c.index-symbols-0.is) at c.width-width.ensures.value) refl in
-    rw (p.1, parts) (stops-between _ _ _ _ _ held _ _ _ (writes-on _ _ _ _ _ _ held _ _ _ _
+    rw ((err_from_is_err_and c.from_residual-in_err-reserve-2.result c.from_residual-in_err-reserve-2.ensures.1).1, parts) (stops-between _ _ _ _ _ held _ _ _ (writes-on _ _ _ _ _ _ held _ _ _ _
     (formed _ _ _ _ held _ _ _ c.in_ok-reserve.ensures.writes c.push_head.ensures) c.in_ok-put_stack.ensures) c.in_err-reserve-2.ensures.writes)
 
 pub returns : goal.returns

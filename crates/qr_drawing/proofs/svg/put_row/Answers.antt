@@ -1,21 +1,15 @@
-use Rattle.std.proofs.Common.{rules, ◌<◌, ◌≤◌, ◌+◌, [], ◌∷◌, append_assoc, append-nil, arith}
-use Rattle.std.proofs.lemmas.{Grind.flat_map-append, List.Elements.{All-head, All-rest}, Result.err_from_is_err_and}
-use Rattle.{std.specs.List.flat_map, qr_drawing.proofs.lemmas.svg.PathLemmas.{box-is, box_of, row-boxes}}
-use Rattle.qr_drawing.proofs.lemmas.pen.WritingLemmas.{formed, stops-between, writes-none, writes-on}
+use Rattle.qr_drawing.proofs.lemmas.{pen.{formed, stops-between, writes-none, writes-on}, svg.{box-is, box_of, row-boxes}}
+use Rattle.std.proofs.{Common.{rules, ◌<◌, ◌≤◌, ◌+◌, [], ◌∷◌, append_assoc, append-nil, arith}, lemmas.Grind.flat_map-append}
+use Rattle.std.{proofs.lemmas.{List.Elements.{All-head, All-rest}, Result.err_from_is_err_and}, specs.List.flat_map}
 use Rattle.qr_drawing.proofs.svg.put_row.Goals as goal
 
 pub loop-run-init : goal.loop-run-init
-loop-run-init g c = rw c.into_iter-run-iterator.ensures.into_iter_gives (record {
-  within = c.dark_runs-run-items.ensures.within;
-  path = search (rules, row-boxes);
-  writes = writes-none _ _ _;
-})
+loop-run-init g c = rw c.into_iter-run-iterator.ensures.into_iter_gives (search (rules, row-boxes, writes-none))
 
 pub returns-in_err-reserve : goal.returns-in_err-reserve
 returns-in_err-reserve g c =
-    let p = err_from_is_err_and c.from_residual.result c.from_residual.ensures.1 in
     let box = box_of c.args.top c.args.raster.now.margin c.args.row in
-    rw (p.1, c.loop-run.invariant.path, flat_map-append box c.loop-run.yielded c.loop-run.run-iterator)
+    rw ((err_from_is_err_and c.from_residual.result c.from_residual.ensures.1).1, c.loop-run.invariant.path, flat_map-append box c.loop-run.yielded c.loop-run.run-iterator)
     (stops-between _ _ _ _ _ c.args.pen.now.piece c.loop-run.pen.piece (flat_map box c.loop-run.yielded) (flat_map box c.loop-run.run-iterator)
     c.loop-run.invariant.writes c.in_err-reserve.ensures.writes)
 
@@ -36,7 +30,7 @@ loop-run-preserved g c =
       path = search (rules, append_assoc);
       writes = rw (flat_map-append box c.loop-run.yielded (run ∷ []), append-nil (box run), ← here)
           (writes-on _ _ _ _ _ _ c.args.pen.now.piece c.loop-run.pen.piece _ (flat_map box c.loop-run.yielded) _ c.loop-run.invariant.writes
-          (formed _ _ _ _ c.loop-run.pen.piece _ _ _ c.in_ok-reserve.ensures.writes (c.push_box.ensures _ c.text_of_row-row_text.ensures)));
+          (formed _ _ _ _ c.loop-run.pen.piece _ _ _ c.in_ok-reserve.ensures.writes (search rules)));
     }
 
 pub returns : goal.returns

@@ -1,5 +1,5 @@
 use Rattle.std.proofs.{Common.{refl, arith}, lemmas.Result.err_from_is_err_and}
-use Rattle.qr_drawing.proofs.lemmas.{text.LineLemmas.{no-texts, put-next, put-none, put-stops}, svg.PathLemmas.{next-top, stack-at, stack-ends}}
+use Rattle.qr_drawing.proofs.lemmas.{text.LineLemmas.{no-texts, put-next, put-none, put-stops}, svg.{next-top, stack-at, stack-ends}}
 use Rattle.qr_drawing.proofs.svg.put_stack.Goals as goal
 
 pub loop-symbol-init : goal.loop-symbol-init
@@ -7,10 +7,9 @@ loop-symbol-init g c = record { top = omega arith; low = omega arith; writes = p
 
 pub returns-in_err-put_symbol : goal.returns-in_err-put_symbol
 returns-in_err-put_symbol g c =
-    let p = err_from_is_err_and c.from_residual.result c.from_residual.ensures.1 in
     let here = stack-at g.S.HasSquare.grid c.args.margin c.loop-symbol.symbol-index c.loop-symbol.top c.args.symbols.now c.symbol-item.result
     c.requires.one_side c.loop-symbol-test.true c.symbol-item.is c.loop-symbol.invariant.top in
-    rw (p.1, stack-ends g.S.HasSquare.grid c.args.margin _ c.args.symbols.now refl)
+    rw ((err_from_is_err_and c.from_residual.result c.from_residual.ensures.1).1, stack-ends g.S.HasSquare.grid c.args.margin _ c.args.symbols.now refl)
     (put-stops _ _ _ _ _ _ _ _ _ _ _ here c.loop-symbol-test.true c.loop-symbol.invariant.writes (rw c.square.ensures at c.in_err-put_symbol.ensures))
 
 pub loop-symbol-preserved : goal.loop-symbol-preserved
@@ -21,7 +20,7 @@ loop-symbol-preserved g c =
     record {
       top = next-top g.S.HasSquare.grid c.args.margin c.loop-symbol.symbol-index c.loop-symbol.top _ c.args.symbols.now c.symbol-item.result
           c.requires.one_side c.loop-symbol-test.true c.symbol-item.is c.loop-symbol.invariant.top (rw c.square.ensures at c.width-top.ensures.value);
-      low = let m = c.width-top.ensures.most in omega arith;
+      low = omega arith;
       writes = put-next _ _ _ _ _ _ _ _ _ _ _ _ _ here refl c.loop-symbol.invariant.writes (rw c.square.ensures at c.in_ok-put_symbol.ensures);
     }
 

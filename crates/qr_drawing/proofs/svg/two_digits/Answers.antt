@@ -1,5 +1,4 @@
-use Rattle.std.proofs.Common.{rules}
-use Rattle.qr_drawing.proofs.lemmas.svg.DigitLemmas.{digits-at}
+use Rattle.{qr_drawing.proofs.lemmas.svg.digits-at, std.proofs.Common.rules}
 use Rattle.qr_drawing.proofs.svg.two_digits.Goals as goal
 
 pub returns : goal.returns

@@ -1,5 +1,4 @@
-use Rattle.std.proofs.Common.{rules}
-use Rattle.qr_drawing.proofs.lemmas.text.CellLemmas.{pair-at}
+use Rattle.{qr_drawing.proofs.lemmas.text.CellLemmas.pair-at, std.proofs.Common.rules}
 use Rattle.qr_drawing.proofs.text.push_half_block_pair.Goals as goal
 
 pub returns : goal.returns

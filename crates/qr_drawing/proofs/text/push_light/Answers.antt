@@ -11,7 +11,7 @@ push_quad-requires c = record { room = room-left _ _ _ _ c.args.count _ _ _ (λ 
 pub loop-quads-preserved : goal.loop-quads-preserved
 loop-quads-preserved c =
     let e : c.loop-quads.quads * 4 + 4 ≡ (c.loop-quads.quads + 1) * 4 = omega arith in
-    rw (← e) (added-more _ _ _ _ 4 _ _ c.loop-quads.invariant c.push_quad.ensures (light-quad c.args.style))
+    rw (← e) (search (rules, added-more, light-quad))
 
 pub loop-cells-init : goal.loop-cells-init
 loop-cells-init c = search rules

@@ -1,5 +1,4 @@
-use Rattle.std.proofs.Common.{◌≡◌, ◌+◌, ◌*◌, ◌/◌, ◌++◌, false}
-use Rattle.qr_drawing.specs.{Raster.texts_below, Steps.Text.cell_text}
+use Rattle.{qr_drawing.specs.{Raster.texts_below, Steps.Text.cell_text}, std.proofs.Common.{◌≡◌, ◌+◌, ◌*◌, ◌/◌, ◌++◌, false}}
 use Rattle.qr_drawing.proofs.text.push_light.Given as goal
 
 abbrev pub invariant-loop-quads : goal.invariant-loop-quads

@@ -1,5 +1,4 @@
-use Rattle.std.proofs.Common.{rules}
-use Rattle.qr_drawing.proofs.{lemmas.text.CellLemmas.{quad-inverse, quad-plain}, text.push_quad.Goals.{in-Inverse, in-Plain}}
+use Rattle.{qr_drawing.proofs.{lemmas.text.CellLemmas.{quad-inverse, quad-plain}, text.push_quad.Goals.{in-Inverse, in-Plain}}, std.proofs.Common.rules}
 use Rattle.qr_drawing.proofs.text.push_quad.Goals as goal
 
 pub returns : goal.returns

@@ -1,7 +1,7 @@
 use Rattle.std.proofs.{Math.Nat.add-mul, Common.{◌≡◌, ◌≤◌, ◌+◌, ◌-◌, ◌++◌, List, ℕ, append_assoc, ap, length, refl, arith, rules}, lemmas.{List.length-take, Result.err_from_is_err_and}}
 use Rattle.qr_matrix.specs.BitRow.{has_bit}
 use Rattle.qr_drawing.specs.{Raster.texts_below, Steps.Text.{bits_text, cell_at, cell_room, cell_text, top_row}}
-use Rattle.qr_drawing.proofs.lemmas.{pen.WritingLemmas.{formed, stops-between, stops-first, writes-on}, text.LineLemmas.{added-next, added-none}}
+use Rattle.qr_drawing.proofs.lemmas.{pen.{formed, stops-between, stops-first, writes-on}, text.LineLemmas.{added-next, added-none}}
 use Rattle.qr_drawing.proofs.lemmas.text.CellLemmas.{added-cells, cell-length, cells-length, eight-quads, later-cells, line-parts, room-cells, room-left, room-quad}
 use Rattle.qr_drawing.proofs.text.put_line.{Given.Over, Goals.{Joined-left-ge4, Joined-style, else-left-ge4, in-HalfBlocks, in-Plain, then-left-ge4}}
 use Rattle.qr_drawing.proofs.text.put_line.Goals as goal
@@ -49,10 +49,9 @@ pub returns-in_err-reserve-2 : goal.returns-in_err-reserve-2
 returns-in_err-reserve-2 g c =
     let p = err_from_is_err_and c.from_residual-in_err-reserve-2.result c.from_residual-in_err-reserve-2.ensures.1 in
     let held = c.args.pen.now.piece in
-    let left = rw c.from-margin.ensures at c.push_light.ensures.items in
     rw (p.1, line-parts c.args.style c.args.raster.now.margin c.args.raster.now.matrix.now c.args.y 0 c.args.raster.now.matrix.now.side (omega arith))
     (stops-first _ _ _ held _ _ (stops-between _ _ _ _ _ held _ _ _
-    (formed _ _ _ _ held _ _ _ c.in_ok-reserve.ensures.writes left) c.in_err-reserve-2.ensures.writes))
+    (formed _ _ _ _ held _ _ _ c.in_ok-reserve.ensures.writes (rw c.from-margin.ensures at c.push_light.ensures.items)) c.in_err-reserve-2.ensures.writes))
 
 pub eights-init : goal.eights-init
 eights-init g c = search (rules, added-none)
@@ -76,7 +75,7 @@ eights-preserved g c =
       within = omega arith;
       whole = omega (arith, i.whole);
       items = added-cells c.args.style _ _ _ _ 8 _ _ _ _ _ (omega arith) (omega arith) c.dark_bits-upper.ensures c.dark_bits-lower.ensures i.items
-          (eight-quads _ _ _ _ _ _ c.push_quad.ensures c.push_quad-in-eights.ensures);
+          (search (rules, eight-quads));
     }
 
 pub push_quad-requires-then-left-ge4 : goal.push_quad-requires-then-left-ge4
@@ -128,8 +127,7 @@ prove-unreachable-requires g c =
 
 pub push_all-requires : goal.push_all-requires
 push_all-requires g c =
-    let long = length-take c.text.inside.len c.text.inside.bytes in
-    (omega arith, omega (arith, long, ap length c.text.view_is, c.text.invariant.0, c.text.invariant.1, c.if-prove.false))
+    (omega arith, omega (arith, (length-take c.text.inside.len c.text.inside.bytes), ap length c.text.view_is, c.text.invariant.0, c.text.invariant.1, c.if-prove.false))
 
 pub returns : goal.returns
 returns g c =

@@ -1,5 +1,4 @@
-use Rattle.std.proofs.Common.{◌≡◌, ◌≤◌, ◌+◌, ◌-◌, ◌%◌, ◌++◌}
-use Rattle.qr_drawing.specs.{Raster.texts_below, Steps.Text.{bits_text, cell_at}}
+use Rattle.{qr_drawing.specs.{Raster.texts_below, Steps.Text.{bits_text, cell_at}}, std.proofs.Common.{◌≡◌, ◌≤◌, ◌+◌, ◌-◌, ◌%◌, ◌++◌}}
 use Rattle.qr_drawing.proofs.text.put_line.Given as goal
 
 abbrev pub invariant-eights : goal.invariant-eights

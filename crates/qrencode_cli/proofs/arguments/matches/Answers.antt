@@ -1,8 +1,7 @@
+use Rattle.clap.specs.{Simple.{new_app, with_rule}, Walk.Rule, Words.{app_of, is_simple_and_free}, declared.builder.action.ArgAction.TheVariants.SetTrue}
+use Rattle.{clap.specs.declared.builder.value_parser.ValueParser.TheVariants.Signed, qrencode_cli.proofs.arguments.matches.Goals.After-try_get_matches_from}
+use Rattle.qrencode_cli.{proofs.lemmas.arguments.{faults-are, rows-are, is_free-command, kinds-not-empty, refused-words}, specs.Arguments.command}
 use Rattle.std.proofs.Common.{◌≡◌, true, Some, ℤ, pos, ap, ap₂, codes, sym, ◌∙◌}
-use Rattle.clap.specs.declared.builder.{action.ArgAction.TheVariants.SetTrue, value_parser.ValueParser.TheVariants.Signed}
-use Rattle.clap.specs.{Simple.{new_app, with_rule}, Walk.{Rule, rule_of}, Words.{app_of, is_simple_and_free}}
-use Rattle.qrencode_cli.{specs.Arguments.{command, positional_rule}, proofs.arguments.matches.Goals.After-try_get_matches_from}
-use Rattle.qrencode_cli.proofs.lemmas.arguments.MatchingLemmas.{faults-are, rows-are, is_free-command, kinds-not-empty, refused-words}
 use Rattle.qrencode_cli.proofs.arguments.matches.Goals as goal
 
 -- what `clap` is told of the command
@@ -27,9 +26,7 @@ is-command c =
     let a6 = c.in_ok-arg-6.ensures.shape (rw c.action-2.ensures c.option-6.ensures.local) ∙ ap₂ with_rule a5 (rw c.action-2.ensures (ap flag c.option-6.ensures.rule)) in
     let a7 = c.in_ok-arg-7.ensures.shape (rw c.action-3.ensures c.option-7.ensures.local) ∙ ap₂ with_rule a6 (rw c.action-3.ensures (ap flag c.option-7.ensures.rule)) in
     let a8 = c.in_ok-arg-8.ensures.shape (rw c.action-4.ensures c.option-8.ensures.local) ∙ ap₂ with_rule a7 (rw c.action-4.ensures (ap flag c.option-8.ensures.rule)) in
-    let a9 : rule_of c.help.result ≡ positional_rule (codes "string") =
-    rw (c.help.ensures, c.value_name-5.ensures) (ap named c.new-2.ensures.rule) in
-    c.in_ok-command.ensures.shape (rw (c.help.ensures, c.value_name-5.ensures) c.new-2.ensures.optional.1) ∙ ap₂ with_rule a8 a9
+    c.in_ok-command.ensures.shape (rw (c.help.ensures, c.value_name-5.ensures) c.new-2.ensures.optional.1) ∙ ap₂ with_rule a8 (rw (c.help.ensures, c.value_name-5.ensures) (ap named c.new-2.ensures.rule))
 
 pub returns-in-Ok-clause-taken : goal.returns-in-Ok-clause-taken
 returns-in-Ok-clause-taken c =

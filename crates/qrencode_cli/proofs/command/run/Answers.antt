@@ -1,5 +1,4 @@
-use Rattle.std.proofs.Common.{Err, Ok, arith, refl}
-use Rattle.qrencode_cli.proofs.lemmas.command.RunningLemmas.{runs, tells-fault}
+use Rattle.{qrencode_cli.proofs.lemmas.command.RunningLemmas.{runs, tells-fault}, std.proofs.Common.{Err, Ok, arith, refl}}
 use Rattle.qrencode_cli.proofs.command.run.Goals as goal
 
 pub returns-in-Ok : goal.returns-in-Ok

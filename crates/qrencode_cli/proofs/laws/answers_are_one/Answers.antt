@@ -1,5 +1,4 @@
-use Rattle.std.proofs.Common.{rules}
-use Rattle.qrencode_cli.proofs.lemmas.laws.AnswerLemmas.{answers-one, refusals-exclude, refusals-one}
+use Rattle.{qrencode_cli.proofs.lemmas.laws.{answers-one, refusals-exclude, refusals-one}, std.proofs.Common.rules}
 use Rattle.qrencode_cli.proofs.laws.answers_are_one.Goals as goal
 
 pub returns : goal.returns

@@ -1,5 +1,4 @@
-use Rattle.{std.proofs.Common.rules, clap.proofs.OnLiterals.clap_on_literals}
-use Rattle.qrencode_cli.specs.Arguments.{command, faults_for, rows_for}
+use Rattle.{clap.proofs.OnLiterals.clap_on_literals, qrencode_cli.specs.Arguments.{command, faults_for, rows_for}, std.proofs.Common.rules}
 use Rattle.qrencode_cli.proofs.laws.command_lines.Goals as goal
 
 pub returns : goal.returns

@@ -1,11 +1,11 @@
 -- The invariant of the loop that reads the input.
-use Rattle.std.proofs.Common.{◌≡◌, ◌+◌, ◌<◌, ◌≤◌, ◌++◌, ℕ, List, [], false, length, length-append, take, Option, Some, None, Ok, Err, arith, rules, refl, append-nil, inl, inr, ◌⊎◌, ◌-◌, min}
+use Rattle.std.proofs.Common.{◌≡◌, ◌+◌, ◌<◌, ◌≤◌, ◌++◌, ℕ, List, [], false, length, length-append, take, Option, Some, None, Ok, Err, arith, refl, append-nil, inl, inr, ◌⊎◌, ◌-◌, min}
 use Rattle.std.proofs.{lemmas.List.take_all, lemmas.List.take-append-le, lemmas.List.length-take, lemmas.List.length-take-le, lemmas.Bool.false≢true, Math.Seq.take-append_seam, KnownBytes.Consumes-trans}
 use Rattle.{qr_bits.specs.declared.modes.TheConstants.INPUT_MAX, std.specs.Io.KnownBytes.{Consumes, IsAtEnd}}
 use Rattle.qrencode_cli.specs.{Input.{IsInputOf, IsReadWithin}, Steps.Command.{HasRead, StopsReading}}
 use Rattle.qrencode_cli.specs.declared.fault.Fault.TheVariants as fault
 use Rattle.qr_devices.specs.Device.{Reader, is_read_fault, no_reads, read_counted}
-use Rattle.qr_devices.specs.declared.device.{ReadCounts.ReadCounts, Trouble.Trouble, Trouble.TheVariants.Failed, Trouble.TheVariants.Interrupted}
+use Rattle.qr_devices.specs.declared.device.{ReadCounts.ReadCounts, Trouble.{Trouble, TheVariants.Failed}}
 
 -- the counts of a device that started at 0, after `len` bytes and this number of interruptions
 pub record IsCounted (c : ReadCounts) (len interrupted : ℕ) : Type 0 where
@@ -55,9 +55,7 @@ module _ (old a b : Reader) (bytes buf chunk : List ℕ) (n i most room : ℕ) (
 -- if the read failed, or was interrupted for the 1,000th time, reading stops with a read fault
 pub stops-read : (old a b : Reader) (bytes : List ℕ) (len i : ℕ) (t : Trouble) → IsReading old a bytes i
     → length bytes < INPUT_MAX → (t ≡ Failed) ⊎ (i ≡ 999) → b.counts ≡ read_counted len (Err t) a.counts → StopsReading old b fault.Read
-stops-read old a b bytes len i Interrupted h small (inl bad) e = cc
-stops-read old a b bytes len i Interrupted h small (inr last) e = search rules
-stops-read old a b bytes len i Failed h small last e = search rules
+stops-read old a b bytes len i t h small last e = grind arith
 
 -- if `INPUT_MAX` bytes were read, the reader has returned the input
 pub has-read-full : (old a : Reader) (bytes : List ℕ) (i : ℕ) → IsReading old a bytes i → INPUT_MAX ≤ length bytes → HasRead old a bytes

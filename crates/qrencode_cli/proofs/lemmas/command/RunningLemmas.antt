@@ -1,14 +1,12 @@
 -- The parts of a run make a correct run.
-use Rattle.qrencode_cli.proofs.lemmas.command.AskingLemmas.{same-fault}
-use Rattle.std.proofs.Common.{◌≤◌, arith, ◌≡◌, ℕ, List, [], Option, Result, Ok, Err, OnOk, OnErr, IfErr, MatchResult, if◌then◌else◌, inl, is_err, is_ok, max, true, false, inr, refl, append-nil, length}
-use Rattle.{std.specs.Io.KnownBytes.{Appends, Keeps}, clap.specs.Walk.Text}
-use Rattle.std.proofs.{lemmas.Bool.false≢true, KnownBytes.Appends-kept}
-use Rattle.qrencode_cli.specs.{Command.{DrawnWhole, ErrorHolds, HasDrawing, IsFault, OutputHolds, Runs}, Fault.fault_line, declared.fault.Fault.Fault}
-use Rattle.qrencode_cli.specs.Steps.Command.{Attempts, Draws, IsEarly, drawing_of_job}
-use Rattle.qrencode_cli.specs.declared.fault.Fault.TheVariants as fault
+use Rattle.clap.specs.Walk.{Text}
 use Rattle.qr_devices.specs.Device.{AppendsBeginning, IsWrittenWithin, Reader, Writer, counted, flush_counted, is_write_fault, no_writes}
-use Rattle.qr_devices.specs.declared.device.{Trouble.Trouble}
-use Rattle.qr_drawing.specs.declared.pen.{DrawFault.DrawFault, TheConstants.WRITE_MAX}
+use Rattle.{qr_devices.specs.declared.device.Trouble.Trouble, qr_drawing.specs.declared.pen.{DrawFault.DrawFault, TheConstants.WRITE_MAX}}
+use Rattle.qrencode_cli.{proofs.lemmas.command.AskingLemmas.same-fault, specs.Command.{DrawnWhole, ErrorHolds, HasDrawing, IsFault, OutputHolds, Runs}}
+use Rattle.qrencode_cli.specs.{Fault.fault_line, Steps.Command.{Attempts, Draws, IsEarly, drawing_of_job}, declared.fault.Fault.Fault}
+use Rattle.std.proofs.Common.{◌≤◌, arith, ◌≡◌, ℕ, List, [], Option, Result, Ok, Err, OnOk, OnErr, IfErr, MatchResult, if◌then◌else◌, inl, is_err, is_ok, max, true, false, inr, refl, append-nil, length}
+use Rattle.std.{proofs.{KnownBytes.Appends-kept, lemmas.Bool.false≢true}, specs.Io.KnownBytes.{Appends, Keeps}}
+use Rattle.qrencode_cli.specs.declared.fault.Fault.TheVariants as fault
 
 -- if the writer failed while it received the drawing, the result is a write fault
 pub draws-part : (old new : Writer) (drawing : List ℕ) → AppendsBeginning old.taken new.taken drawing → (old.counts ≡ no_writes → is_write_fault new.counts ≡ true)

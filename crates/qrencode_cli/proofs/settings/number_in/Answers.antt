@@ -1,7 +1,6 @@
-use Rattle.std.{proofs.Common.rules, specs.Str.Parse.{ParsesUnsigned, ExplainsUnsignedError, HasUnsignedDigitsIfOk}}
-use Rattle.{std.proofs.Common.{◌∙◌, ap, Ok}, qrencode_cli.specs.Settings.number_or}
 use Rattle.clap.{proofs.WalkLemmas.one_text-rows, specs.Words.{found_of, one_text}}
-use Rattle.qrencode_cli.proofs.lemmas.settings.NumberLemmas.{number-some, number-none, number-err}
+use Rattle.qrencode_cli.{proofs.lemmas.settings.{number-some, number-none, number-err}, specs.Settings.number_or}
+use Rattle.std.{proofs.Common.{rules, ◌∙◌, ap, Ok}, specs.Str.Parse.{ParsesUnsigned, ExplainsUnsignedError, HasUnsignedDigitsIfOk}}
 use Rattle.qrencode_cli.proofs.settings.number_in.Goals as goal
 
 pub returns-in-Ok-Some : goal.returns-in-Ok-Some

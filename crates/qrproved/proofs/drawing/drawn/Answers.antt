@@ -1,5 +1,4 @@
-use Rattle.std.proofs.{Common.rules, lemmas.List.map-id}
-use Rattle.qrproved.proofs.lemmas.drawing.DrawingLemmas.{many-squares, one-side}
+use Rattle.{qrproved.proofs.lemmas.drawing.{many-squares, one-side}, std.proofs.{Common.rules, lemmas.List.map-id}}
 use Rattle.qrproved.proofs.drawing.drawn.Goals as goal
 
 pub draw-requires-clause-some : goal.draw-requires-clause-some

@@ -1,5 +1,4 @@
-use Rattle.std.proofs.Common.{◌≡◌, ◌*◌, ◌-◌, ◌≤◌, ◌++◌, length}
-use Rattle.qrproved.specs.Drawing.{squares_of_bytes}
+use Rattle.{qrproved.specs.Drawing.squares_of_bytes, std.proofs.Common.{◌≡◌, ◌*◌, ◌-◌, ◌≤◌, ◌++◌, length}}
 use Rattle.qrproved.proofs.drawing.squares_of.Given as goal
 
 -- the squares that have been read, followed by those that are still to be read, are all squares

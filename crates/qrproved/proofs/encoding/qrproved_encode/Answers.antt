@@ -1,30 +1,29 @@
-use Rattle.std.proofs.Common.{◌≡◌, ◌≢◌, ◌↔◌, ◌<◌, ℕ, ◌*◌, true, false, Err, refl, sym, ap, subst, ◌∙◌, arith, rules}
-use Rattle.{qr_layout.specs.{Version.side_of, declared.level.Level.Level}, qr_bits.specs.Interpretation.MayWrite, qr_symbol.proofs.Facts.version-one}
-use Rattle.qr_symbol.specs.declared.fault.EncodeFault.TheVariants as fault
-use Rattle.qr_symbol.specs.{Encoding.{IsBoostedSymbol, IsSymbol}, VersionChoice.{HasNoVersion, IsVersion}, Reading.IsReadBack}
-use Rattle.qrproved.specs.{declared.settings.Settings.Settings, Encoding.HasNoRoom}
-use Rattle.qrproved.{specs.Settings.{AreSymbolSettings, interpretation_of, level_of, rule_of}, proofs.lemmas.modules.ModuleLemmas.one-held}
-use Rattle.qrproved.proofs.lemmas.encoding.EncodingLemmas.{refused-some, room-status, too-long-status}
-use Rattle.qrproved.proofs.encoding.qrproved_encode.Goals as goal
+use Rattle.{qr_bits.specs.Interpretation.MayWrite, qr_layout.specs.{Version.side_of, declared.level.Level.Level}}
+use Rattle.qr_symbol.{proofs.Facts.version-one, specs.{Encoding.{IsBoostedSymbol, IsSymbol}, Reading.IsReadBack, VersionChoice.{HasNoVersion, IsVersion}}}
 use Rattle.qrproved.proofs.encoding.qrproved_encode.Goals.{After-long_inputs_have_none, Else-not-may_write, In-Err, In-Ok}
+use Rattle.qrproved.{proofs.lemmas.{encoding.{refused-some, room-status, too-long-status}, modules.one-held}, specs.Encoding.HasNoRoom}
+use Rattle.qrproved.specs.{Settings.{AreSymbolSettings, interpretation_of, level_of, rule_of}, declared.settings.Settings.Settings}
+use Rattle.std.proofs.Common.{◌≡◌, ◌≢◌, ◌↔◌, ◌<◌, ℕ, ◌*◌, Err, refl, sym, ap, subst, ◌∙◌, arith, rules}
+use Rattle.qr_symbol.specs.declared.fault.EncodeFault.TheVariants as fault
+use Rattle.qrproved.proofs.encoding.qrproved_encode.Goals as goal
 
 -- the numbers are allowed, and the input may be written
 allowed : (c : Else-not-may_write) → AreSymbolSettings c.args.version c.args.level c.args.rule c.args.interpretation c.args.boost
 allowed c = (c.in-Some.ensures.0, omega arith)
 
 may : (c : Else-not-may_write) → MayWrite (interpretation_of c.args.interpretation) c.args.input.now
-may c = subst (λ (s : Settings). MayWrite s.interpretation c.args.input.now) c.in-Some.ensures.1 (c.may_write.ensures.0 c.if-not-may_write.false)
+may c = search rules
 
 pub returns-then-not-may_write-clause-empty : goal.returns-then-not-may_write-clause-empty
 returns-then-not-may_write-clause-empty c =
-    (λ h. absurd (omega arith), λ w. absurd (refused-some c.in-Some.settings.interpretation c.args.input.now c.may_write.result c.may_write.ensures.1 c.if-not-may_write.true w.1))
+    (λ h. absurd (omega arith), λ w. absurd (search (rules, refused-some)))
 
 -- an input that is longer than every symbol holds has no version
 none : (c : After-long_inputs_have_none)
     → HasNoVersion c.args.version (level_of c.args.level) (rule_of c.args.rule) (interpretation_of c.args.interpretation) c.args.input.now
 none c =
     let law = c.long_inputs_have_none.ensures.symbol c.args.input.now (level_of c.args.level) (rule_of c.args.rule) (interpretation_of c.args.interpretation) in
-    λ v least most fits. law (omega arith) v (omega (arith, ap (λ (s : Settings). s.version) c.in-Some.ensures.1)) most fits
+    λ v least most fits. law (omega arith) v (search rules) most fits
 
 pub returns-then-input-gt-INPUT_MAX-clause-too_long : goal.returns-then-input-gt-INPUT_MAX-clause-too_long
 returns-then-input-gt-INPUT_MAX-clause-too_long c =

@@ -1,5 +1,4 @@
-use Rattle.std.proofs.Common.{rules}
-use Rattle.qrproved.proofs.lemmas.interpretation.EciLemmas.{write-next}
+use Rattle.{qrproved.proofs.lemmas.interpretation.write-next, std.proofs.Common.rules}
 use Rattle.qrproved.proofs.interpretation.write_ecis.Goals as goal
 
 pub loop-i-preserved : goal.loop-i-preserved

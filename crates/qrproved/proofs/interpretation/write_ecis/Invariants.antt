@@ -1,5 +1,4 @@
-use Rattle.std.proofs.Common.{◌≡◌, ◌++◌, map, take, drop}
-use Rattle.qrproved.specs.Interpretation.{told_eci}
+use Rattle.{qrproved.specs.Interpretation.told_eci, std.proofs.Common.{◌≡◌, ◌++◌, map, take, drop}}
 use Rattle.qrproved.proofs.interpretation.write_ecis.Given as goal
 
 -- the first headers are written, and what comes after them is as it was

@@ -1,6 +1,5 @@
+use Rattle.{qr_matrix.specs.Grid.Grid, qr_mending.specs.Mending.{wrong_format_modules, IsMendedReading, IsUnmended}, qrproved.specs.Modules.square_of_bytes}
 use Rattle.std.{proofs.Common.{rules, ◌≡◌, subst}, specs.Prelude.{IfOk, MatchResult}}
-use Rattle.{qr_matrix.specs.Grid.Grid, qrproved.specs.Modules.square_of_bytes}
-use Rattle.qr_mending.specs.Mending.{wrong_format_modules, IsMendedReading, IsUnmended}
 use Rattle.qrproved.proofs.mending.mend_modules.Goals as goal
 
 pub returns-clause-mended : goal.returns-clause-mended
@@ -13,7 +12,7 @@ pub returns-clause-format : goal.returns-clause-format
 returns-clause-format c =
     let g = square_of_bytes c.args.side c.args.modules.now in
     subst (λ (z : Grid). IfOk c.mend_symbol_with_unknown.result (λ m. m.wrong_format_modules ≡ wrong_format_modules z g m.level m.mask)) c.in_ok-matrix.ensures.unknown
-    (subst (λ (z : Grid). IfOk c.mend_symbol_with_unknown.result (λ m. m.wrong_format_modules ≡ wrong_format_modules c.in_ok-matrix.unknown z m.level m.mask)) c.in_ok-matrix.ensures.dark c.mend_symbol_with_unknown.ensures.format)
+    (search rules)
 
 pub returns-clause-modules : goal.returns-clause-modules
 returns-clause-modules c = search rules

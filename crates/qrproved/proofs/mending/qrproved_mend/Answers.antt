@@ -1,11 +1,8 @@
-use Rattle.std.proofs.Common.{◌≡◌, ℕ, ◌*◌, ◌<◌, ◌∙◌, length, ap, inl, inr, refl, arith, sym}
-use Rattle.{qr_bits.specs.Parsing.Content, qrproved.proofs.mending.qrproved_mend.Goals.{In-Err, In-Ok}}
-use Rattle.qr_layout.specs.Blocks.{correctable_of}
-use Rattle.qr_mending.specs.{declared.mending.Mended.Mended, Mending.IsMendedReading}
-use Rattle.qrproved.specs.{Modules.square_of_bytes, Reading.IsSide, Steps.Status.read_status}
-use Rattle.qrproved.specs.Mending.{square_of_unknown, AreModules, HasMoreMendedBytes, IsUnmendedAt}
-use Rattle.qrproved.proofs.lemmas.reading.ReadingLemmas.{TellsFaults, refused, read, side-status, room-status}
-use Rattle.qrproved.proofs.lemmas.mending.MendingLemmas.{all-modules, few-changes, given-mended, more-bytes, no-other}
+use Rattle.{qr_bits.specs.Parsing.Content, qr_layout.specs.Blocks.correctable_of, qr_mending.specs.{Mending.IsMendedReading, declared.mending.Mended.Mended}}
+use Rattle.qrproved.proofs.lemmas.mending.{all-modules, few-changes, given-mended, more-bytes, no-other}
+use Rattle.qrproved.proofs.{lemmas.reading.{TellsFaults, refused, read, side-status, room-status}, mending.qrproved_mend.Goals.{In-Err, In-Ok}}
+use Rattle.qrproved.specs.{Mending.{square_of_unknown, AreModules, HasMoreMendedBytes, IsUnmendedAt}, Modules.square_of_bytes, Reading.IsSide}
+use Rattle.{qrproved.specs.Steps.Status.read_status, std.proofs.Common.{rules, ◌≡◌, ℕ, ◌*◌, ◌<◌, ◌∙◌, length, ap, inl, inr, refl, arith, sym}}
 use Rattle.qrproved.proofs.mending.qrproved_mend.Goals as goal
 
 -- ---- a square that cannot be mended
@@ -13,14 +10,12 @@ use Rattle.qrproved.proofs.mending.qrproved_mend.Goals as goal
 unmended : (c : In-Err) → IsUnmendedAt c.args.modules.now c.args.side c.in-Err.fault
 unmended c =
     let same = c.side-side.ensures.value ∙ sym c.in-Some.ensures.2 in
-    let all = all-modules c.args.modules.now c.args.side c.area-area.result (rw same at c.area-area.ensures)
-    c.if-modules-area.false c.if-not-are_modules.ensures in
-    (all, rw same at c.in-Err.ensures.mended)
+    ((all-modules c.args.modules.now c.args.side c.area-area.result (rw same at c.area-area.ensures) c.if-modules-area.false c.if-not-are_modules.ensures), rw same at c.in-Err.ensures.mended)
 
 refusals : (c : In-Err) → TellsFaults (IsUnmendedAt c.args.modules.now c.args.side) (read_status c.in-Err.fault)
 refusals c =
     refused (IsUnmendedAt c.args.modules.now c.args.side) c.in-Err.fault
-    (λ e f x y. c.mending_refusals_are_one.ensures _ _ e f x.1 y.1) (λ x. x.1) (unmended c)
+    (search rules) (λ x. x.1) (unmended c)
 
 pub returns-in-Err-clause-side : goal.returns-in-Err-clause-side
 returns-in-Err-clause-side c =
@@ -69,9 +64,8 @@ found c = let same = c.side-side.ensures.value ∙ sym c.in-Some.ensures.2 in rw
 statuses : (c : In-Ok) (status : ℕ) → status < 8 → TellsFaults (IsUnmendedAt c.args.modules.now c.args.side) status
 statuses c status small =
     let m = c.in-Ok.found in
-    let law = c.mended_readings_are_not_refused.ensures in
     read (IsUnmendedAt c.args.modules.now c.args.side) status small
-    (λ e u. law _ _ m.version m.level m.mask m.parsed m.changed.items e (found c) u.1)
+    (λ e u. c.mended_readings_are_not_refused.ensures _ _ m.version m.level m.mask m.parsed m.changed.items e (found c) u.1)
 
 pub returns-then-bytes-len-clause-room : goal.returns-then-bytes-len-clause-room
 returns-then-bytes-len-clause-room c =

@@ -1,6 +1,6 @@
 use Rattle.std.proofs.Common.{◌≡◌, ℕ, ◌+◌, ◌*◌, ◌<◌, length, map, get_or, slice_index_or, sym, ap, ◌∙◌, inl, inr, arith, rules}
 use Rattle.{std.proofs.lemmas.{Bool.cases_lt, List.length-map}, qr_matrix.specs.Grid.{Grid, colour, light}}
-use Rattle.qrproved.{specs.Modules.byte_of, proofs.lemmas.modules.ModuleLemmas.{block-end, place-in}}
+use Rattle.qrproved.{specs.Modules.byte_of, proofs.lemmas.modules.{block-end, place-in}}
 use Rattle.qr_drawing.proofs.Facts.{square_at-item}
 use Rattle.qrproved.proofs.modules.write_squares.Goals as goal
 

@@ -1,5 +1,4 @@
-use Rattle.std.proofs.Common.{◌≡◌, ℕ, ◌+◌, ◌*◌, ◌<◌, ◌≤◌, length, map, slice_index_or}
-use Rattle.{qr_matrix.specs.Grid.{colour, light}, qrproved.specs.Modules.byte_of}
+use Rattle.{qr_matrix.specs.Grid.{colour, light}, qrproved.specs.Modules.byte_of, std.proofs.Common.{◌≡◌, ℕ, ◌+◌, ◌*◌, ◌<◌, ◌≤◌, length, map, slice_index_or}}
 use Rattle.qrproved.proofs.modules.write_squares.Given as goal
 
 -- the squares before the current one have been written

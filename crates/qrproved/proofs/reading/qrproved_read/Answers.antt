@@ -1,17 +1,15 @@
-use Rattle.std.proofs.Common.{rules, ℕ, ◌*◌, ◌<◌, ◌≤◌, length, ap, subst, sym, ◌∙◌, inl, inr, arith}
 use Rattle.{qr_bits.specs.Parsing.Content, qr_matrix.specs.Grid.Grid, qr_symbol.specs.Reading.{IsReading, IsUnread}}
-use Rattle.qrproved.specs.{Modules.square_of_bytes, Steps.Status.read_status, Reading.{IsSide, IsUnreadAt, HasMoreBytes}}
-use Rattle.qrproved.proofs.lemmas.reading.ReadingLemmas.{TellsFaults, refused, read, side-status, room-status}
+use Rattle.qrproved.proofs.{lemmas.reading.{TellsFaults, refused, read, side-status, room-status}, reading.qrproved_read.Goals.{In-Err, In-Ok-read_symbol}}
+use Rattle.qrproved.specs.{Modules.square_of_bytes, Reading.{IsSide, IsUnreadAt, HasMoreBytes}, Steps.Status.read_status}
+use Rattle.std.proofs.Common.{rules, ℕ, ◌*◌, ◌<◌, length, ap, subst, sym, ◌∙◌, inl, inr, arith}
 use Rattle.qrproved.proofs.reading.qrproved_read.Goals as goal
-use Rattle.qrproved.proofs.reading.qrproved_read.Goals.{In-Err, In-Ok-read_symbol}
 
 -- ---- a square that is refused
 
 unread : (c : In-Err) → IsUnreadAt c.args.modules.now c.args.side c.in-Err.fault
 unread c =
     let same = c.side-side.ensures.value ∙ sym c.in-Some.ensures.2 in
-    let whole : c.args.side * c.args.side ≤ length c.args.modules.now = omega (arith, (rw same at c.area.ensures)) in
-    (whole, subst (λ (g : Grid). IsUnread g c.in-Err.fault) (rw same at c.in-Ok.ensures) c.in-Err.ensures.read)
+    ((omega (arith, (rw same at c.area.ensures))), subst (λ (g : Grid). IsUnread g c.in-Err.fault) (rw same at c.in-Ok.ensures) c.in-Err.ensures.read)
 
 refusals : (c : In-Err) → TellsFaults (IsUnreadAt c.args.modules.now c.args.side) (read_status c.in-Err.fault)
 refusals c =
@@ -56,8 +54,7 @@ found c = search (rules, read)
 statuses : (c : In-Ok-read_symbol) (status : ℕ) → status < 8
     → TellsFaults (IsUnreadAt c.args.modules.now c.args.side) status
 statuses c status small =
-    let law = c.refusals_are_one.ensures.read (square_of_bytes c.args.side c.args.modules.now) c.in-Ok-read_symbol.parsed in
-    read (IsUnreadAt c.args.modules.now c.args.side) status small (λ e u. law e (found c) u.1)
+    read (IsUnreadAt c.args.modules.now c.args.side) status small (λ e u. (c.refusals_are_one.ensures.read (square_of_bytes c.args.side c.args.modules.now) c.in-Ok-read_symbol.parsed) e (found c) u.1)
 
 pub returns-clause-room : goal.returns-clause-room
 returns-clause-room c =

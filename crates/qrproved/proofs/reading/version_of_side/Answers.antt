@@ -1,4 +1,4 @@
-use Rattle.qrproved.proofs.lemmas.reading.ReadingLemmas.{version-of}
+use Rattle.qrproved.proofs.lemmas.reading.{version-of}
 use Rattle.qrproved.proofs.reading.version_of_side.Goals as goal
 
 pub returns : goal.returns

@@ -1,8 +1,7 @@
-use Rattle.std.proofs.Common.{rules, ◌≡◌, ℕ, ◌*◌, ◌<◌, List, length, false, sym, ap, subst, ◌∙◌, arith}
-use Rattle.{qr_layout.specs.Version.side_of, qr_bits.specs.{declared.modes.Mode.TheVariants.Kanji, Modes.may_use}}
-use Rattle.qr_symbol.specs.{declared.symbol.Symbol.Symbol, Series.{squares_of, IsSeries, NeedsParts}, Joining.AreInterpreted}
-use Rattle.qrproved.proofs.lemmas.encoding.EncodingLemmas.{refused-some}
-use Rattle.qrproved.specs.{declared.settings.Settings.Settings, Settings.{interpretation_of, level_of, rule_of}, Modules.HoldsSquares}
+use Rattle.{qr_bits.specs.{Modes.may_use, declared.modes.Mode.TheVariants.Kanji}, qr_layout.specs.Version.side_of}
+use Rattle.qr_symbol.specs.{Joining.AreInterpreted, Series.{squares_of, IsSeries, NeedsParts}, declared.symbol.Symbol.Symbol}
+use Rattle.qrproved.{proofs.lemmas.encoding.refused-some, specs.{Modules.HoldsSquares, Settings.{interpretation_of, level_of, rule_of}}}
+use Rattle.{qrproved.specs.declared.settings.Settings.Settings, std.proofs.Common.{rules, ◌≡◌, ℕ, ◌*◌, ◌<◌, List, length, false, sym, ap, subst, ◌∙◌, arith}}
 use Rattle.qrproved.proofs.series.qrproved_encode_series.Goals as goal
 
 pub returns-then-not-may_write-clause-empty : goal.returns-then-not-may_write-clause-empty

@@ -1,4 +1,4 @@
-use Rattle.{std.proofs.Common.rules, qr_drawing.proofs.lemmas.pen.CopyLemmas.copied}
+use Rattle.{std.proofs.Common.rules, qr_drawing.proofs.lemmas.pen.copied}
 use Rattle.qr_drawing.proofs.pen.Piece.push_first.Goals as goal
 
 pub returns-clause-items : goal.returns-clause-items
