@@ -73,7 +73,7 @@ class Edit:
         else:
             users = self.items.users(item)
             self.touched, self.is_of_constant = self.touched + users, True
-            self.is_wide |= not users or self.items.is_in_lemmas(item.name)
+            self.is_wide |= not users or self.items.is_in_lemmas(item.name) or self.items.is_in_contracts(item.name)
 
     def put(self, texts):
         """Returns the texts with this change made, or None if it cannot be made in them."""

@@ -31,10 +31,15 @@ class Item:
 
     def body(self):
         """Returns the lines after its contract, without comments."""
-        lines = self.text.split("\n")
-        if self.last > self.head:
-            lines = lines[len(lines) - 1 - (self.last - self.head) + self.is_function:]
-        return re.sub(r"//.*", "", "\n".join(lines))
+        return re.sub(r"//.*", "", "\n".join(self.text.split("\n")[self.contract_lines():]))
+
+    def contract(self):
+        """Returns the lines from its name to the end of its contract."""
+        return "\n".join(self.text.split("\n")[:self.contract_lines() or None])
+
+    def contract_lines(self):
+        lines = self.text.count("\n") + 1
+        return lines - 1 - (self.last - self.head) + self.is_function if self.last > self.head else 0
 
 
 def items_in(path, text):
@@ -128,6 +133,11 @@ class Items:
     def is_of_function(self, path):
         """Returns whether a file of proofs/ is of the proof of one function."""
         return os.path.dirname(path)[len("proofs/"):] in self.places
+
+    def is_in_contracts(self, name):
+        """Returns whether the contract of a function names this item, so that a change of the item affects more than
+        bodies."""
+        return any(re.search(rf"\b{name}\b", it.contract()) for it in self.all if it.is_function)
 
     def is_in_lemmas(self, name):
         """Returns whether a definition or a lemma names this item, so that a change of the item affects more than
