@@ -69,9 +69,9 @@ fn may_begin(rule: Rule, byte: u8, mode: Mode) -> bool
 
 // The choice of a mode for a byte, or `NO_CHOICE` if `may` is false. `first` is the choice of this mode with the bits
 // of the byte alone, and `rest` is the best choice for the next byte. The bits of the two are added: `rest / 4 * 4` is
-// `rest` without the rank of its mode. `first` is at most 155, which is the sum of 135, the greatest choice in
-// `FirstChoices`, and 4 times the 5 bits of a second character. The best choices of an input of at most `INPUT_MAX`
-// bytes stay below 40,000,000, so the sum does not overflow.
+// `rest` without the rank of its mode. `first` is at most 155: no choice in `FirstChoices` is above 135, and the 5 bits
+// of a second character add 4 times 5. The best choices of an input of at most `INPUT_MAX` bytes stay below 40,000,000,
+// so the sum does not overflow.
 #[inline(always)]
 fn choice_if(may: bool, first: u32, rest: u32) -> u32
     requires { (first ≤ 155) × (rest < 40000000) }

@@ -54,8 +54,8 @@ pub fn power_of(exponent: u8) -> u8
     POWERS[usize::from(exponent)]
 }
 
-/// Returns the logarithm of `element`, which is not 0: the exponent below 255 for which 2 to this power is `element`
-/// (ISO/IEC 18004:2015, 7.5.2).
+/// Returns the logarithm of `element`: the exponent below 255 for which 2 to this power is `element`. The element 0 has
+/// no logarithm (ISO/IEC 18004:2015, 7.5.2).
 pub fn exponent_of(element: u8) -> u8
     requires { 1 ≤ element }
     ensures exponent { result < 255 }

@@ -125,7 +125,7 @@ pub fn penalty(m: &Matrix) -> u32
 }
 
 impl MatrixPair {
-    /// Returns the penalties of both squares, as `penalty` does.
+    /// Returns the penalty of each of the two squares. Each is what `penalty` returns for the square.
     pub fn penalties(&self) -> (u32, u32)
         ensures first { result.0 ≡ penalty_of self.now.first.side (colour self.now.first) }
         ensures second { result.1 ≡ penalty_of self.now.second.side (colour self.now.second) }

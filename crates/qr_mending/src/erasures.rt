@@ -45,7 +45,8 @@ fn modified_syndromes(polynomial: &[u8], syndromes: &[u8]) -> ArrayVec<u8, 30>
 // refuse. The list `both` is the product of the erasure locator and the error locator, so it has a root for each
 // codeword that is erased or misread.
 //
-// The function is not inlined, so that its lists are on the stack only while it runs, and not while `mend` runs.
+// The function is not inlined into `mend_with_erasures`. Otherwise its lists would also be on the stack while
+// `mend_with_erasures` calls `mend`.
 #[inline(never)]
 fn candidate(remainder: &[u8], spare: usize, erased: &[bool], damaged: &[u8]) -> ArrayVec<u8, 255>
     requires most { length remainder.now ≤ 30 }

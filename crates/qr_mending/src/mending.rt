@@ -117,10 +117,10 @@ fn nearer(
     Some(first)
 }
 
-// Of the pairs of level and mask that are near to a copy and mend the symbol, takes the one with the least cost over
-// both copies. At equal costs it takes the one near to the first copy. The second copy is not tried in two cases: if
-// the pair near to the first copy mends the symbol and costs at most `COST_CERTAIN`, or if the same pair is near to
-// both copies.
+// Returns the square that is mended with one of the pairs of level and mask that are near to a copy. Of those with
+// which the symbol can be mended, it takes the pair with the least cost over both copies, and at equal costs the pair
+// near to the first copy. The second copy is not tried in two cases: if the pair near to the first copy mends the
+// symbol and costs at most `COST_CERTAIN`, or if the same pair is near to both copies.
 fn mend_by_format(alloc: Global, scan: &Scan) -> Result<Option<MendedSquare>, ReadFault>
     ensures mended { IfOk result (IsMendedByEither scan.now.unknown.now scan.now.version scan.now.matrix.now) }
     ensures fault { IfErr result (λ e. e ≡ ReadFault.Memory) }

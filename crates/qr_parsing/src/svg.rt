@@ -101,8 +101,9 @@ pub(crate) fn size_in(text: &[u8]) -> Option<Size>
     })
 }
 
-// Returns the number of at most five digits that begins at index `at`, and the index after the byte that follows the
-// number. A number is read only if at least six bytes are left, as they always are in a drawing.
+// Reads the decimal number that begins at index `at`. Returns the number, and the index after the byte that follows it.
+// If there is no digit at `at`, the number is 0. Returns `None` if the number has more than five digits, or if fewer
+// than six bytes are left, which never happens at a number of a drawing.
 #[inline(always)]
 fn number_after(text: &[u8], at: usize) -> Option<(u32, usize)>
     requires { at ≤ length text.now }

@@ -1,6 +1,6 @@
 -- What the laws of this crate need to check examples. The first rows of each mask are computed here from `inverts`, and
--- are also listed as they were worked out by hand. `bits_down` makes a number of the bits of format or version
--- information.
+-- are also listed as they were worked out by hand. `bits_down` reads the bits of the format or version information as
+-- one binary number.
 use Rattle.std.specs.Prelude.{ℕ, ◌-◌, Bool, List, [], ◌∷◌, map}
 use Rattle.std.specs.List.{range_with_len}
 use Rattle.qr_bits.specs.Bits.{value}

@@ -13,7 +13,8 @@ use std::alloc::{AllocError, Global};
 
 pub static LEVELS: [Level; 4] = [Level::L, Level::M, Level::Q, Level::H];
 
-// Returns the symbol of the text, or `None` if the text fits no version from `smallest` on.
+// Returns the symbol of the first `INPUT_MAX` bytes of the text. Returns `None` if `encode` refuses them: if there are
+// none, if they fit no version from `smallest` on, or if memory is refused.
 pub fn symbol_of(
     alloc: Global,
     text: &Text,

@@ -32,8 +32,8 @@ pub record IsBest (i : ℕ) (s : List ℕ) (p : Polynomial) : Type 0 where
 
 -- The search for the error locator polynomial after the first `i` of the syndromes `s`. The polynomial `best` solves
 -- all equations for which these are enough. If `best` does not solve the next equation, a multiple of `earlier` will be
--- added to it. `earlier` itself fails first for the equation whose index is 1 less than the degree of `best`: there its
--- sum of products is `discrepancy`, which is not 0.
+-- added to it. Let d be the degree of `best`. `earlier` solves each equation whose index is below d - 1, but not the
+-- equation with the index d - 1: its sum of products there is `discrepancy`, which is not 0.
 pub record IsSearch (i : ℕ) (s : List ℕ) (search : Search) : Type 0 where
   pub best : IsBest i s search.best
   pub bytes : All IsByte (all_of search.earlier)
