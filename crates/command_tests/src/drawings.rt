@@ -1,4 +1,5 @@
-//! Tests of the four types of drawing: some lines and runs, the arguments that name a type, and writers that fail.
+//! Tests of the four types of drawing: lines of drawings, the runs of modules in the first row of a symbol, the
+//! arguments that name a type, writers that fail, and the sizes of single writes.
 
 ghost use Rattle.std.specs.Prelude.{◌≡◌, IfOk};
 

@@ -1,6 +1,7 @@
 //! A lower bound on the number of bits that an input takes, however it is cut into segments. Computing this bound takes
 //! less time than computing the segments. The search for a version skips versions 1 to 9, or 1 to 26, if they have room
-//! for fewer bits than the bound.
+//! for fewer bits than the bound. It does without the bound if only byte mode is allowed, or if the input is so long that
+//! its number of bytes rules out versions 1 to 26.
 
 ghost use Rattle.std.specs.Prelude.{length, ℕ, ◌/◌, ◌≡◌, ◌≤◌};
 ghost use Rattle.qr_bits.specs.declared.interpretation.Interpretation.{Interpretation};

@@ -22,7 +22,7 @@ pub const INTERRUPTIONS_MAX: u16 = 999;
 /// How a read, a write or a flush fails.
 #[derive(Clone, Copy, Debug, PartialEq, Eq)]
 pub enum Trouble {
-    /// The call was interrupted by a signal (EINTR), and may be tried again.
+    /// The call was interrupted by a signal (EINTR). A read or a write may be tried again, and a flush is not.
     Interrupted,
     /// The call failed for any other reason, and is not tried again.
     Failed,

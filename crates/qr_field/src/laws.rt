@@ -65,9 +65,9 @@ pub fn erasures_are_unambiguous()
     ensures { ErasuresAreUnambiguous }
 {}
 
-/// If every codeword of a block was read, none is erased, and the number of misread codewords is the number of those in
-/// which what was read differs from the undamaged block. So `erasures_are_unambiguous` also speaks of blocks that were
-/// read whole.
+/// Suppose that every codeword of a block was read. Then none is erased, and the number of misread codewords is the
+/// number of places at which the block that was read differs from the undamaged block. So `erasures_are_unambiguous` also
+/// speaks of blocks that were read whole.
 #[tactic(auto, using(crate::proofs::Named::damage))]
 pub fn damage_is_unambiguous()
     ensures read { (xs : List ℕ) → erasures (map (λ x. Some x) xs) ≡ 0 }

@@ -23,7 +23,8 @@ use crate::locator::Progress;
 use arrayvec::ArrayVec;
 use qr_field::Divisor;
 
-// The loop runs backward for the prover.
+// The loop runs from the last index to the first, since the definition `differences` takes the first items off the
+// lists: what it says of the later items is known first.
 fn count_differences(xs: &[u8], ys: &[u8]) -> usize
     requires { length xs.now ≡ length ys.now }
     ensures { result ≡ differences xs.now ys.now }

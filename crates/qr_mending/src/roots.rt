@@ -31,8 +31,9 @@ fn with_root(polynomial: &[u8], root: u8) -> ArrayVec<u8, 31>
     product
 }
 
-// The product of `polynomial` and a factor x + 2^location for each erased codeword. The loop runs backward for the
-// prover. The list has room for `polynomial`, so `try_extend_from_slice` cannot fail.
+// The product of `polynomial` and a factor x + 2^location for each erased codeword. The loop runs from the last
+// codeword to the first, since the definition `rooted` takes the first codeword off the list. The list `product` has
+// room for `polynomial`, so `try_extend_from_slice` cannot fail.
 #[tactic(auto, using(crate::proofs::Named::root_facts))]
 pub(crate) fn with_roots(erased: &[bool], polynomial: &[u8]) -> ArrayVec<u8, 31>
     requires small { length erased.now ≤ 255 }

@@ -144,7 +144,8 @@ static MULTIPLES: [u128; 124] = [
 ];
 
 // The sum of products: each item of `terms` is multiplied by the item of `factors` at the same index. Further items of
-// `factors` are left out. The loop runs backward for the prover.
+// `factors` are left out. The loop runs from the last index to the first, since the definition `dot_of` takes the first
+// items off the lists.
 #[tactic(auto, using(crate::proofs::Named::value_facts))]
 pub(crate) fn dot(terms: &[u8], factors: &[u8]) -> u8
     requires { length terms.now ≤ length factors.now }
@@ -222,8 +223,8 @@ fn fourfold(elements: u128) -> u128
 
 // Sixteen sums of products. One factor of each product is cut into four digits to the base 4, which have the weights
 // 64, 16, 4 and 1. The other factor is a power of 2, and the table `MULTIPLES` has its products with the digits. Each
-// of the four numbers has sixteen sums of such products, one in each byte, for the digits of one weight. Only at the
-// end, in `values`, are the four numbers multiplied by their weights, and added.
+// field is for the digits of one weight, and has sixteen sums of such products, one in each byte. Only at the end, in
+// `values`, is each field multiplied by its weight, and the four results are added.
 #[derive(Clone, Copy)]
 pub(crate) struct Sums {
     pub(crate) ones: u128,
@@ -262,7 +263,8 @@ impl Sums {
 }
 
 // The values at 2 to the powers `first` to `first` + 15 of the polynomial whose coefficients are `terms`, that of the
-// lowest power first. Chien's search looks for values that are 0. The loop runs backward for the prover.
+// lowest power first. Chien's search looks for values that are 0. The loop runs from the last coefficient to the first,
+// since the definition `eval` takes the first coefficient off the list.
 pub(crate) fn sixteen_values(terms: &[u8], first: u8) -> [u8; 16]
     requires { length terms.now ≤ 31 }
     ensures { (k : ℕ) → k < 16 → slice_index result k ≡ eval (power (first + k)) terms.now }
@@ -276,7 +278,7 @@ pub(crate) fn sixteen_values(terms: &[u8], first: u8) -> [u8; 16]
 }
 
 // The values at 2 to the powers `first` to `first` + 15 of the polynomial whose coefficients are `remainder`, that of
-// the highest power first. The loop runs backward for the prover.
+// the highest power first. The loop runs backward, as in `sixteen_values`.
 fn sixteen_syndromes(remainder: &[u8], first: u8) -> [u8; 16]
     requires { length remainder.now ≤ 30 }
     ensures { (k : ℕ) → k < 16 → slice_index result k ≡ value_at (first + k) remainder.now }

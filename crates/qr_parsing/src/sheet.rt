@@ -21,7 +21,7 @@ pub(crate) const SIDE_MIN: usize = 8;
 /// The greatest number of rasters of a drawing.
 pub(crate) const COUNT_MAX: usize = 16;
 
-/// The side of the greatest squares, which symbols of version 40 have.
+/// The greatest side of a square: that of a symbol of version 40.
 pub(crate) const SIDE_MAX: usize = 177;
 
 /// The greatest width of a raster: that of the greatest squares with a margin of 255 modules on each side.

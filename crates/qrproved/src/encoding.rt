@@ -196,7 +196,7 @@ mod tests {
         0b111111101110101010111,
     ];
 
-    // The number that stands for no interpretation.
+    // The number of the default interpretation, by which a symbol says nothing of what its bytes mean.
     const NONE: u32 = 1_000_000;
 
     fn nothing() -> QrprovedSymbol {

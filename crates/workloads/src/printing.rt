@@ -52,7 +52,7 @@ fn add_run(
 }
 
 /// Draws labels of versions 1 to 13, most of them as SVG. They contain links, serial numbers, trade item numbers,
-/// passwords of networks, and contacts, at the levels M and Q.
+/// passwords of networks, and contacts. Their level is M or Q, by lot.
 pub fn labels(alloc: Global, count: u64, seed: u64, digest: &mut Digest) -> Result<(), AllocError> {
     let mut random = Random::new(seed);
     for turn in 0..count {
