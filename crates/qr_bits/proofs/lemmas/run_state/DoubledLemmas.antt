@@ -33,8 +33,10 @@ unfolding allowed_in allowed may_take may_begin state_after
 allowed-written i r test p [] [] = search (arith, written-none)
 allowed-written i r test p [] (m ∷ ms) = search (arith, written-none)
 allowed-written i r test p (x ∷ xs) [] = search (arith, unwritten)
+allowed-written i r test p (x ∷ xs) (Kanji ∷ ms) =
+    search (arith, doubled-rank, doubled-step, characters_in-step, kanji-same, allowed-written i r test (state_after p Kanji) xs ms)
 allowed-written i r test p (x ∷ xs) (m ∷ ms) =
-    search (arith, doubled-rank, doubled-step, characters_in-step, take-other, kanji-same, allowed-written i r test (state_after (state_after p m) m) xs ms, allowed-written i r test (state_after p m) xs ms)
+    search (arith, doubled-rank, doubled-step, characters_in-step, take-other, allowed-written i r test (state_after (state_after p m) m) xs ms, allowed-written i r test (state_after p m) xs ms)
 
 -- the rule allows the modes of the characters exactly if it allows those of the bytes
 pub list_all-doubled : (i : Interpretation) (f : Mode → Bool) (xs : List ℕ) (ms : List Mode) → list_all f (doubled i xs ms) ≡ list_all f ms

@@ -39,4 +39,7 @@ runs-written [] [] h = (refl, refl)
 runs-written [] (m ∷ ms) h = absurd (omega arith)
 runs-written (x ∷ xs) [] h = absurd (omega arith)
 runs-written (x ∷ xs) (m ∷ ms) h =
-    search (arith, cond_both, same-rank, eqb-true, written-one, one-suc, segments-begun, prepend-self, runs-written xs ms (omega arith))
+    let rest = runs-written xs ms (omega arith) in (
+      search (arith, cond_both, same-rank, eqb-true, written-one, one-suc, rest.0),
+      search (arith, cond_both, same-rank, eqb-true, written-one, one-suc, segments-begun, prepend-self, rest.1),
+    )
