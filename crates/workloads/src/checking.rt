@@ -193,6 +193,30 @@ fn smudge(alloc: Global, symbol: &Symbol, random: &mut Random) -> Result<Matrix,
     Ok(unknown)
 }
 
+// Mends the symbol in its five states.
+fn add_all_mended(
+    alloc: Global,
+    symbol: &Symbol,
+    random: &mut Random,
+    digest: &mut Digest,
+) -> Result<(), AllocError> {
+    let squares = damage(alloc, symbol, random)?;
+    let unknown = smudge(alloc, symbol, random)?;
+    for square in [
+        &symbol.matrix,
+        &squares.one,
+        &squares.bound,
+        &squares.beyond,
+    ] {
+        add_mended(&mend_symbol(alloc, square), digest);
+    }
+    if unknown.side() == symbol.matrix.side() {
+        let smudged = mend_symbol_with_unknown(alloc, &symbol.matrix, &unknown);
+        add_mended(&smudged, digest);
+    }
+    Ok(())
+}
+
 /// Mends symbols of versions 2 to 13, and every sixteenth time one of version 40 at level H. Each symbol is mended in
 /// five states: sound, with one wrong codeword in each block, with as many wrong codewords as can be mended, with a
 /// smudge, and with one wrong codeword more than can be mended.
@@ -213,18 +237,8 @@ pub fn mend(alloc: Global, count: u64, seed: u64, digest: &mut Digest) -> Result
             LEVELS[random.below(4)]
         };
         let smallest = Version::new(if is_large { 40 } else { 2 }).unwrap_or(Version::FIRST);
-        let Some(symbol) = symbol_of(alloc, &text, level, smallest)? else {
-            continue;
-        };
-        let squares = damage(alloc, &symbol, &mut random)?;
-        let unknown = smudge(alloc, &symbol, &mut random)?;
-        add_mended(&mend_symbol(alloc, &symbol.matrix), digest);
-        add_mended(&mend_symbol(alloc, &squares.one), digest);
-        add_mended(&mend_symbol(alloc, &squares.bound), digest);
-        add_mended(&mend_symbol(alloc, &squares.beyond), digest);
-        if unknown.side() == symbol.matrix.side() {
-            let smudged = mend_symbol_with_unknown(alloc, &symbol.matrix, &unknown);
-            add_mended(&smudged, digest);
+        if let Some(symbol) = symbol_of(alloc, &text, level, smallest)? {
+            add_all_mended(alloc, &symbol, &mut random, digest)?;
         }
     }
     Ok(())

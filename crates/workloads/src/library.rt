@@ -282,6 +282,52 @@ fn add_mending(
     Ok(())
 }
 
+// Draws and reads the symbol whose modules a buffer begins with.
+fn add_sound(alloc: Global, modules: &[u8], side: u8, digest: &mut Digest) -> Result<(), AllocError>
+    requires least { 1 ≤ side }
+    requires most { side ≤ 177 }
+{
+    add_drawing(alloc, modules, side, Drawing::Svg, digest)?;
+    add_drawing(alloc, modules, side, Drawing::Utf8, digest)?;
+    add_reading(alloc, modules, side, digest)
+}
+
+// Mends the four damaged symbols.
+fn add_damaged(
+    alloc: Global,
+    buffers: &Buffers,
+    side: u8,
+    digest: &mut Digest,
+) -> Result<(), AllocError>
+    requires least { 1 ≤ side }
+    requires most { side ≤ 177 }
+{
+    add_mending(alloc, &buffers.one, side, digest)?;
+    add_mending(alloc, &buffers.half, side, digest)?;
+    add_mending(alloc, &buffers.bound, side, digest)?;
+    add_mending(alloc, &buffers.smudged, side, digest)
+}
+
+// Writes the symbol as bytes, and does with them what the job does with each symbol.
+fn add_symbol(
+    alloc: Global,
+    symbol: &Symbol,
+    random: &mut Random,
+    buffers: &mut Buffers,
+    digest: &mut Digest,
+) -> Result<(), AllocError> {
+    let side = symbol.matrix.side();
+    if buffers.sound.len() < area(side) {
+        return Ok(());
+    }
+    write_square(&symbol.matrix, 0, &mut buffers.sound);
+    digest.add(u64::from(symbol.mask));
+    digest.add_bytes(&buffers.sound[..area(side)]);
+    add_sound(alloc, &buffers.sound, side, digest)?;
+    damage(alloc, symbol.version, symbol.level, random, buffers)?;
+    add_damaged(alloc, buffers, side, digest)
+}
+
 /// Takes symbols of versions 1 to 13, and every sixteenth time a full one of version 20 to 40. Each symbol is encoded,
 /// written as bytes, drawn as SVG and as UTF8, and read. Then it is mended four times: with one wrong codeword in each
 /// block, with half as many as can be mended, with as many as can be mended, and with a smudge. Drawing, reading and
@@ -300,30 +346,9 @@ pub fn library(
         } else {
             small_symbol(alloc, turn, &mut random)?
         };
-        let Some(symbol) = made else {
-            continue;
-        };
-        let side = symbol.matrix.side();
-        if buffers.sound.len() < area(side) {
-            continue;
+        if let Some(symbol) = made {
+            add_symbol(alloc, &symbol, &mut random, &mut buffers, digest)?;
         }
-        write_square(&symbol.matrix, 0, &mut buffers.sound);
-        digest.add(u64::from(symbol.mask));
-        digest.add_bytes(&buffers.sound[..area(side)]);
-        add_drawing(alloc, &buffers.sound, side, Drawing::Svg, digest)?;
-        add_drawing(alloc, &buffers.sound, side, Drawing::Utf8, digest)?;
-        add_reading(alloc, &buffers.sound, side, digest)?;
-        damage(
-            alloc,
-            symbol.version,
-            symbol.level,
-            &mut random,
-            &mut buffers,
-        )?;
-        add_mending(alloc, &buffers.one, side, digest)?;
-        add_mending(alloc, &buffers.half, side, digest)?;
-        add_mending(alloc, &buffers.bound, side, digest)?;
-        add_mending(alloc, &buffers.smudged, side, digest)?;
     }
     Ok(())
 }

@@ -1,6 +1,8 @@
 //! The jobs of the command: labels, large symbols, series, and inputs that are awkward. For each input
 //! `qrencode_cli::run` is called with devices in memory.
 
+ghost use Rattle.std.specs.Prelude.{◌<◌};
+
 use crate::digest::Digest;
 use crate::random::Random;
 use crate::texts::Text;
@@ -28,6 +30,16 @@ const SYMBOL_ROOM: usize = 400_000;
 
 const SERIES_ROOM: usize = 4_000_000;
 
+// Returns the arguments of the command, after its name.
+fn arguments(alloc: Global, words: &[&str]) -> Result<Vec<String>, AllocError> {
+    let mut list = Vec::with_capacity(alloc, words.len() + 1)?;
+    list.push(String::from_str(alloc, "qrencode")?)?;
+    for word in words {
+        list.push(String::from_str(alloc, word)?)?;
+    }
+    Ok(list)
+}
+
 // Runs the command once, and adds its status and all that it wrote to the digest.
 fn add_run(
     alloc: Global,
@@ -36,11 +48,7 @@ fn add_run(
     room: usize,
     digest: &mut Digest,
 ) -> Result<(), AllocError> {
-    let mut list = Vec::with_capacity(alloc, words.len() + 1)?;
-    list.push(String::from_str(alloc, "qrencode")?)?;
-    for word in words {
-        list.push(String::from_str(alloc, word)?)?;
-    }
+    let list = arguments(alloc, words)?;
     let mut input = Trial::reader(alloc, text.bytes(), Faults::NONE)?;
     let mut out = Trial::writer(alloc, room, Faults::NONE)?;
     let mut err = Trial::writer(alloc, 4000, Faults::NONE)?;
@@ -110,51 +118,137 @@ pub fn large(alloc: Global, count: u64, seed: u64, digest: &mut Digest) -> Resul
     Ok(())
 }
 
+// The text of one series, of 1 to 44 kB for version 40, of 500 to 1,600 bytes for versions 5 to 10, or in Shift JIS.
+fn series_text(alloc: Global, kind: u64, random: &mut Random) -> Result<Text, AllocError> {
+    let mut text = Text::new(alloc);
+    let (least, most) = match kind {
+        0 => (1000, 44_000),
+        1 => (1000, 20_000),
+        2 => (200, 700),
+        3 => (1000, 30_000),
+        _ => (500, 1600),
+    };
+    let count = random.between(least, most);
+    match kind {
+        0 => text.put_records(random, count)?,
+        1 | 2 => text.put_pairs(random, count)?,
+        3 => text.put_runs(random, count)?,
+        _ => text.put_prose(random, count)?,
+    }
+    Ok(text)
+}
+
+// Draws one text as a series.
+fn add_series(
+    alloc: Global,
+    kind: u64,
+    version: &str,
+    text: &Text,
+    digest: &mut Digest,
+) -> Result<(), AllocError> {
+    match kind {
+        0 => {
+            let words = ["-S", "-v", version, "-t", "UTF8"];
+            add_run(alloc, &words, text, SERIES_ROOM, digest)
+        }
+        1 => {
+            let words = ["-S", "-k", "-v", version, "-t", "ASCII"];
+            add_run(alloc, &words, text, SERIES_ROOM, digest)
+        }
+        2 => {
+            let words = ["-S", "-k", "-i", "-v", version, "-t", "UTF8"];
+            add_run(alloc, &words, text, SERIES_ROOM, digest)
+        }
+        3 => {
+            let words = ["-S", "-v", version, "-l", "M", "-t", "SVG"];
+            add_run(alloc, &words, text, SERIES_ROOM, digest)
+        }
+        _ => {
+            let words = ["-S", "-v", version, "-t", "SVG"];
+            add_run(alloc, &words, text, SERIES_ROOM, digest)
+        }
+    }
+}
+
 /// Draws series: files of 1 to 44 kB in version 40, shorter ones in versions 5 to 10, and Japanese texts.
 pub fn series(alloc: Global, count: u64, seed: u64, digest: &mut Digest) -> Result<(), AllocError> {
     let mut random = Random::new(seed);
     for turn in 0..count {
-        let mut text = Text::new(alloc);
-        match turn % 8 {
-            0 => {
-                let count = random.between(1000, 44_000);
-                text.put_records(&mut random, count)?;
-                add_run(
-                    alloc,
-                    &["-S", "-v", "40", "-t", "UTF8"],
-                    &text,
-                    SERIES_ROOM,
-                    digest,
-                )?;
-            }
-            1 => {
-                let count = random.between(1000, 20_000);
-                text.put_pairs(&mut random, count)?;
-                let words = ["-S", "-k", "-v", "40", "-t", "ASCII"];
-                add_run(alloc, &words, &text, SERIES_ROOM, digest)?;
-            }
-            2 => {
-                let count = random.between(200, 700);
-                text.put_pairs(&mut random, count)?;
-                let words = ["-S", "-k", "-i", "-v", "7", "-t", "UTF8"];
-                add_run(alloc, &words, &text, SERIES_ROOM, digest)?;
-            }
-            3 => {
-                let count = random.between(1000, 30_000);
-                text.put_runs(&mut random, count)?;
-                let words = ["-S", "-v", "40", "-l", "M", "-t", "SVG"];
-                add_run(alloc, &words, &text, SERIES_ROOM, digest)?;
-            }
-            _ => {
-                let count = random.between(500, 1600);
-                text.put_prose(&mut random, count)?;
-                let version = NUMBERS[5 + random.below(6)];
-                let words = ["-S", "-v", version, "-t", "SVG"];
-                add_run(alloc, &words, &text, SERIES_ROOM, digest)?;
-            }
-        }
+        let kind = turn % 8;
+        let text = series_text(alloc, kind, &mut random)?;
+        let version = match kind {
+            0 | 1 | 3 => "40",
+            2 => "7",
+            _ => NUMBERS[5 + random.below(6)],
+        };
+        add_series(alloc, kind, version, &text, digest)?;
     }
     Ok(())
+}
+
+// An awkward text of one of five kinds.
+fn awkward_text(
+    alloc: Global,
+    turn: u64,
+    random: &mut Random,
+    level: usize,
+) -> Result<Text, AllocError>
+    requires { level < 4 }
+{
+    let mut text = Text::new(alloc);
+    match turn % 16 {
+        0 => {
+            let count = random.between(60_000, 113_425);
+            text.put_records(random, count)?;
+        }
+        1..=4 => {
+            let count = random.between(20, 200);
+            text.put_runs(random, count)?;
+        }
+        5..=8 => {
+            let (least, most) = BYTES[level];
+            let count = random.between(least, most);
+            text.put_runs(random, count)?;
+            text.cut(count);
+        }
+        9..=11 => {
+            let (_, most) = BYTES[level];
+            text.put_pairs(random, most / 2)?;
+        }
+        _ => {
+            let (low, high) = TOO_MANY[level];
+            let count = if turn % 2 == 0 { low } else { high };
+            text.put_base64(random, count)?;
+        }
+    }
+    Ok(text)
+}
+
+fn add_awkward(
+    alloc: Global,
+    turn: u64,
+    level: &str,
+    text: &Text,
+    digest: &mut Digest,
+) -> Result<(), AllocError> {
+    match turn % 16 {
+        0 => {
+            let words = ["-S", "-v", "20", "-l", level, "-t", "UTF8"];
+            add_run(alloc, &words, text, SYMBOL_ROOM, digest)
+        }
+        1..=4 => {
+            let words = ["-S", "-v", "1", "-l", level, "-t", "UTF8"];
+            add_run(alloc, &words, text, SYMBOL_ROOM, digest)
+        }
+        9..=11 => {
+            let words = ["-k", "-l", level, "-t", "UTF8"];
+            add_run(alloc, &words, text, SYMBOL_ROOM, digest)
+        }
+        _ => {
+            let words = ["-l", level, "-t", "UTF8"];
+            add_run(alloc, &words, text, SYMBOL_ROOM, digest)
+        }
+    }
 }
 
 /// Takes awkward inputs. Some consist of runs for which a segment of their own saves few bits or none. Some have kanji
@@ -168,44 +262,9 @@ pub fn awkward(
 ) -> Result<(), AllocError> {
     let mut random = Random::new(seed);
     for turn in 0..count {
-        let mut text = Text::new(alloc);
         let level = random.below(4);
-        let name = LEVELS[level];
-        match turn % 16 {
-            0 => {
-                let count = random.between(60_000, 113_425);
-                text.put_records(&mut random, count)?;
-                let words = ["-S", "-v", "20", "-l", name, "-t", "UTF8"];
-                add_run(alloc, &words, &text, SYMBOL_ROOM, digest)?;
-            }
-            1..=4 => {
-                let count = random.between(20, 200);
-                text.put_runs(&mut random, count)?;
-                let words = ["-S", "-v", "1", "-l", name, "-t", "UTF8"];
-                add_run(alloc, &words, &text, SYMBOL_ROOM, digest)?;
-            }
-            5..=8 => {
-                let (least, most) = BYTES[level];
-                let count = random.between(least, most);
-                text.put_runs(&mut random, count)?;
-                text.cut(count);
-                let words = ["-l", name, "-t", "UTF8"];
-                add_run(alloc, &words, &text, SYMBOL_ROOM, digest)?;
-            }
-            9..=11 => {
-                let (_, most) = BYTES[level];
-                text.put_pairs(&mut random, most / 2)?;
-                let words = ["-k", "-l", name, "-t", "UTF8"];
-                add_run(alloc, &words, &text, SYMBOL_ROOM, digest)?;
-            }
-            _ => {
-                let (low, high) = TOO_MANY[level];
-                let count = if turn % 2 == 0 { low } else { high };
-                text.put_base64(&mut random, count)?;
-                let words = ["-l", name, "-t", "UTF8"];
-                add_run(alloc, &words, &text, SYMBOL_ROOM, digest)?;
-            }
-        }
+        let text = awkward_text(alloc, turn, &mut random, level)?;
+        add_awkward(alloc, turn, LEVELS[level], &text, digest)?;
     }
     Ok(())
 }
