@@ -68,5 +68,4 @@ version-symmetric v r c = search (arith, or_comm)
 -- a place is in the encoding region exactly if the place with row and column exchanged is in it
 pub region-symmetric : (v r c : ℕ) → is_in_region v r c ≡ is_in_region v c r
 unfolding is_in_region
-region-symmetric v r c =
-    search (arith, and_comm, nat_tests, version-symmetric, alignment-symmetric)
+region-symmetric v r c = rw (version-symmetric v r c, alignment-symmetric v r c) (search (arith, and_comm, nat_tests))

@@ -43,7 +43,7 @@ module _ (unknown g : Grid) where
   format-one v l k m n p q x y a b h j =
       let same = compared-alike a.copy b.copy (format_cost unknown g l m) (format_cost unknown g k n)
       (omega (arith, a.least b.copy k n b.near q y j, b.least a.copy l m a.near p x h)) in
-      search (arith, near-one)
+      near-one unknown a.copy g l k m n a.near (rw same b.near)
 
   -- a square is a damaged form of at most one symbol
   pub form-one : (v w : ℕ) (l k : Level) (m n : ℕ) (p q x y : List ℕ) → IsDamagedForm unknown g v l m p x →
@@ -101,18 +101,18 @@ module _ (unknown g : Grid) where
   unmended-one fault.Format fault.Side a b = absurd (b a.0 a.1)
   unmended-one fault.Format fault.Format a b = inr (inr refl)
   unmended-one fault.Format fault.Check a b = absurd (a.2 b.copy b.level b.mask b.format)
-  unmended-one fault.Format (fault.Segments y) a b = search arith
+  unmended-one fault.Format (fault.Segments y) a b = let w = b.5 in absurd (a.2 w.form.format.copy b.2 b.3 w.form.format.near)
   unmended-one fault.Format fault.Series a b = absurd b
   unmended-one fault.Check fault.Memory a b = inr (inl refl)
   unmended-one fault.Check fault.Side a b = absurd (b a.version a.sized)
   unmended-one fault.Check fault.Format a b = absurd (b.2 a.copy a.level a.mask a.format)
   unmended-one fault.Check fault.Check a b = inr (inr refl)
-  unmended-one fault.Check (fault.Segments y) a b = search (arith, form-of-use)
+  unmended-one fault.Check (fault.Segments y) a b = let w = b.5 in absurd (form-of-use b.1 b.2 b.3 w.message b.4 w.form a)
   unmended-one fault.Check fault.Series a b = absurd b
   unmended-one (fault.Segments x) fault.Memory a b = inr (inl refl)
   unmended-one (fault.Segments x) fault.Side a b = let w = a.5 in absurd (b a.1 w.form.sized)
-  unmended-one (fault.Segments x) fault.Format a b = search arith
-  unmended-one (fault.Segments x) fault.Check a b = search (arith, form-of-use)
+  unmended-one (fault.Segments x) fault.Format a b = let w = a.5 in absurd (b.2 w.form.format.copy a.2 a.3 w.form.format.near)
+  unmended-one (fault.Segments x) fault.Check a b = let w = a.5 in absurd (form-of-use a.1 a.2 a.3 w.message a.4 w.form b)
   unmended-one (fault.Segments x) (fault.Segments y) a b =
       let o = outcome-one a.1 b.1 a.2 b.2 a.3 b.3 (Err x) (Err y) a.4 b.4 a.5 b.5 in inr (inr (cc o.3))
   unmended-one (fault.Segments x) fault.Series a b = absurd b
@@ -263,7 +263,7 @@ module _ (unknown g : Grid) where
       HoldsDamaged unknown v k n g message changed → (k ≡ l) × (n ≡ m)) → HasFormat unknown v g l m
   alone-format v l m First f alone = alone-first v l m f alone
   alone-format v l m Second f alone = elim (cases_lt (copy_cost unknown First g l m) 7) [
-    | inl a ↦ search (arith, alone-first)
+    | inl a ↦ alone-first v l m (record { in_range = f.in_range; near = omega arith }) alone
     | inr b ↦ best Second v l m f (λ k n h q x d.
         let e = alone First k n h q x d in absurd (omega (arith, rw (e.0, e.1) at h.near)))
   ]

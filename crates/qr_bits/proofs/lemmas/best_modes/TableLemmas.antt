@@ -1,11 +1,11 @@
 -- A table of best modes, filled from the last byte to the first.
-use Rattle.std.proofs.Common.{◌≡◌, ℕ, ◌+◌, ◌*◌, ◌%◌, ◌≤◌, Bool, true, List, [], ◌∷◌, length, replicate, IsTrue, refl, ◌<◌, false, arith, lit<}
-use Rattle.std.proofs.lemmas.Bool.{false≢true, and_from, cond_both}
+use Rattle.std.proofs.Common.{◌≡◌, ℕ, ◌+◌, ◌*◌, ◌%◌, ◌≤◌, Bool, true, List, [], ◌∷◌, length, replicate, IsTrue, refl, ◌<◌}
+use Rattle.std.proofs.{Common.{◌/◌, ◌^◌, false, arith, lit<}, lemmas.Bool.{false≢true, and_from, cond_both}}
 use Rattle.qr_bits.specs.{declared.{modes.{Mode.{Mode, TheVariants.{Byte, Kanji}}, Rule.Rule}, run_state.RunState.RunState}, Segmentation.rank}
 use Rattle.qr_bits.specs.declared.{interpretation.Interpretation.{Interpretation, TheVariants.{Default, Gs1}}, run_state.PerState.PerState}
 use Rattle.qr_bits.specs.declared.run_state.RunState.TheVariants.{Start, Digit1, Digit2, Digit3, Character1, Character2, InBytes, HalfPair, WholePair}
 use Rattle.qr_bits.specs.Steps.RunState.{is_gs1, state_after, state_in, may_take_in, begins_with_pair, may_begin, may_take, may_end, allowed_in, cost_of, cost_of_all, ranked}
-use Rattle.qr_bits.specs.Steps.BestModes.{in_state, bits_at, mode_at, follow, follow_in, IsRow, IsSmall}
+use Rattle.qr_bits.specs.Steps.BestModes.{in_state, bits_at, mode_at, follow, follow_in, shift_of, IsRow, IsSmall}
 use Rattle.qr_bits.proofs.lemmas.{run_state.{BestLemmas.BestBelow, AssignmentLemmas.may_end-after}, interpretation.single-byte}
 use Rattle.qr_bits.proofs.lemmas.best_modes.ChoiceLemmas.{byte-used, cost_in-bound, take-begin}
 
@@ -69,12 +69,12 @@ packed n = n.start % 4 + 4 * (n.digit1 % 4 + 4 * (n.digit2 % 4 + 4 * (n.digit3 %
 -- the mode for a state in a row
 pub packed_mode : (n : PerState) (p : RunState) → mode_at (packed n) p ≡ ranked (in_state n p % 4)
 unfolding mode_at in_state
-packed_mode n p = search arith
+packed_mode n p = let e : packed n / 2 ^ shift_of p % 4 ≡ in_state n p % 4 = grind arith in cc
 
 -- a row with its flag has the same modes
 pub flagged_mode : (row : ℕ) (p : RunState) → mode_at (row + 262144) p ≡ mode_at row p
 unfolding mode_at
-flagged_mode row p = search arith
+flagged_mode row p = let e : (row + 262144) / 2 ^ shift_of p % 4 ≡ row / 2 ^ shift_of p % 4 = grind arith in cc
 
 -- without FNC1 the rows are followed as they stand
 pub follow-default : (p : RunState) (xs rows : List ℕ) → length rows ≡ length xs → follow_in Default p xs rows ≡ follow p rows

@@ -1,10 +1,10 @@
 -- An assignment is valid (`IsAssignment`) exactly if each of its modes is allowed after those before it (`allowed`).
-use Rattle.qr_bits.proofs.lemmas.{best_modes.ChoiceLemmas.{take-begin, state_after-whole}, run_state.BestLemmas.same-rank}
+use Rattle.qr_bits.proofs.lemmas.best_modes.ChoiceLemmas.{take-begin, state_after-whole}
 use Rattle.qr_bits.{proofs.lemmas.segmentation.CoverLemmas.{suits_by, CoversBy}, specs.{Modes.may_use, Segmentation.{rank, prepend_mode, runs_of}}}
 use Rattle.qr_bits.specs.{Steps.RunState.{state_after, begins_with_pair, may_begin, may_take, may_end, allowed}, declared.modes.Mode.{Mode, TheVariants.Kanji}}
 use Rattle.qr_bits.specs.declared.{modes.Rule.Rule, run_state.RunState.{RunState, TheVariants.WholePair}, segmentation.Segment.Segment}
 use Rattle.std.proofs.Common.{◌≡◌, ℕ, suc, ◌+◌, ◌<◌, Bool, true, ◌==◌, ◌&&◌, List, [], ◌∷◌, IsTrue, refl, arith, lit<}
-use Rattle.std.{proofs.lemmas.Bool.{cond_both, and_parts, and_from, false≢true, eqb-true, Decides.nat_tests}, specs.List.list_all}
+use Rattle.std.{proofs.lemmas.Bool.{cond_both, and_parts, and_from, false≢true}, specs.List.list_all}
 
 -- a valid assignment, where two bytes are a pair if they pass the test
 abbrev pub IsAssignmentBy : (ℕ → ℕ → Bool) → Rule → List ℕ → List Mode → Type 0
@@ -77,11 +77,11 @@ pub is-assignment : (test : ℕ → ℕ → Bool) (r : Rule) (xs : List ℕ) (ms
 unfolding CoversBy runs_of allowed may_take may_begin begins_with_pair state_after may_end
 is-assignment test r [] ms p e h = grind arith
 is-assignment test r (x ∷ xs) [] p e h = absurd (false≢true h)
-is-assignment test r (x ∷ []) (Kanji ∷ ms) p e h = search arith
+is-assignment test r (x ∷ []) (Kanji ∷ ms) p e h = search (arith, take-begin, and_parts)
 is-assignment test r (x ∷ y ∷ xs) (Kanji ∷ []) p e h = search (arith, false≢true, and_parts)
 is-assignment test r (x ∷ y ∷ xs) (Kanji ∷ Kanji ∷ ms) p e h =
     let parts = and_parts (may_take r p x (may_use r Kanji && test x y) Kanji) _ h in
-    search (arith, take-begin, and_parts, and_from, nat_tests, cond_both, same-rank, eqb-true, is-assignment test r xs ms WholePair refl (rw (state_after-whole p e) at parts.1))
-is-assignment test r (x ∷ y ∷ xs) (Kanji ∷ m ∷ ms) p e h = search arith
+    search (arith, take-begin, and_parts, and_from, is-assignment test r xs ms WholePair refl (rw (state_after-whole p e) at parts.1))
+is-assignment test r (x ∷ y ∷ xs) (Kanji ∷ m ∷ ms) p e h = search (arith, and_parts, state_after-whole, false≢true)
 is-assignment test r (x ∷ xs) (m ∷ ms) p e h =
-    search (arith, may_end-after, and_parts, take-begin, begin-is, and_from, is-assignment test r xs ms (state_after p m) (may_end-after p m (lit< tt)))
+    search (arith, may_end-after, and_parts, take-begin, begin-is, and_from, add-one, is-assignment test r xs ms (state_after p m) (may_end-after p m (lit< tt)))

@@ -1,7 +1,7 @@
 use Rattle.std.proofs.{Math.Nat.add-mul, Common.{◌≡◌, ◌≤◌, ◌+◌, ◌-◌, ◌++◌, List, ℕ, append_assoc, ap, length, refl, arith, rules}, lemmas.{List.length-take, Result.err_from_is_err_and}}
 use Rattle.qr_matrix.specs.BitRow.{has_bit}
 use Rattle.qr_drawing.specs.{Raster.texts_below, Steps.Text.{bits_text, cell_at, cell_room, cell_text, top_row}}
-use Rattle.qr_drawing.proofs.lemmas.{pen.{formed, stops-between, stops-first, writes-on}, text.LineLemmas.{added-next, added-none}}
+use Rattle.qr_drawing.proofs.lemmas.{pen.{formed, stops-before, stops-between, stops-first, writes-on}, text.LineLemmas.{added-next, added-none}}
 use Rattle.qr_drawing.proofs.lemmas.text.CellLemmas.{added-cells, cell-length, cells-length, eight-quads, later-cells, line-parts, room-cells, room-left, room-quad}
 use Rattle.qr_drawing.proofs.text.put_line.{Given.Over, Goals.{Joined-left-ge4, Joined-style, else-left-ge4, in-HalfBlocks, in-Plain, then-left-ge4}}
 use Rattle.qr_drawing.proofs.text.put_line.Goals as goal
@@ -44,6 +44,9 @@ columns g c row =
             later-cells c.args.style _ _ _ c.eights.col 0 _ _ _ _ _ (omega arith) (omega arith) c.dark_bits-upper-2.ensures c.dark_bits-lower-2.ensures (omega arith) (omega arith),
           )
     ])
+
+pub returns-in_err-reserve : goal.returns-in_err-reserve
+returns-in_err-reserve g c = rw ((err_from_is_err_and c.from_residual.result c.from_residual.ensures.1).1) (stops-before _ _ _ _ _ c.in_err-reserve.ensures.writes)
 
 pub returns-in_err-reserve-2 : goal.returns-in_err-reserve-2
 returns-in_err-reserve-2 g c =
@@ -103,7 +106,7 @@ pub push_cell-requires : goal.push_cell-requires
 push_cell-requires g c =
     let most = (style-is g (goal.at.push_cell-requires g c).Joined-style).0 in
     let fits = rw (c.from-4.ensures, c.from-3.ensures, c.from-margin.ensures, most, add-mul) at c.in_ok-reserve-3.ensures.room in
-    record { room = omega (arith, room-left _ _ _ 1 c.if-left-ge4.left (cell_room c.args.style) 1200 _ (λ k. cell-length c.args.style _ _) c.loop-done.invariant (omega arith) (omega (arith, fits))) }
+    record { room = grind (arith, room-left _ _ _ 1 c.if-left-ge4.left (cell_room c.args.style) 1200 _ (λ k. cell-length c.args.style _ _) c.loop-done.invariant) }
 
 pub loop-done-preserved : goal.loop-done-preserved
 unfolding has_bit
@@ -114,14 +117,14 @@ pub push_light-requires-2 : goal.push_light-requires-2
 push_light-requires-2 g c =
     let most = (style-is g (goal.at.push_light-requires-2 g c).Joined-style).0 in
     let fits = rw (c.from-4.ensures, c.from-3.ensures, c.from-margin.ensures, most, add-mul) at c.in_ok-reserve-3.ensures.room in
-    let few = cells-length _ _ _ c.if-left-ge4.left (cell_room c.args.style) _ (λ k. cell-length c.args.style _ _) c.loop-done.invariant (omega arith) in
+    let few = cells-length _ _ _ c.if-left-ge4.left (cell_room c.args.style) _ (λ k. cell-length c.args.style _ _) c.loop-done.invariant c.loop-done.auto.done-end in
     record { room = rw c.from-margin.ensures (omega (arith, few, fits)) }
 
 pub prove-unreachable-requires : goal.prove-unreachable-requires
 prove-unreachable-requires g c =
     let most = (style-is g (goal.at.prove-unreachable-requires g c).Joined-style).0 in
     let fits = rw (c.from-4.ensures, c.from-3.ensures, c.from-margin.ensures, most, add-mul) at c.in_ok-reserve-3.ensures.room in
-    let few = cells-length _ _ _ c.if-left-ge4.left (cell_room c.args.style) _ (λ k. cell-length c.args.style _ _) c.loop-done.invariant (omega arith) in
+    let few = cells-length _ _ _ c.if-left-ge4.left (cell_room c.args.style) _ (λ k. cell-length c.args.style _ _) c.loop-done.invariant c.loop-done.auto.done-end in
     let long = length-take c.text.inside.len c.text.inside.bytes in
     omega (arith, few, fits, rw c.from-margin.ensures at c.push_light-2.ensures.len, long, ap length c.text.view_is, c.text.invariant.0, c.text.invariant.1, c.if-prove.true)
 
@@ -143,3 +146,15 @@ returns g c =
     (formed _ _ _ _ held _ _ _ c.in_ok-reserve.ensures.writes left)
     (formed _ _ _ _ _ _ _ _ c.in_ok-reserve-2.ensures.writes done.0))
     (formed _ _ _ _ _ _ _ _ (rw done.1 at c.in_ok-reserve-3.ensures.writes) rest))
+
+pub overflow_mul-from-2 : goal.overflow_mul-from-2
+overflow_mul-from-2 g c = grind arith
+
+pub overflow_mul-from-3 : goal.overflow_mul-from-3
+overflow_mul-from-3 g c = grind arith
+
+pub overflow_add-from-2 : goal.overflow_add-from-2
+overflow_add-from-2 g c = grind arith
+
+pub reserve-requires-3 : goal.reserve-requires-3
+reserve-requires-3 g c = grind arith

@@ -54,3 +54,10 @@ loop-step-preserved g c =
       counted = λ b. subst (λ z. AreWindowsTo s (d b) z (2 * (n b + (2 * number c.counted.result.1 b + set_count (bit c.counted.result.0 b))) + set_count (bit c.added-digit.result.0 b))) (two_more c.args.first l.step) (second b);
       kept = λ _ b k. subst (λ z. bit c.ratio_in_column-after.result b k ≡ (ltb k s && reads (λ i. d b i k) z finder_ratio)) (two_after c.args.first l.step) (c.ratio_in_column-after.ensures b k);
     }
+
+pub windows_at-lower-requires-clause-next : goal.windows_at-lower-requires-clause-next
+windows_at-lower-requires-clause-next g c =
+    let e : c.args.first + 2 * c.loop-step.step + 2 ≡ c.args.first + 2 * c.loop-step.step + 1 + 1 = omega arith in rw e at c.ratio_in_column-after.ensures
+
+pub returns-clause-ratio : goal.returns-clause-ratio
+returns-clause-ratio g c = let e : c.loop-step.step ≡ c.args.pairs = omega arith in rw e at c.loop-step.invariant.kept

@@ -6,7 +6,9 @@ use Rattle.qr_parsing.proofs.svg.box_at.Goals as goal
 
 -- at an `M` a path begins with a box
 found : (text numbers : List ℕ) (at : ℕ) → IsPath numbers (drop at text) → at < length text → get_or text at 0 ≡ 77 → FirstBox numbers (drop at text)
-found text numbers at path lt m = search (rules, first-box, length-drop, get_or-drop)
+found text numbers at path lt m =
+    let e : at + 0 ≡ at = omega arith in
+    first-box numbers (drop at text) path (omega (arith, length-drop at text)) (simp (get_or-drop, e) m)
 
 pub returns-then-at-text-clause-reads : goal.returns-then-at-text-clause-reads
 returns-then-at-text-clause-reads c numbers path = search (rules, no-box, length-drop, get_or-drop)
@@ -29,7 +31,7 @@ returns-in_err-modules-clause-reads c numbers path =
     let text = c.args.text.now in
     let b = found text numbers c.args.at path (omega arith) c.if-text-at-ne77.false in
     let x : (c.in_ok-x.x ≡ b.x) × (drop c.in_ok-x.after_x text ≡ after_column b.y b.modules b.rest) =
-    c.in_ok-x.ensures.reads b.x 32 (after_column b.y b.modules b.rest) (omega arith) refl (search (rules, column-long)) (after-m text _ c.args.at b.bytes_are) in
+    c.in_ok-x.ensures.reads b.x 32 (after_column b.y b.modules b.rest) (omega arith) refl (omega (arith, column-long b.y b.modules b.rest b.modules_in)) (after-m text _ c.args.at b.bytes_are) in
     search (rules, after_row, row-long, after_modules, modules-long)
 
 pub returns-then-after_modules-back-clause-reads : goal.returns-then-after_modules-back-clause-reads
@@ -38,11 +40,11 @@ returns-then-after_modules-back-clause-reads c numbers path =
     let text = c.args.text.now in
     let b = found text numbers c.args.at path (omega arith) c.if-text-at-ne77.false in
     let x : (c.in_ok-x.x ≡ b.x) × (drop c.in_ok-x.after_x text ≡ after_column b.y b.modules b.rest) =
-    c.in_ok-x.ensures.reads b.x 32 (after_column b.y b.modules b.rest) (omega arith) refl (search (rules, column-long)) (after-m text _ c.args.at b.bytes_are) in
+    c.in_ok-x.ensures.reads b.x 32 (after_column b.y b.modules b.rest) (omega arith) refl (omega (arith, column-long b.y b.modules b.rest b.modules_in)) (after-m text _ c.args.at b.bytes_are) in
     let y : (c.in_ok-y.y ≡ b.y) × (drop c.in_ok-y.after_y text ≡ after_row b.modules b.rest) =
-    search (rules, after_row, row-long) in
+    c.in_ok-y.ensures.reads b.y 104 (after_row b.modules b.rest) b.y_in refl (omega (arith, row-long b.modules b.rest b.modules_in)) x.1 in
     let n : (c.in_ok-modules.modules ≡ b.modules) × (drop c.in_ok-modules.after_modules text ≡ after_modules b.modules b.rest) =
-    search (rules, after_modules, modules-long) in
+    c.in_ok-modules.ensures.reads b.modules 118 (after_modules b.modules b.rest) (omega (arith, b.modules_in)) refl (omega (arith, modules-long b.modules b.rest)) y.1 in
     let e = n.0 in
     let many : c.if-modules-lt10.back ≡ 4 + length (decimal b.modules) = search (rules, digits-one, digits-two, digits-three) in
     absurd (omega (arith, ap length n.1, length-drop c.in_ok-modules.after_modules text, modules-long b.modules b.rest))
@@ -53,11 +55,11 @@ returns-clause-reads c numbers path =
     let text = c.args.text.now in
     let b = found text numbers c.args.at path (omega arith) c.if-text-at-ne77.false in
     let x : (c.in_ok-x.x ≡ b.x) × (drop c.in_ok-x.after_x text ≡ after_column b.y b.modules b.rest) =
-    c.in_ok-x.ensures.reads b.x 32 (after_column b.y b.modules b.rest) (omega arith) refl (search (rules, column-long)) (after-m text _ c.args.at b.bytes_are) in
+    c.in_ok-x.ensures.reads b.x 32 (after_column b.y b.modules b.rest) (omega arith) refl (omega (arith, column-long b.y b.modules b.rest b.modules_in)) (after-m text _ c.args.at b.bytes_are) in
     let y : (c.in_ok-y.y ≡ b.y) × (drop c.in_ok-y.after_y text ≡ after_row b.modules b.rest) =
-    search (rules, after_row, row-long) in
+    c.in_ok-y.ensures.reads b.y 104 (after_row b.modules b.rest) b.y_in refl (omega (arith, row-long b.modules b.rest b.modules_in)) x.1 in
     let n : (c.in_ok-modules.modules ≡ b.modules) × (drop c.in_ok-modules.after_modules text ≡ after_modules b.modules b.rest) =
-    search (rules, after_modules, modules-long) in
+    c.in_ok-modules.ensures.reads b.modules 118 (after_modules b.modules b.rest) (omega (arith, b.modules_in)) refl (omega (arith, modules-long b.modules b.rest)) y.1 in
     let e = n.0 in
     let many : c.if-modules-lt10.back ≡ 4 + length (decimal b.modules) = search (rules, digits-one, digits-two, digits-three) in
     let after = after-box text b.rest c.in_ok-modules.after_modules b.modules c.if-modules-lt10.back n.1 many in (

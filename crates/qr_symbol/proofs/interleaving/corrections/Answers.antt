@@ -1,4 +1,4 @@
-use Rattle.std.proofs.{Common.{rules, ◌+◌, ◌*◌, ap, subst, arith}}
+use Rattle.std.proofs.Common.{◌+◌, ◌*◌, ap, subst, arith}
 use Rattle.qr_symbol.{specs.Interleaving.{block_count, IsChecks}, proofs.lemmas.interleaving.CheckLemmas.push-checks}
 use Rattle.qr_symbol.proofs.interleaving.corrections.Goals as goal
 
@@ -10,7 +10,10 @@ loop-pair-preserved c =
     let two = push-checks c.args.blocks c.args.message.now _ _ _ _ (2 * c.loop-pair.pair + 1) c.of_data-sizes.ensures (omega arith)
     (rw (c.new-divisor.ensures, c.part-second.ensures.value, c.from-ec_len.ensures, ← c.as_slice-in-loop-pair.ensures.value) at c.corrections-left.ensures.second)
     one c.in_ok-extend_from_slice-2.ensures.items in
-    search rules
+    subst (λ k. IsChecks c.args.blocks c.args.message.now k c.extend_from_slice-in-loop-pair.new.self.items) (omega arith) two
+
+pub loop-block-init : goal.loop-block-init
+loop-block-init c = subst (λ k. IsChecks c.args.blocks c.args.message.now k c.loop-pair.corrections.items) (omega arith) c.loop-pair.invariant
 
 pub loop-block-preserved : goal.loop-block-preserved
 loop-block-preserved c = push-checks _ _ _ _ _ _ _ c.of_data-sizes.ensures (omega arith)

@@ -22,8 +22,8 @@ loop-len-preserved c =
     let ns = c.args.lengths.now in let i = c.loop-len.len-index in
     let inv = c.loop-len.invariant in
     let s = c.in_ok-symbol.symbol in
-    let of-segments = rw (inv.version, inv.level, c.len.ensures, inv.count, c.parity-parity.ensures) at c.in_ok-symbol.ensures.made in
-    let made = rw c.split_at.ensures.front at (of-segments c.args.rule c.split_at.result.0.now c.in_ok-segmented.ensures.ok) in
+    let made = rw (inv.version, inv.level, c.len.ensures, inv.count, c.parity-parity.ensures, c.split_at.ensures.front) at
+    (c.in_ok-symbol.ensures.made c.args.rule c.split_at.result.0.now (rw inv.version c.in_ok-segmented.ensures.ok)) in
     let less = length-drop (get_or ns i 0) rest in rw (c.in_ok-push.ensures.items, c.split_at.ensures.back) (record {
       version = c.symbol_on.ensures.kept_version ∙ inv.version;
       level = c.symbol_on.ensures.kept_level ∙ inv.level;

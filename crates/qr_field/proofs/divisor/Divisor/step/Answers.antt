@@ -1,4 +1,4 @@
-use Rattle.std.proofs.{Common.{rules, ◌≡◌, ◌/◌, ◌%◌, ◌^◌, get_or, ap, ◌∙◌, arith, bit_xor, bit_and}, lemmas.Nat.{and_mask, xor_of_8}}
+use Rattle.std.proofs.{Common.{rules, ◌≡◌, ◌/◌, ◌%◌, ◌^◌, get_or, ap, ◌∙◌, arith, bit_xor, bit_and}, lemmas.{Grind.common_steps, Nat.{and_mask, xor_of_8}}}
 use Rattle.qr_field.specs.Steps.Register.{packed, divisor_of, value_of, zero_register}
 use Rattle.qr_field.{specs.Polynomial.scaled, proofs.lemmas.divisor.{held-step, multiple-of_halves}}
 use Rattle.qr_field.proofs.divisor.Divisor.step.Goals as goal
@@ -25,3 +25,6 @@ returns c = λ m i l e h.
             is_first,
           ))) c.self.invariant.2 c.self.invariant.3 ∙ ap (λ t. packed (scaled factor (divisor_of t))) c.self.view_is)),
     )
+
+pub offset_bounds-self-inside-factor-2 : goal.offset_bounds-self-inside-factor-2
+offset_bounds-self-inside-factor-2 c = grind (arith, common_steps)
