@@ -38,6 +38,7 @@ class Item:
         return "\n".join(self.text.split("\n")[:self.contract_lines() or None])
 
     def contract_lines(self):
+        """Returns how many lines the contract takes with the line of the name, or 0 if the item has no body after them."""
         lines = self.text.count("\n") + 1
         return lines - 1 - (self.last - self.head) + self.is_function if self.last > self.head else 0
 
