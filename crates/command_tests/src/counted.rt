@@ -1,6 +1,7 @@
 //! Tests of `Counted` and of `Bounded`. `Counted` passes calls on to a `Read` or a `Write` of the standard library, and
 //! turns the errors that they return into `Trouble`. `Bounded` is a writer in memory.
 
+use crate::checks::{check, check_eq};
 use qr_devices::Bounded;
 use qrencode_cli::{Counted, Sink, Source, Trouble};
 use std::io::{self, ErrorKind, Read, Write};
@@ -59,10 +60,10 @@ fn reads_are_passed_on(rt: HostRuntime) {
         flushes: &mut flushes,
     });
     let mut buf = [0u8; 4];
-    assert_eq!(rt; device.read(&mut buf), Err(Trouble::Interrupted));
-    assert_eq!(rt; device.read(&mut buf), Err(Trouble::Failed));
-    assert_eq!(rt; device.read(&mut buf), Ok(1));
-    assert_eq!(rt; calls, 3);
+    check_eq!(rt; device.read(&mut buf), Err(Trouble::Interrupted));
+    check_eq!(rt; device.read(&mut buf), Err(Trouble::Failed));
+    check_eq!(rt; device.read(&mut buf), Ok(1));
+    check_eq!(rt; calls, 3);
 }
 
 #[test]
@@ -72,12 +73,12 @@ fn writes_and_flushes_are_passed_on(rt: HostRuntime) {
         calls: &mut calls,
         flushes: &mut flushes,
     });
-    assert_eq!(rt; device.write(b"ab"), Err(Trouble::Interrupted));
-    assert_eq!(rt; device.flush(), Err(Trouble::Failed));
-    assert_eq!(rt; device.write(b"ab"), Ok(1));
-    assert_eq!(rt; device.flush(), Ok(()));
-    assert_eq!(rt; calls, 4);
-    assert_eq!(rt; flushes, 2);
+    check_eq!(rt; device.write(b"ab"), Err(Trouble::Interrupted));
+    check_eq!(rt; device.flush(), Err(Trouble::Failed));
+    check_eq!(rt; device.write(b"ab"), Ok(1));
+    check_eq!(rt; device.flush(), Ok(()));
+    check_eq!(rt; calls, 4);
+    check_eq!(rt; flushes, 2);
 }
 
 #[test]
@@ -86,9 +87,9 @@ fn a_bounded_writer_takes_what_it_has_room_for(rt: HostRuntime) {
         bytes: Vec::new(rt.alloc()),
         most: 3,
     });
-    assert_eq!(rt; device.write(b"ab"), Ok(2));
-    assert_eq!(rt; device.write(b"cd"), Ok(1));
-    assert_eq!(rt; device.write(b"e"), Ok(0));
-    assert_eq!(rt; device.flush(), Ok(()));
-    assert!(rt; device.into_inner().bytes.as_slice() == b"abc".as_slice());
+    check_eq!(rt; device.write(b"ab"), Ok(2));
+    check_eq!(rt; device.write(b"cd"), Ok(1));
+    check_eq!(rt; device.write(b"e"), Ok(0));
+    check_eq!(rt; device.flush(), Ok(()));
+    check!(rt; device.into_inner().bytes.as_slice() == b"abc".as_slice());
 }

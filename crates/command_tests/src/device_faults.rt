@@ -1,7 +1,8 @@
 //! Tests of the command with devices that are slow, interrupted, failing or full.
 
+use crate::checks::{check, check_eq};
 use crate::letter_a::drawing;
-use crate::runs::{DRAW, Devices, run_with};
+use crate::runs::{DRAW, Devices, failure, run_with, success};
 use qrencode_cli::Faults;
 use std::test::Fail;
 
@@ -19,11 +20,9 @@ fn slow_devices_succeed(rt: HostRuntime) -> Result<(), Fail> {
         ..Devices::WITHOUT_FAULTS
     };
     let r = run_with(rt.alloc(), &DRAW, b"A", devices)?;
-    assert_eq!(rt; r.status, 0);
-    assert_eq!(rt; r.out.bytes(), drawing(rt.alloc())?.as_slice());
-    assert!(rt; r.err.bytes().is_empty());
+    check_eq!(rt; r.outcome(), success(&drawing(rt.alloc())?));
     let writes = r.out.writes();
-    assert!(rt; writes.flushes == 1 && writes.settled);
+    check!(rt; writes.flushes == 1 && writes.settled);
     Ok(())
 }
 
@@ -39,17 +38,13 @@ fn interrupted_too_often(rt: HostRuntime) -> Result<(), Fail> {
         ..Devices::WITHOUT_FAULTS
     };
     let r = run_with(rt.alloc(), &DRAW, b"A", reading)?;
-    assert_eq!(rt; r.status, 1);
-    assert_eq!(rt; r.err.bytes(), b"qrencode: read error\n".as_slice());
-    assert!(rt; r.out.bytes().is_empty());
+    check_eq!(rt; r.outcome(), failure(b"qrencode: read error\n"));
     let writing = Devices {
         out: tired,
         ..Devices::WITHOUT_FAULTS
     };
     let r = run_with(rt.alloc(), &DRAW, b"A", writing)?;
-    assert_eq!(rt; r.status, 1);
-    assert_eq!(rt; r.err.bytes(), b"qrencode: write error\n".as_slice());
-    assert!(rt; r.out.bytes().is_empty());
+    check_eq!(rt; r.outcome(), failure(b"qrencode: write error\n"));
     Ok(())
 }
 
@@ -67,13 +62,7 @@ fn readers_fail_in_turn(rt: HostRuntime) -> Result<(), Fail> {
             ..Devices::WITHOUT_FAULTS
         };
         let r = run_with(rt.alloc(), &DRAW, b"AB", devices)?;
-        assert_eq!(rt; r.status, 1, "call {call}");
-        assert_eq!(rt;
-            r.err.bytes(),
-            b"qrencode: read error\n".as_slice(),
-            "call {call}"
-        );
-        assert!(rt; r.out.bytes().is_empty());
+        check_eq!(rt; r.outcome(), failure(b"qrencode: read error\n"), "call {call}");
     }
     Ok(())
 }
@@ -103,12 +92,12 @@ fn writers_fail_in_turn(rt: HostRuntime) -> Result<(), Fail> {
                 ..Devices::WITHOUT_FAULTS
             };
             let r = run_with(rt.alloc(), &DRAW, b"A", devices)?;
-            assert!(rt; want.as_slice().starts_with(r.out.bytes()), "call {call}");
+            check!(rt; want.as_slice().starts_with(r.out.bytes()), "call {call}");
             let taken = r.out.writes().taken;
-            assert_eq!(rt; r.status == 0, taken == whole, "call {call}");
+            check_eq!(rt; r.status == 0, taken == whole, "call {call}");
             if taken < whole {
-                assert_eq!(rt; r.err.bytes(), b"qrencode: write error\n".as_slice());
-                assert_eq!(rt; r.out.writes().flushes, 0);
+                check_eq!(rt; r.err.bytes(), b"qrencode: write error\n".as_slice());
+                check_eq!(rt; r.out.writes().flushes, 0);
             }
         }
     }
@@ -125,10 +114,8 @@ fn a_writer_that_takes_nothing(rt: HostRuntime) -> Result<(), Fail> {
         ..Devices::WITHOUT_FAULTS
     };
     let r = run_with(rt.alloc(), &DRAW, b"A", devices)?;
-    assert_eq!(rt; r.status, 1);
-    assert_eq!(rt; r.err.bytes(), b"qrencode: write error\n".as_slice());
-    assert!(rt; r.out.bytes().is_empty());
-    assert_eq!(rt; r.out.writes().calls, 1);
+    check_eq!(rt; r.outcome(), failure(b"qrencode: write error\n"));
+    check_eq!(rt; r.out.writes().calls, 1);
     Ok(())
 }
 
@@ -139,13 +126,13 @@ fn no_room_for_all(rt: HostRuntime) -> Result<(), Fail> {
         ..Devices::WITHOUT_FAULTS
     };
     let r = run_with(rt.alloc(), &DRAW, b"A", devices)?;
-    assert_eq!(rt; r.status, 1);
-    assert_eq!(rt; r.err.bytes(), b"qrencode: write error\n".as_slice());
+    check_eq!(rt; r.status, 1);
+    check_eq!(rt; r.err.bytes(), b"qrencode: write error\n".as_slice());
     let text = r.out.bytes();
-    assert_eq!(rt; text.len(), 100);
+    check_eq!(rt; text.len(), 100);
     for (at, byte) in text.iter().enumerate() {
         let want = if at == 58 { b'\n' } else { b' ' };
-        assert_eq!(rt; *byte, want, "byte {at}");
+        check_eq!(rt; *byte, want, "byte {at}");
     }
     Ok(())
 }
@@ -160,9 +147,9 @@ fn a_flush_that_fails(rt: HostRuntime) -> Result<(), Fail> {
         ..Devices::WITHOUT_FAULTS
     };
     let r = run_with(rt.alloc(), &DRAW, b"A", devices)?;
-    assert_eq!(rt; r.status, 1);
-    assert_eq!(rt; r.err.bytes(), b"qrencode: write error\n".as_slice());
-    assert_eq!(rt; r.out.bytes(), drawing(rt.alloc())?.as_slice());
-    assert_eq!(rt; r.out.writes().flushes, 1);
+    check_eq!(rt; r.status, 1);
+    check_eq!(rt; r.err.bytes(), b"qrencode: write error\n".as_slice());
+    check_eq!(rt; r.out.bytes(), drawing(rt.alloc())?.as_slice());
+    check_eq!(rt; r.out.writes().flushes, 1);
     Ok(())
 }

@@ -3,6 +3,7 @@
 
 ghost use Rattle.std.specs.Prelude.{◌≡◌, IfOk};
 
+use crate::checks::{check, check_eq};
 use crate::runs::{Devices, run_with};
 use qr_layout::{Level, Version};
 use qr_matrix::Matrix;
@@ -49,9 +50,9 @@ fn line_count(text: &[u8]) -> usize {
 fn ascii(rt: HostRuntime) -> Result<(), Fail> {
     let out = one(rt.alloc(), Drawing::Ascii, 4)?;
     let text = out.bytes();
-    assert_eq!(rt; line_count(text), 29);
-    assert_eq!(rt; line(text, 3), [b' '; 58].as_slice());
-    assert_eq!(rt;
+    check_eq!(rt; line_count(text), 29);
+    check_eq!(rt; line(text, 3), [b' '; 58].as_slice());
+    check_eq!(rt;
         line(text, 4),
         b"        ##############      ######  ##############        ".as_slice()
     );
@@ -62,8 +63,8 @@ fn ascii(rt: HostRuntime) -> Result<(), Fail> {
 fn ascii_inverse(rt: HostRuntime) -> Result<(), Fail> {
     let out = one(rt.alloc(), Drawing::AsciiInverse, 0)?;
     let text = out.bytes();
-    assert_eq!(rt; line_count(text), 21);
-    assert_eq!(rt;
+    check_eq!(rt; line_count(text), 21);
+    check_eq!(rt;
         line(text, 0),
         b"              ######      ##              ".as_slice()
     );
@@ -74,9 +75,9 @@ fn ascii_inverse(rt: HostRuntime) -> Result<(), Fail> {
 fn utf8(rt: HostRuntime) -> Result<(), Fail> {
     let out = one(rt.alloc(), Drawing::Utf8, 0)?;
     let text = out.bytes();
-    assert_eq!(rt; line_count(text), 11);
-    assert_eq!(rt; line(text, 0), " ▄▄▄▄▄ █▀▀ ▄▄█ ▄▄▄▄▄ ".as_bytes());
-    assert_eq!(rt; line(text, 10), "▄▄▄▄▄▄▄█▄██▄█▄▄▄██▄█▄".as_bytes());
+    check_eq!(rt; line_count(text), 11);
+    check_eq!(rt; line(text, 0), " ▄▄▄▄▄ █▀▀ ▄▄█ ▄▄▄▄▄ ".as_bytes());
+    check_eq!(rt; line(text, 10), "▄▄▄▄▄▄▄█▄██▄█▄▄▄██▄█▄".as_bytes());
     Ok(())
 }
 
@@ -84,14 +85,14 @@ fn utf8(rt: HostRuntime) -> Result<(), Fail> {
 fn utf8_with_a_margin(rt: HostRuntime) -> Result<(), Fail> {
     let out = one(rt.alloc(), Drawing::Utf8, 4)?;
     let text = out.bytes();
-    assert_eq!(rt; line_count(text), 15);
+    check_eq!(rt; line_count(text), 15);
     for index in 0..2 {
-        assert_eq!(rt;
+        check_eq!(rt;
             line(text, index),
             "█████████████████████████████".as_bytes()
         );
     }
-    assert!(rt; line(text, 2).starts_with("████ ▄▄▄▄▄ █".as_bytes()));
+    check!(rt; line(text, 2).starts_with("████ ▄▄▄▄▄ █".as_bytes()));
     Ok(())
 }
 
@@ -99,27 +100,27 @@ fn utf8_with_a_margin(rt: HostRuntime) -> Result<(), Fail> {
 fn svg(rt: HostRuntime) -> Result<(), Fail> {
     let out = one(rt.alloc(), Drawing::Svg, 4)?;
     let text = out.bytes();
-    assert_eq!(rt; line_count(text), 5);
-    assert_eq!(rt;
+    check_eq!(rt; line_count(text), 5);
+    check_eq!(rt;
         line(text, 0),
         b"<?xml version=\"1.0\" encoding=\"UTF-8\"?>".as_slice()
     );
-    assert_eq!(rt;
+    check_eq!(rt;
         line(text, 1),
         b"<svg xmlns=\"http://www.w3.org/2000/svg\" version=\"1.1\" viewBox=\"0 0 29 29\" shape-rendering=\"crispEdges\">".as_slice()
     );
-    assert_eq!(rt;
+    check_eq!(rt;
         line(text, 2),
         b"<rect x=\"0\" y=\"0\" width=\"29\" height=\"29\" fill=\"#ffffff\"/>".as_slice()
     );
     let path = line(text, 3);
-    assert!(rt;
+    check!(rt;
         path.starts_with(
             b"<path fill=\"#000000\" d=\"M4 4h7v1h-7zM14 4h3v1h-3zM18 4h7v1h-7zM4 5h1v1h-1z"
         )
     );
-    assert!(rt; path.ends_with(b"h1v1h-1z\"/>"));
-    assert_eq!(rt; line(text, 4), b"</svg>".as_slice());
+    check!(rt; path.ends_with(b"h1v1h-1z\"/>"));
+    check_eq!(rt; line(text, 4), b"</svg>".as_slice());
     Ok(())
 }
 
@@ -129,19 +130,19 @@ fn svg_of_two_symbols(rt: HostRuntime) -> Result<(), Fail> {
     let mut out = Trial::writer(rt.alloc(), 8000, Faults::NONE)?;
     draw(&symbols, Drawing::Svg, 0, &mut out)?;
     let text = out.bytes();
-    assert_eq!(rt; line_count(text), 5);
-    assert_eq!(rt;
+    check_eq!(rt; line_count(text), 5);
+    check_eq!(rt;
         line(text, 1),
         b"<svg xmlns=\"http://www.w3.org/2000/svg\" version=\"1.1\" viewBox=\"0 0 21 42\" shape-rendering=\"crispEdges\">".as_slice()
     );
-    assert_eq!(rt;
+    check_eq!(rt;
         line(text, 2),
         b"<rect x=\"0\" y=\"0\" width=\"21\" height=\"42\" fill=\"#ffffff\"/>".as_slice()
     );
     let path = line(text, 3);
-    assert!(rt; path.starts_with(b"<path fill=\"#000000\" d=\"M0 0h7v1h-7zM10 0h3v1h-3z"));
+    check!(rt; path.starts_with(b"<path fill=\"#000000\" d=\"M0 0h7v1h-7zM10 0h3v1h-3z"));
     let second = b"zM0 21h7v1h-7zM10 21h3v1h-3z";
-    assert_eq!(rt;
+    check_eq!(rt;
         path.windows(second.len())
             .filter(|part| *part == second.as_slice())
             .count(),
@@ -155,9 +156,9 @@ fn svg_of_two_symbols(rt: HostRuntime) -> Result<(), Fail> {
 #[test]
 fn runs_of_the_first_row(rt: HostRuntime) -> Result<(), Fail> {
     let symbol = symbol(rt.alloc())?;
-    assert!(rt; symbol.matrix.side() == 21);
+    check!(rt; symbol.matrix.side() == 21);
     for (col, end) in [(0, 7), (7, 10), (14, 21)] {
-        assert_eq!(rt; symbol.matrix.run_end(0, col), end, "column {col}");
+        check_eq!(rt; symbol.matrix.run_end(0, col), end, "column {col}");
     }
     Ok(())
 }
@@ -195,9 +196,9 @@ fn by_words(rt: HostRuntime) -> Result<(), Fail> {
             ..Devices::WITHOUT_FAULTS
         };
         let r = run_with(rt.alloc(), words, b"", devices)?;
-        assert_eq!(rt; r.status, 0, "{name}");
-        assert_eq!(rt; line_count(r.out.bytes()), lines, "{name}");
-        assert!(rt; r.err.bytes().is_empty(), "{name}");
+        check_eq!(rt; r.status, 0, "{name}");
+        check_eq!(rt; line_count(r.out.bytes()), lines, "{name}");
+        check!(rt; r.err.bytes().is_empty(), "{name}");
     }
     Ok(())
 }
@@ -224,18 +225,18 @@ fn writers_fail_in_turn(rt: HostRuntime) -> Result<(), Fail> {
             };
             let mut out = Trial::writer(rt.alloc(), 8000, faults)?;
             let drawn = draw(&symbols, kind, 4, &mut out);
-            assert!(rt;
+            check!(rt;
                 whole.bytes().starts_with(out.bytes()),
                 "{kind:?}, call {call}"
             );
-            assert_eq!(rt;
+            check_eq!(rt;
                 drawn.is_ok(),
                 out.bytes().len() == whole.bytes().len(),
                 "{kind:?}, call {call}"
             );
             last = drawn.is_ok();
         }
-        assert!(rt; last, "{kind:?}: the last call succeeds");
+        check!(rt; last, "{kind:?}: the last call succeeds");
     }
     Ok(())
 }
@@ -310,7 +311,7 @@ fn sizes_of_single_writes(rt: HostRuntime) -> Result<(), Fail> {
     ] {
         for (margin, sizes) in rows {
             let found = sizes_of_writes(rt.alloc(), kind, margin)?;
-            assert_eq!(rt; found.as_slice(), sizes, "{kind:?}, margin {margin}");
+            check_eq!(rt; found.as_slice(), sizes, "{kind:?}, margin {margin}");
         }
     }
     Ok(())

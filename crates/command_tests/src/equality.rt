@@ -1,5 +1,6 @@
 //! Tests of `==`, by which two values differ if one of their fields does, and of `clone`, which returns an equal value.
 
+use crate::checks::{check, check_eq};
 use qr_bits::{BitFault, Header, Mode, ParseFault, Rule, Segment};
 use qr_layout::{Level, Place, Role, Strip, Version};
 use qr_parsing::DrawingFault;
@@ -10,21 +11,21 @@ use std::test::Fail;
 #[test]
 fn of_the_layout(rt: HostRuntime) -> Result<(), Fail> {
     let (first, second) = (Version::FIRST, Version::new(2).ok_or("no version 2")?);
-    assert!(rt; first == first && first != second);
-    assert_eq!(rt; second.clone()?, second);
-    assert!(rt; Level::Q == Level::Q && Level::Q != Level::H);
-    assert_eq!(rt; Level::H.clone()?, Level::H);
+    check!(rt; first == first && first != second);
+    check_eq!(rt; second.clone()?, second);
+    check!(rt; Level::Q == Level::Q && Level::Q != Level::H);
+    check_eq!(rt; Level::H.clone()?, Level::H);
     let role = Role::FormatBit(3);
-    assert!(rt; role == role && role != Role::VersionBit(3) && role != Role::FormatBit(4));
-    assert_eq!(rt; role.clone()?, role);
+    check!(rt; role == role && role != Role::VersionBit(3) && role != Role::FormatBit(4));
+    check_eq!(rt; role.clone()?, role);
     let place = Place { row: 1, col: 2 };
-    assert!(rt;
+    check!(rt;
         place == place && place != Place { row: 1, col: 3 } && place != Place { row: 0, col: 2 }
     );
-    assert_eq!(rt; place.clone()?, place);
+    check_eq!(rt; place.clone()?, place);
     let blocks = first.blocks(Level::L);
-    assert!(rt; blocks == blocks && blocks != first.blocks(Level::M));
-    assert_eq!(rt; blocks.clone()?, blocks);
+    check!(rt; blocks == blocks && blocks != first.blocks(Level::M));
+    check_eq!(rt; blocks.clone()?, blocks);
     let strip = Strip {
         right: 20,
         upward: true,
@@ -36,29 +37,29 @@ fn of_the_layout(rt: HostRuntime) -> Result<(), Fail> {
             ..strip
         },
     );
-    assert!(rt; strip == strip && strip != left && strip != downward);
-    assert_eq!(rt; strip.clone()?, strip);
+    check!(rt; strip == strip && strip != left && strip != downward);
+    check_eq!(rt; strip.clone()?, strip);
     Ok(())
 }
 
 #[test]
 fn of_segments(rt: HostRuntime) -> Result<(), Fail> {
-    assert!(rt; Mode::Byte == Mode::Byte && Mode::Byte != Mode::Kanji);
-    assert_eq!(rt; Mode::Kanji.clone()?, Mode::Kanji);
-    assert!(rt; Rule::Auto == Rule::Auto && Rule::Auto != Rule::WithKanji);
-    assert_eq!(rt; Rule::Auto.clone()?, Rule::Auto);
+    check!(rt; Mode::Byte == Mode::Byte && Mode::Byte != Mode::Kanji);
+    check_eq!(rt; Mode::Kanji.clone()?, Mode::Kanji);
+    check!(rt; Rule::Auto == Rule::Auto && Rule::Auto != Rule::WithKanji);
+    check_eq!(rt; Rule::Auto.clone()?, Rule::Auto);
     let segment = Segment {
         mode: Mode::Byte,
         len: 2,
     };
-    assert!(rt; segment == segment && segment != Segment { len: 3, ..segment });
-    assert_eq!(rt; segment.clone()?, segment);
+    check!(rt; segment == segment && segment != Segment { len: 3, ..segment });
+    check_eq!(rt; segment.clone()?, segment);
     let header = Header {
         position: 0,
         last: 1,
         parity: 8,
     };
-    assert!(rt;
+    check!(rt;
         header == header
             && header
                 != Header {
@@ -66,52 +67,52 @@ fn of_segments(rt: HostRuntime) -> Result<(), Fail> {
                     ..header
                 }
     );
-    assert_eq!(rt; header.clone()?, header);
+    check_eq!(rt; header.clone()?, header);
     Ok(())
 }
 
 #[test]
 fn of_faults(rt: HostRuntime) -> Result<(), Fail> {
-    assert!(rt; BitFault::Memory == BitFault::Memory && BitFault::Memory != BitFault::TooLong);
-    assert_eq!(rt; BitFault::TooLong.clone()?, BitFault::TooLong);
-    assert!(rt; ParseFault::Cut == ParseFault::Cut && ParseFault::Cut != ParseFault::BadMode);
-    assert_eq!(rt; ParseFault::Cut.clone()?, ParseFault::Cut);
+    check!(rt; BitFault::Memory == BitFault::Memory && BitFault::Memory != BitFault::TooLong);
+    check_eq!(rt; BitFault::TooLong.clone()?, BitFault::TooLong);
+    check!(rt; ParseFault::Cut == ParseFault::Cut && ParseFault::Cut != ParseFault::BadMode);
+    check_eq!(rt; ParseFault::Cut.clone()?, ParseFault::Cut);
     let cut = ReadFault::Segments(ParseFault::Cut);
-    assert!(rt; cut == cut && cut != ReadFault::Segments(ParseFault::BadMode));
-    assert!(rt; cut != ReadFault::Check);
-    assert_eq!(rt; cut.clone()?, cut);
-    assert!(rt;
+    check!(rt; cut == cut && cut != ReadFault::Segments(ParseFault::BadMode));
+    check!(rt; cut != ReadFault::Check);
+    check_eq!(rt; cut.clone()?, cut);
+    check!(rt;
         EncodeFault::Empty == EncodeFault::Empty && EncodeFault::Empty != EncodeFault::TooLong
     );
-    assert_eq!(rt; EncodeFault::TooLong.clone()?, EncodeFault::TooLong);
+    check_eq!(rt; EncodeFault::TooLong.clone()?, EncodeFault::TooLong);
     let (other, memory) = (DrawingFault::NotADrawing, DrawingFault::Memory);
-    assert!(rt; other == other && other != memory);
-    assert_eq!(rt; memory.clone()?, memory);
-    assert!(rt; DrawFault::Write == DrawFault::Write);
-    assert_eq!(rt; DrawFault::Write.clone()?, DrawFault::Write);
+    check!(rt; other == other && other != memory);
+    check_eq!(rt; memory.clone()?, memory);
+    check!(rt; DrawFault::Write == DrawFault::Write);
+    check_eq!(rt; DrawFault::Write.clone()?, DrawFault::Write);
     Ok(())
 }
 
 #[test]
 fn of_devices_and_drawings(rt: HostRuntime) -> Result<(), Fail> {
-    assert!(rt; Trouble::Failed == Trouble::Failed && Trouble::Failed != Trouble::Interrupted);
-    assert_eq!(rt; Trouble::Failed.clone()?, Trouble::Failed);
+    check!(rt; Trouble::Failed == Trouble::Failed && Trouble::Failed != Trouble::Interrupted);
+    check_eq!(rt; Trouble::Failed.clone()?, Trouble::Failed);
     let mut read = ReadCounts::NONE;
-    assert!(rt; read == ReadCounts::NONE);
-    assert_eq!(rt; read.clone()?, read);
+    check!(rt; read == ReadCounts::NONE);
+    check_eq!(rt; read.clone()?, read);
     read.calls = 1;
-    assert!(rt; read != ReadCounts::NONE);
+    check!(rt; read != ReadCounts::NONE);
     let mut written = WriteCounts::NONE;
-    assert!(rt; written == WriteCounts::NONE);
-    assert_eq!(rt; written.clone()?, written);
+    check!(rt; written == WriteCounts::NONE);
+    check_eq!(rt; written.clone()?, written);
     written.settled = true;
-    assert!(rt; written != WriteCounts::NONE);
+    check!(rt; written != WriteCounts::NONE);
     let mut faults = Faults::NONE;
-    assert!(rt; faults == Faults::NONE);
-    assert_eq!(rt; faults.clone()?, faults);
+    check!(rt; faults == Faults::NONE);
+    check_eq!(rt; faults.clone()?, faults);
     faults.flush_fails = true;
-    assert!(rt; faults != Faults::NONE);
-    assert!(rt; Drawing::Svg == Drawing::Svg && Drawing::Ascii != Drawing::AsciiInverse);
-    assert_eq!(rt; Drawing::Svg.clone()?, Drawing::Svg);
+    check!(rt; faults != Faults::NONE);
+    check!(rt; Drawing::Svg == Drawing::Svg && Drawing::Ascii != Drawing::AsciiInverse);
+    check_eq!(rt; Drawing::Svg.clone()?, Drawing::Svg);
     Ok(())
 }

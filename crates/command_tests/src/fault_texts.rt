@@ -1,5 +1,6 @@
 //! Tests of the numbers and the texts of faults.
 
+use crate::checks::{check, check_eq};
 use crate::runs::{Devices, run_with};
 use qr_bits::laws::{bit_fault_numbers, parse_fault_numbers};
 use qr_bits::{BitFault, ParseFault};
@@ -10,22 +11,22 @@ use std::test::Fail;
 
 #[test]
 fn numbers_of_faults(rt: HostRuntime) {
-    assert_eq!(rt; (BitFault::Memory as u8, BitFault::TooLong as u8), (1, 2));
-    assert_eq!(rt;
+    check_eq!(rt; (BitFault::Memory as u8, BitFault::TooLong as u8), (1, 2));
+    check_eq!(rt;
         (ParseFault::Memory as u8, ParseFault::BadMode as u8),
         (1, 2)
     );
-    assert_eq!(rt; (ParseFault::Cut as u8, ParseFault::BadValue as u8), (3, 4));
-    assert_eq!(rt;
+    check_eq!(rt; (ParseFault::Cut as u8, ParseFault::BadValue as u8), (3, 4));
+    check_eq!(rt;
         (EncodeFault::Empty as u8, EncodeFault::TooLong as u8),
         (1, 2)
     );
-    assert_eq!(rt;
+    check_eq!(rt;
         (EncodeFault::TooMany as u8, EncodeFault::Memory as u8),
         (3, 4)
     );
-    assert_eq!(rt; DrawFault::Write as u8, 1);
-    assert_eq!(rt;
+    check_eq!(rt; DrawFault::Write as u8, 1);
+    check_eq!(rt;
         (DrawingFault::NotADrawing as u8, DrawingFault::Memory as u8),
         (1, 2)
     );
@@ -38,21 +39,21 @@ fn numbers_of_faults(rt: HostRuntime) {
         ReadFault::Series,
     ];
     for (fault, number) in faults.iter().zip(1..7u8) {
-        assert_eq!(rt; fault.number(), number);
+        check_eq!(rt; fault.number(), number);
     }
     let words = UsageFault::Words(String::new(rt.alloc()));
-    assert_eq!(rt; (words.number(), UsageFault::Level.number()), (1, 2));
-    assert_eq!(rt;
+    check_eq!(rt; (words.number(), UsageFault::Level.number()), (1, 2));
+    check_eq!(rt;
         (UsageFault::Kind.number(), UsageFault::NeedsVersion.number()),
         (3, 4)
     );
-    assert_eq!(rt; UsageFault::Memory.number(), 5);
+    check_eq!(rt; UsageFault::Memory.number(), 5);
 }
 
 #[test]
 fn numbers_by_laws(rt: HostRuntime) {
-    assert_eq!(rt; bit_fault_numbers(BitFault::TooLong), 2);
-    assert_eq!(rt; parse_fault_numbers(ParseFault::BadValue), 4);
+    check_eq!(rt; bit_fault_numbers(BitFault::TooLong), 2);
+    check_eq!(rt; parse_fault_numbers(ParseFault::BadValue), 4);
 }
 
 #[test]
@@ -62,7 +63,7 @@ fn texts_of_bit_faults(rt: HostRuntime) -> Result<(), Fail> {
         (BitFault::TooLong, "the bits are more than the symbol holds"),
     ] {
         let text = format!(in rt.alloc(); "{fault}")?;
-        assert_eq!(rt; text.as_str(), wanted);
+        check_eq!(rt; text.as_str(), wanted);
     }
     Ok(())
 }
@@ -82,7 +83,7 @@ fn texts_of_parse_faults(rt: HostRuntime) -> Result<(), Fail> {
         ),
     ] {
         let text = format!(in rt.alloc(); "{fault}")?;
-        assert_eq!(rt; text.as_str(), wanted);
+        check_eq!(rt; text.as_str(), wanted);
     }
     Ok(())
 }
@@ -92,7 +93,7 @@ fn texts_of_parse_faults(rt: HostRuntime) -> Result<(), Fail> {
 fn messages_are_the_texts_of_lines(rt: HostRuntime) -> Result<(), Fail> {
     let digits = vec![in rt.alloc(); b'7'; 7090]?;
     let digits = digits.as_slice();
-    assert!(rt; digits.len() == 7090);
+    check!(rt; digits.len() == 7090);
     let usage = [
         (UsageFault::Level, ["-l", "X", "-t", "SVG"].as_slice()),
         (UsageFault::Kind, ["-t", "PNG"].as_slice()),
@@ -101,7 +102,7 @@ fn messages_are_the_texts_of_lines(rt: HostRuntime) -> Result<(), Fail> {
     for (fault, words) in &usage {
         let r = run_with(rt.alloc(), words, b"A", Devices::WITHOUT_FAULTS)?;
         let line = format!(in rt.alloc(); "qrencode: {fault}\n")?;
-        assert_eq!(rt; r.err.bytes(), line.as_bytes());
+        check_eq!(rt; r.err.bytes(), line.as_bytes());
     }
     let series = ["-S", "-v", "1", "-t", "SVG"];
     let encode = [
@@ -112,15 +113,15 @@ fn messages_are_the_texts_of_lines(rt: HostRuntime) -> Result<(), Fail> {
     for (fault, words, input) in &encode {
         let r = run_with(rt.alloc(), words, input, Devices::WITHOUT_FAULTS)?;
         let line = format!(in rt.alloc(); "qrencode: {fault}\n")?;
-        assert_eq!(rt; r.err.bytes(), line.as_bytes());
+        check_eq!(rt; r.err.bytes(), line.as_bytes());
     }
     let memory = format!(in rt.alloc(); "{} {}", UsageFault::Memory, EncodeFault::Memory)?;
-    assert_eq!(rt; memory.as_str(), "out of memory out of memory");
+    check_eq!(rt; memory.as_str(), "out of memory out of memory");
     let parsing = format!(in rt.alloc();
         "{}, {}",
         DrawingFault::NotADrawing,
         DrawingFault::Memory
     )?;
-    assert_eq!(rt; parsing.as_str(), "not a drawing of symbols, out of memory");
+    check_eq!(rt; parsing.as_str(), "not a drawing of symbols, out of memory");
     Ok(())
 }

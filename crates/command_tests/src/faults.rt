@@ -1,7 +1,9 @@
 //! Tests of faults of the arguments and of the input: the line, and the exit status.
 
-use crate::runs::{DRAW, Devices, run_with};
+use crate::checks::{check, check_eq};
+use crate::runs::{DRAW, Devices, failure, run_with};
 use qrencode_cli::Faults;
+use std::process::Abort;
 use std::test::Fail;
 
 #[test]
@@ -51,9 +53,7 @@ fn of_words_and_input(rt: HostRuntime) -> Result<(), Fail> {
     ];
     for (name, words, line) in rows {
         let r = run_with(rt.alloc(), words, b"", Devices::WITHOUT_FAULTS)?;
-        assert_eq!(rt; r.status, 1, "{name}");
-        assert_eq!(rt; r.err.bytes(), line.as_bytes(), "{name}");
-        assert!(rt; r.out.bytes().is_empty());
+        check_eq!(rt; r.outcome(), failure(line.as_bytes()), "{name}");
     }
     Ok(())
 }
@@ -113,13 +113,18 @@ fn faults_of_arguments(rt: HostRuntime) -> Result<(), Fail> {
     ];
     for (name, words, part) in rows {
         let r = run_with(rt.alloc(), words, b"A", Devices::WITHOUT_FAULTS)?;
-        assert_eq!(rt; r.status, 1, "{name}");
+        check_eq!(rt; r.status, 1, "{name}");
         let text = str::from_utf8(r.err.bytes()).ok().ok_or("text")?;
-        assert!(rt; text.contains(part), "{name}: {text}");
-        assert!(rt; r.out.bytes().is_empty());
-        assert_eq!(rt; r.input.reads().calls, 0, "{name}");
+        check!(rt; text.contains(part), "{name}: {text}");
+        check!(rt; r.out.bytes().is_empty());
+        check_eq!(rt; r.input.reads().calls, 0, "{name}");
     }
     Ok(())
+}
+
+fn prefix<'a>(rt: &impl Abort, bytes: &'a [u8], len: usize) -> &'a [u8] {
+    check!(*rt; len <= bytes.len());
+    &bytes[..len]
 }
 
 // At each level the longest input of digits is drawn, and one digit more is refused.
@@ -127,21 +132,19 @@ fn faults_of_arguments(rt: HostRuntime) -> Result<(), Fail> {
 fn of_length(rt: HostRuntime) -> Result<(), Fail> {
     let digits = vec![in rt.alloc(); b'7'; 7090]?;
     let digits = digits.as_slice();
-    assert!(rt; digits.len() == 7090);
+    check!(rt; digits.len() == 7090);
     for (level, most) in [("L", 7089usize), ("M", 5596), ("Q", 3993), ("H", 3057)] {
-        assert!(rt; most < 7090);
+        check!(rt; most < 7090);
         let words = ["-m", "0", "-l", level, "-t", "ASCII"];
         let devices = Devices {
             out_room: 70_000,
             ..Devices::WITHOUT_FAULTS
         };
-        let r = run_with(rt.alloc(), &words, &digits[..most], devices)?;
-        assert_eq!(rt; r.status, 0, "{level}");
-        assert_eq!(rt; r.out.bytes().len(), 177 * 355, "{level}");
-        let r = run_with(rt.alloc(), &words, &digits[..most + 1], devices)?;
-        assert_eq!(rt; r.status, 1, "{level}");
-        assert_eq!(rt; r.err.bytes(), b"qrencode: input does not fit\n".as_slice());
-        assert!(rt; r.out.bytes().is_empty());
+        let r = run_with(rt.alloc(), &words, prefix(&rt, digits, most), devices)?;
+        check_eq!(rt; r.status, 0, "{level}");
+        check_eq!(rt; r.out.bytes().len(), 177 * 355, "{level}");
+        let r = run_with(rt.alloc(), &words, prefix(&rt, digits, most + 1), devices)?;
+        check_eq!(rt; r.outcome(), failure(b"qrencode: input does not fit\n"), "{level}");
     }
     Ok(())
 }
@@ -152,19 +155,17 @@ fn of_length_in_other_modes(rt: HostRuntime) -> Result<(), Fail> {
     for (byte, most) in [(b'A', 4296usize), (b'a', 2953)] {
         let input = vec![in rt.alloc(); byte; 4297]?;
         let input = input.as_slice();
-        assert!(rt; input.len() == 4297 && most < 4297);
+        check!(rt; input.len() == 4297 && most < 4297);
         let words = ["-m", "0", "-t", "ASCII"];
         let devices = Devices {
             out_room: 70_000,
             ..Devices::WITHOUT_FAULTS
         };
-        let r = run_with(rt.alloc(), &words, &input[..most], devices)?;
-        assert_eq!(rt; r.status, 0, "{most}");
-        assert_eq!(rt; r.out.bytes().len(), 177 * 355, "{most}");
-        let r = run_with(rt.alloc(), &words, &input[..most + 1], devices)?;
-        assert_eq!(rt; r.status, 1, "{most}");
-        assert_eq!(rt; r.err.bytes(), b"qrencode: input does not fit\n".as_slice());
-        assert!(rt; r.out.bytes().is_empty());
+        let r = run_with(rt.alloc(), &words, prefix(&rt, input, most), devices)?;
+        check_eq!(rt; r.status, 0, "{most}");
+        check_eq!(rt; r.out.bytes().len(), 177 * 355, "{most}");
+        let r = run_with(rt.alloc(), &words, prefix(&rt, input, most + 1), devices)?;
+        check_eq!(rt; r.outcome(), failure(b"qrencode: input does not fit\n"), "{most}");
     }
     Ok(())
 }
@@ -179,10 +180,10 @@ fn of_a_long_input(rt: HostRuntime) -> Result<(), Fail> {
         input.as_slice(),
         Devices::WITHOUT_FAULTS,
     )?;
-    assert_eq!(rt; r.status, 1);
-    assert_eq!(rt; r.err.bytes(), b"qrencode: input does not fit\n".as_slice());
-    assert_eq!(rt; r.input.reads().given, 113_425);
-    assert_eq!(rt; r.input.reads().calls, 28, "reads of 4,096 bytes");
+    check_eq!(rt; r.status, 1);
+    check_eq!(rt; r.err.bytes(), b"qrencode: input does not fit\n".as_slice());
+    check_eq!(rt; r.input.reads().given, 113_425);
+    check_eq!(rt; r.input.reads().calls, 28, "reads of 4,096 bytes");
     Ok(())
 }
 
@@ -194,8 +195,8 @@ fn fault_line_on_a_full_device(rt: HostRuntime) -> Result<(), Fail> {
         ..Devices::WITHOUT_FAULTS
     };
     let r = run_with(rt.alloc(), &DRAW, b"", devices)?;
-    assert_eq!(rt; r.status, 1);
-    assert_eq!(rt; r.err.bytes(), b"qrencode: ".as_slice());
+    check_eq!(rt; r.status, 1);
+    check_eq!(rt; r.err.bytes(), b"qrencode: ".as_slice());
     let devices = Devices {
         err: Faults {
             fails_from: 0,
@@ -204,8 +205,8 @@ fn fault_line_on_a_full_device(rt: HostRuntime) -> Result<(), Fail> {
         ..Devices::WITHOUT_FAULTS
     };
     let r = run_with(rt.alloc(), &DRAW, b"", devices)?;
-    assert_eq!(rt; r.status, 1);
-    assert!(rt; r.err.bytes().is_empty());
+    check_eq!(rt; r.status, 1);
+    check!(rt; r.err.bytes().is_empty());
     Ok(())
 }
 
@@ -221,8 +222,8 @@ fn fault_line_on_an_interrupted_device(rt: HostRuntime) -> Result<(), Fail> {
             ..Devices::WITHOUT_FAULTS
         };
         let r = run_with(rt.alloc(), &DRAW, b"", devices)?;
-        assert_eq!(rt; r.status, 1);
-        assert_eq!(rt;
+        check_eq!(rt; r.status, 1);
+        check_eq!(rt;
             r.err.bytes(),
             line.as_bytes(),
             "{interruptions} interruptions"
@@ -242,10 +243,10 @@ fn string_beside_a_failing_reader(rt: HostRuntime) -> Result<(), Fail> {
         ..Devices::WITHOUT_FAULTS
     };
     let r = run_with(rt.alloc(), &["-S", "-t", "ASCII"], b"A", devices)?;
-    assert_eq!(rt; r.status, 1);
-    assert_eq!(rt; r.err.bytes(), b"qrencode: -S needs -v\n".as_slice());
+    check_eq!(rt; r.status, 1);
+    check_eq!(rt; r.err.bytes(), b"qrencode: -S needs -v\n".as_slice());
     let r = run_with(rt.alloc(), &["-t", "ASCII", "A"], b"A", devices)?;
-    assert_eq!(rt; r.status, 0);
-    assert_eq!(rt; r.input.reads().calls, 0);
+    check_eq!(rt; r.status, 0);
+    check_eq!(rt; r.input.reads().calls, 0);
     Ok(())
 }

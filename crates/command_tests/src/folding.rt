@@ -1,5 +1,6 @@
 //! Tests of the options `-i`, which folds small letters to capitals, and `-k`, which allows kanji mode.
 
+use crate::checks::{check, check_eq};
 use crate::runs::{Devices, run_with};
 use qr_bits::{Interpretation, Item, Mode, Rule, Segment};
 use qr_layout::{Level, Version};
@@ -22,12 +23,12 @@ fn draw_alike(
 fn letters_as_capitals(rt: HostRuntime) -> Result<(), Fail> {
     let folded = ["-i", "-l", "M", "-t", "ASCII", "hello world"];
     let capitals = ["-l", "M", "-t", "ASCII", "HELLO WORLD"];
-    assert!(rt; draw_alike(&rt, &folded, &capitals, b"")?, "folded");
+    check!(rt; draw_alike(&rt, &folded, &capitals, b"")?, "folded");
     let small = ["-l", "M", "-t", "ASCII", "hello world"];
-    assert!(rt; !draw_alike(&rt, &small, &capitals, b"")?, "not folded");
+    check!(rt; !draw_alike(&rt, &small, &capitals, b"")?, "not folded");
     let in_bytes = ["-8", "-i", "-t", "UTF8", "abc"];
     let plain = ["-8", "-t", "UTF8", "abc"];
-    assert!(rt; draw_alike(&rt, &in_bytes, &plain, b"")?, "in byte mode");
+    check!(rt; draw_alike(&rt, &in_bytes, &plain, b"")?, "in byte mode");
     Ok(())
 }
 
@@ -38,18 +39,18 @@ fn kanji_by_an_option(rt: HostRuntime) -> Result<(), Fail> {
     let kanji = ["-k", "-t", "ASCII", "-m", "0"];
     let folded = ["-k", "-i", "-t", "ASCII", "-m", "0"];
     let in_bytes = ["-8", "-k", "-i", "-t", "ASCII", "-m", "0"];
-    assert!(rt; !draw_alike(&rt, &kanji, &draw, pairs)?, "in kanji mode");
-    assert!(rt;
+    check!(rt; !draw_alike(&rt, &kanji, &draw, pairs)?, "in kanji mode");
+    check!(rt;
         draw_alike(&rt, &kanji, &folded, pairs)?,
         "pairs are not folded"
     );
-    assert!(rt; draw_alike(&rt, &in_bytes, &draw, pairs)?, "in byte mode");
+    check!(rt; draw_alike(&rt, &in_bytes, &draw, pairs)?, "in byte mode");
     // A kanji pair whose second byte is the code of `a`, and then a letter.
     let (small, large) = (b"\x93\x61a", b"\x93\x61A");
     for words in [&kanji[..], &folded[..]] {
         let a = run_with(rt.alloc(), &folded, small, Devices::WITHOUT_FAULTS)?;
         let b = run_with(rt.alloc(), words, large, Devices::WITHOUT_FAULTS)?;
-        assert!(rt;
+        check!(rt;
             a.status == 0 && a.out.bytes() == b.out.bytes(),
             "a pair and a letter"
         );
@@ -74,8 +75,8 @@ fn kanji_are_read(rt: HostRuntime) -> Result<(), Fail> {
         mode: Mode::Kanji,
         len: 4,
     };
-    assert_eq!(rt; parsed.items.len(), 1);
-    assert_eq!(rt; parsed.items.first().copied(), Some(Item::Data(whole)));
-    assert_eq!(rt; parsed.bytes.as_slice(), pairs.as_slice());
+    check_eq!(rt; parsed.items.len(), 1);
+    check_eq!(rt; parsed.items.first().copied(), Some(Item::Data(whole)));
+    check_eq!(rt; parsed.bytes.as_slice(), pairs.as_slice());
     Ok(())
 }

@@ -1,6 +1,7 @@
 //! The drawing of the input `A` at version 1 and level L with mask 0. Another encoder made the symbol that it shows.
 
-use crate::runs::{DRAW, Devices, run_with};
+use crate::checks::{check, check_eq};
+use crate::runs::{DRAW, Devices, run_with, success};
 use std::alloc::{AllocError, Global};
 use std::test::Fail;
 
@@ -61,7 +62,7 @@ pub fn drawing(alloc: Global) -> Result<Vec<u8>, AllocError> {
 #[test]
 fn is_drawn(rt: HostRuntime) -> Result<(), Fail> {
     let want = drawing(rt.alloc())?;
-    assert_eq!(rt; want.len(), 29 * 59);
+    check_eq!(rt; want.len(), 29 * 59);
     let spellings = [
         (DRAW.as_slice(), b"A".as_slice()),
         (["-8", "-t", "ascii"].as_slice(), b"A".as_slice()),
@@ -73,9 +74,7 @@ fn is_drawn(rt: HostRuntime) -> Result<(), Fail> {
     ];
     for (words, input) in spellings {
         let r = run_with(rt.alloc(), words, input, Devices::WITHOUT_FAULTS)?;
-        assert_eq!(rt; r.status, 0);
-        assert_eq!(rt; r.out.bytes(), want.as_slice());
-        assert!(rt; r.err.bytes().is_empty());
+        check_eq!(rt; r.outcome(), success(&want));
     }
     Ok(())
 }
@@ -85,9 +84,9 @@ fn is_drawn(rt: HostRuntime) -> Result<(), Fail> {
 fn ends_in_three_lone_modules(rt: HostRuntime) -> Result<(), Fail> {
     let r = run_with(rt.alloc(), &DRAW, b"A", Devices::WITHOUT_FAULTS)?;
     let text = r.out.bytes();
-    assert!(rt; text.len() == 29 * 59);
+    check!(rt; text.len() == 29 * 59);
     let end = 25 * 59;
-    assert_eq!(rt;
+    check_eq!(rt;
         &text[end - 29..end],
         b"  ##  ##  ##  ######        \n".as_slice()
     );

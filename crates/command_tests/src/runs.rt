@@ -15,6 +15,23 @@ pub struct Run {
     pub err: Trial,
 }
 
+impl Run {
+    /// Returns the exit status, and the bytes on standard output and on standard error.
+    pub fn outcome(&self) -> (u8, &[u8], &[u8]) {
+        (self.status, self.out.bytes(), self.err.bytes())
+    }
+}
+
+/// Returns the outcome of a run that writes these bytes to standard output, and nothing to standard error.
+pub fn success(out: &[u8]) -> (u8, &[u8], &[u8]) {
+    (0, out, b"")
+}
+
+/// Returns the outcome of a run that writes this line to standard error, and nothing to standard output.
+pub fn failure(line: &[u8]) -> (u8, &[u8], &[u8]) {
+    (1, b"", line)
+}
+
 /// The faults of the three devices, and how many bytes standard output (`out_room`) and standard error can take.
 #[derive(Clone, Copy)]
 pub struct Devices {

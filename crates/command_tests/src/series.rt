@@ -1,6 +1,7 @@
 //! Tests of series: how many symbols the command draws, and the largest series, read and joined.
 
-use crate::runs::{Devices, run_with};
+use crate::checks::{check, check_eq};
+use crate::runs::{Devices, failure, run_with};
 use qr_bits::{INPUT_MAX, Interpretation, Rule};
 use qr_layout::{Level, Version};
 use qr_symbol::{EncodeFault, encode_series, read_series};
@@ -17,18 +18,13 @@ fn of_version_1_h(rt: HostRuntime) -> Result<(), Fail> {
     };
     let letters = [b'a'; 81];
     for (len, symbols) in [(7usize, 1usize), (8, 2), (80, 16)] {
-        assert!(rt; len <= 81);
+        check!(rt; len <= 81);
         let r = run_with(rt.alloc(), &words, &letters[..len], devices)?;
-        assert_eq!(rt; r.status, 0, "{len} bytes");
-        assert_eq!(rt; r.out.bytes().len(), 29 * 59 * symbols, "{len} bytes");
+        check_eq!(rt; r.status, 0, "{len} bytes");
+        check_eq!(rt; r.out.bytes().len(), 29 * 59 * symbols, "{len} bytes");
     }
     let r = run_with(rt.alloc(), &words, &letters, devices)?;
-    assert_eq!(rt; r.status, 1);
-    assert_eq!(rt;
-        r.err.bytes(),
-        b"qrencode: more than 16 symbols\n".as_slice()
-    );
-    assert!(rt; r.out.bytes().is_empty());
+    check_eq!(rt; r.outcome(), failure(b"qrencode: more than 16 symbols\n"));
     Ok(())
 }
 
@@ -38,7 +34,7 @@ fn of_version_1_h(rt: HostRuntime) -> Result<(), Fail> {
 fn of_version_40_l(rt: HostRuntime) -> Result<(), Fail> {
     let letters = vec![in rt.alloc(); b'a'; 47_217]?;
     let letters = letters.as_slice();
-    assert!(rt; letters.len() == 47_217 && letters.len() <= INPUT_MAX);
+    check!(rt; letters.len() == 47_217 && letters.len() <= INPUT_MAX);
     let version = Version::new(40).ok_or("version 40")?;
     let whole = &letters[..47_216];
     let symbols = encode_series(
@@ -49,9 +45,9 @@ fn of_version_40_l(rt: HostRuntime) -> Result<(), Fail> {
         Rule::BytesOnly,
         Interpretation::Default,
     )?;
-    assert_eq!(rt; symbols.len(), 16);
+    check_eq!(rt; symbols.len(), 16);
     let bytes = read_series(rt.alloc(), symbols.as_slice())?;
-    assert_eq!(rt; bytes.as_slice(), whole);
+    check_eq!(rt; bytes.as_slice(), whole);
     let fault = encode_series(
         rt.alloc(),
         letters,
@@ -60,6 +56,6 @@ fn of_version_40_l(rt: HostRuntime) -> Result<(), Fail> {
         Rule::BytesOnly,
         Interpretation::Default,
     );
-    assert!(rt; matches!(fault, Err(EncodeFault::TooMany)));
+    check!(rt; matches!(fault, Err(EncodeFault::TooMany)));
     Ok(())
 }

@@ -1,3 +1,4 @@
+use crate::checks::{check, check_eq};
 use crate::runs::line_of;
 use qr_layout::{Level, Version};
 use qrencode_cli::{Drawing, options};
@@ -12,12 +13,12 @@ fn settings_of_words(rt: HostRuntime) -> Result<(), Fail> {
         ],
     )?;
     let settings = options(rt.alloc(), words.as_slice())?;
-    assert_eq!(rt; settings.level, Level::Q);
-    assert_eq!(rt; settings.smallest, Version::new(2));
-    assert_eq!(rt; settings.kind, Drawing::Svg);
-    assert_eq!(rt; settings.margin, 0);
-    assert!(rt; settings.bytes_only && settings.structured);
+    check_eq!(rt; settings.level, Level::Q);
+    check_eq!(rt; settings.smallest, Version::new(2));
+    check_eq!(rt; settings.kind, Drawing::Svg);
+    check_eq!(rt; settings.margin, 0);
+    check!(rt; settings.bytes_only && settings.structured);
     let string = settings.string.as_ref().ok_or("a string")?;
-    assert_eq!(rt; string.as_str(), "A");
+    check_eq!(rt; string.as_str(), "A");
     Ok(())
 }

@@ -4,6 +4,7 @@ ghost use Rattle.std.specs.Prelude.{◌<◌, ◌≤◌, length};
 ghost use Rattle.std.specs.Option.{ForSome};
 ghost use Rattle.qr_bits.specs.declared.modes.TheConstants.{INPUT_MAX};
 
+use crate::checks::{check, check_eq};
 use qr_bits::{
     BitFault, EciChange, Header, INPUT_MAX, Interpretation, Item, Mode, ParseFault, Segment,
     Segmented, codewords, covers, parity, parse,
@@ -14,21 +15,25 @@ use std::test::Fail;
 
 #[test]
 fn parity_of_eight_letters(rt: HostRuntime) {
-    assert_eq!(rt; parity(b"ABCDEFGH"), 0x08);
-    assert_eq!(rt; parity(b""), 0);
+    check_eq!(rt; parity(b"ABCDEFGH"), 0x08);
+    check_eq!(rt; parity(b""), 0);
 }
 
+// Returns the data codewords of version 1 and this level for an input that is one segment of this mode.
 fn encode(
     rt: &HostRuntime,
     input: &[u8],
-    segment: Segment,
+    mode: Mode,
     header: Option<Header>,
     level: Level,
 ) -> Result<Vec<u8>, Fail>
     requires short { length input.now ≤ INPUT_MAX }
     requires in_range { ForSome header (λ h. (h.position < 16) × (h.last < 16)) }
 {
-    let version = Version::FIRST;
+    let segment = Segment {
+        mode,
+        len: input.len(),
+    };
     if !covers(input, &[segment]) {
         return Err("the segment is not the input".into());
     }
@@ -41,57 +46,46 @@ fn encode(
         &segmented,
         header,
         Interpretation::Default,
-        version,
+        Version::FIRST,
         level,
     )?)
 }
 
 #[test]
 fn data_codewords(rt: HostRuntime) -> Result<(), Fail> {
-    let digits = Segment {
-        mode: Mode::Numeric,
-        len: 8,
-    };
-    let data = encode(&rt, b"01234567", digits, None, Level::M)?;
+    let data = encode(&rt, b"01234567", Mode::Numeric, None, Level::M)?;
     let wanted = [
         0x10, 0x20, 0x0C, 0x56, 0x61, 0x80, 0xEC, 0x11, 0xEC, 0x11, 0xEC, 0x11, 0xEC, 0x11, 0xEC,
         0x11,
     ];
-    assert_eq!(rt; data.as_slice(), wanted.as_slice(), "eight digits at 1-M");
-    let characters = Segment {
-        mode: Mode::Alphanumeric,
-        len: 11,
-    };
-    let data = encode(&rt, b"HELLO WORLD", characters, None, Level::M)?;
+    check_eq!(rt; data.as_slice(), wanted.as_slice(), "eight digits at 1-M");
+    let data = encode(&rt, b"HELLO WORLD", Mode::Alphanumeric, None, Level::M)?;
     let wanted = [
         0x20, 0x5B, 0x0B, 0x78, 0xD1, 0x72, 0xDC, 0x4D, 0x43, 0x40, 0xEC, 0x11, 0xEC, 0x11, 0xEC,
         0x11,
     ];
-    assert_eq!(rt;
+    check_eq!(rt;
         data.as_slice(),
         wanted.as_slice(),
         "eleven characters at 1-M"
     );
-    let bytes = Segment {
-        mode: Mode::Byte,
-        len: 1,
-    };
-    let data = encode(&rt, b"A", bytes, None, Level::L)?;
+    Ok(())
+}
+
+#[test]
+fn data_codewords_of_bytes_and_pairs(rt: HostRuntime) -> Result<(), Fail> {
+    let data = encode(&rt, b"A", Mode::Byte, None, Level::L)?;
     let wanted = [
         0x40, 0x14, 0x10, 0xEC, 0x11, 0xEC, 0x11, 0xEC, 0x11, 0xEC, 0x11, 0xEC, 0x11, 0xEC, 0x11,
         0xEC, 0x11, 0xEC, 0x11,
     ];
-    assert_eq!(rt; data.as_slice(), wanted.as_slice(), "a byte at 1-L");
-    let pairs = Segment {
-        mode: Mode::Kanji,
-        len: 4,
-    };
-    let data = encode(&rt, b"\x93\x5F\xE4\xAA", pairs, None, Level::L)?;
+    check_eq!(rt; data.as_slice(), wanted.as_slice(), "a byte at 1-L");
+    let data = encode(&rt, b"\x93\x5F\xE4\xAA", Mode::Kanji, None, Level::L)?;
     let wanted = [
         0x80, 0x26, 0xCF, 0xEA, 0xA8, 0x00, 0xEC, 0x11, 0xEC, 0x11, 0xEC, 0x11, 0xEC, 0x11, 0xEC,
         0x11, 0xEC, 0x11, 0xEC,
     ];
-    assert_eq!(rt;
+    check_eq!(rt;
         data.as_slice(),
         wanted.as_slice(),
         "two kanji pairs at 1-L"
@@ -106,13 +100,9 @@ fn series(rt: HostRuntime) -> Result<(), Fail> {
         last: 1,
         parity: 0x08,
     };
-    let bytes = Segment {
-        mode: Mode::Byte,
-        len: 5,
-    };
-    let data = encode(&rt, b"ABCDE", bytes, Some(first), Level::H)?;
+    let data = encode(&rt, b"ABCDE", Mode::Byte, Some(first), Level::H)?;
     let wanted = [0x30, 0x10, 0x84, 0x05, 0x41, 0x42, 0x43, 0x44, 0x45];
-    assert_eq!(rt;
+    check_eq!(rt;
         data.as_slice(),
         wanted.as_slice(),
         "no room for a terminator"
@@ -122,13 +112,9 @@ fn series(rt: HostRuntime) -> Result<(), Fail> {
         last: 1,
         parity: 0x08,
     };
-    let bytes = Segment {
-        mode: Mode::Byte,
-        len: 3,
-    };
-    let data = encode(&rt, b"FGH", bytes, Some(second), Level::H)?;
+    let data = encode(&rt, b"FGH", Mode::Byte, Some(second), Level::H)?;
     let wanted = [0x31, 0x10, 0x84, 0x03, 0x46, 0x47, 0x48, 0x00, 0xEC];
-    assert_eq!(rt;
+    check_eq!(rt;
         data.as_slice(),
         wanted.as_slice(),
         "a terminator and a pad"
@@ -138,26 +124,26 @@ fn series(rt: HostRuntime) -> Result<(), Fail> {
 
 #[test]
 fn digits_that_fit(rt: HostRuntime) -> Result<(), Fail> {
-    let most = Segment {
-        mode: Mode::Numeric,
-        len: 41,
-    };
-    let data = encode(&rt, &[b'7'; 41], most, None, Level::L)?;
-    let version = Version::FIRST;
-    assert!(rt; data.len() == 19);
-    assert_eq!(rt;
+    let data = encode(&rt, &[b'7'; 41], Mode::Numeric, None, Level::L)?;
+    check!(rt; data.len() == 19);
+    check_eq!(rt;
         data[18],
         0b1001101_0,
         "77 in seven bits, and one bit of terminator"
     );
-    let parsed = parse(rt.alloc(), &data, version)?;
-    assert_eq!(rt; parsed.bytes.len(), 41, "41 digits");
+    let parsed = parse(rt.alloc(), &data, Version::FIRST)?;
+    check_eq!(rt; parsed.bytes.len(), 41, "41 digits");
+    Ok(())
+}
+
+#[test]
+fn digits_that_do_not_fit(rt: HostRuntime) -> Result<(), Fail> {
     let more = Segment {
         mode: Mode::Numeric,
         len: 42,
     };
     let digits = [b'7'; 42];
-    assert!(rt; covers(&digits, &[more]));
+    check!(rt; covers(&digits, &[more]));
     let segmented = Segmented {
         segments: Vec::from_array(rt.alloc(), [more])?,
         characters: CowSlice::Borrowed(&digits),
@@ -167,10 +153,10 @@ fn digits_that_fit(rt: HostRuntime) -> Result<(), Fail> {
         &segmented,
         None,
         Interpretation::Default,
-        version,
+        Version::FIRST,
         Level::L,
     );
-    assert_eq!(rt; data.err(), Some(BitFault::TooLong), "42 digits");
+    check_eq!(rt; data.err(), Some(BitFault::TooLong), "42 digits");
     Ok(())
 }
 
@@ -206,22 +192,22 @@ fn segment(mode: Mode, len: usize) -> Option<Segment> {
 
 #[test]
 fn contents(rt: HostRuntime) -> Result<(), Fail> {
-    assert!(rt; says(&rt, &[], None, None, b"")?, "no codeword");
+    check!(rt; says(&rt, &[], None, None, b"")?, "no codeword");
     let five = segment(Mode::Byte, 5);
     let bytes = [0x40, 0x56, 0x16, 0x23, 0x03, 0x13, 0x20];
-    assert!(rt; says(&rt, &bytes, None, five, b"ab012")?, "digits as bytes");
+    check!(rt; says(&rt, &bytes, None, five, b"ab012")?, "digits as bytes");
     let none = segment(Mode::Numeric, 0);
-    assert!(rt;
+    check!(rt;
         says(&rt, &[0x10, 0x00, 0x00], None, none, b"")?,
         "an empty segment"
     );
     let two = segment(Mode::Alphanumeric, 2);
-    assert!(rt;
+    check!(rt;
         says(&rt, &[0x20, 0x17, 0xE8], None, two, b"::")?,
         "the last pair"
     );
     let pair = segment(Mode::Kanji, 2);
-    assert!(rt;
+    check!(rt;
         says(&rt, &[0x80, 0x10, 0x5E, 0x00], None, pair, b"\x81\xFC")?,
         "the last low byte of a pair"
     );
@@ -232,7 +218,7 @@ fn contents(rt: HostRuntime) -> Result<(), Fail> {
     });
     let three = segment(Mode::Byte, 3);
     let symbol = [0x31, 0x10, 0x84, 0x03, 0x46, 0x47, 0x48, 0x00, 0xEC];
-    assert!(rt;
+    check!(rt;
         says(&rt, &symbol, header, three, b"FGH")?,
         "a symbol of a series"
     );
@@ -259,74 +245,74 @@ fn means(
 #[test]
 fn interpretations(rt: HostRuntime) -> Result<(), Fail> {
     let greek = [0x70, 0x94, 0x05, 0xA1, 0xA2, 0xA3, 0xA4, 0xA5, 0x00];
-    assert!(rt;
+    check!(rt;
         means(&rt, &greek, b"\xA1\xA2\xA3\xA4\xA5", &[(9, 0)])?,
         "ECI 9 before five bytes"
     );
     let fields = [
         0x52, 0x03, 0x1E, 0x84, 0x2B, 0xAE, 0x9C, 0x69, 0x00, 0x89, 0x49, 0x40,
     ];
-    assert!(rt;
+    check!(rt;
         means(&rt, &fields, b"A\x1DB%C%%", &[(26, 5)])?,
         "fields after FNC1, and two % in byte mode under ECI 26"
     );
     let application = [0x92, 0x52, 0x02, 0x1C, 0xC0, 0x5E, 0x00];
-    assert!(rt;
+    check!(rt;
         means(&rt, &application, b"AA12", &[])?,
         "FNC1 in second position"
     );
     let parsed = parse(rt.alloc(), &application, Version::FIRST)?;
-    assert_eq!(rt; parsed.items.first().copied(), Some(Item::Fnc1Second(37)));
+    check_eq!(rt; parsed.items.first().copied(), Some(Item::Fnc1Second(37)));
     let change = EciChange {
         number: 26,
         begin: 5,
     };
     let parsed = parse(rt.alloc(), &fields, Version::FIRST)?;
-    assert_eq!(rt; parsed.ecis.first().copied(), Some(change));
+    check_eq!(rt; parsed.ecis.first().copied(), Some(change));
     Ok(())
 }
 
 #[test]
 fn faults(rt: HostRuntime) -> Result<(), Fail> {
     let bad_value = Some(ParseFault::BadValue);
-    assert_eq!(rt;
+    check_eq!(rt;
         fault(&rt, &[0x10, 0x0F, 0xE8])?,
         bad_value,
         "a group of 1000"
     );
-    assert_eq!(rt;
+    check_eq!(rt;
         fault(&rt, &[0x10, 0x0B, 0x20])?,
         bad_value,
         "two digits of 100"
     );
-    assert_eq!(rt;
+    check_eq!(rt;
         fault(&rt, &[0x20, 0x17, 0xE9])?,
         bad_value,
         "a pair of 2025"
     );
-    assert_eq!(rt;
+    check_eq!(rt;
         fault(&rt, &[0x20, 0x0D, 0xA0])?,
         bad_value,
         "a single of 45"
     );
-    assert_eq!(rt;
+    check_eq!(rt;
         fault(&rt, &[0x80, 0x10, 0x5E, 0x80])?,
         bad_value,
         "a low byte of BD"
     );
-    assert_eq!(rt;
+    check_eq!(rt;
         fault(&rt, &[0x40, 0x20, 0x41])?,
         Some(ParseFault::Cut),
         "a byte missing"
     );
-    assert_eq!(rt;
+    check_eq!(rt;
         fault(&rt, &[0x30])?,
         Some(ParseFault::Cut),
         "half a header"
     );
     let bad_mode = Some(ParseFault::BadMode);
-    assert_eq!(rt; fault(&rt, &[0x60])?, bad_mode, "an indicator of no mode");
-    assert_eq!(rt;
+    check_eq!(rt; fault(&rt, &[0x60])?, bad_mode, "an indicator of no mode");
+    check_eq!(rt;
         fault(&rt, &[0x30, 0x10, 0x83])?,
         bad_mode,
         "a second header"
@@ -350,6 +336,6 @@ fn all_pairs_of_codewords(rt: HostRuntime) -> Result<(), Fail> {
             }
         }
     }
-    assert_eq!(rt; (read, cut, no_mode, bad_value), (4904, 24628, 33796, 2208));
+    check_eq!(rt; (read, cut, no_mode, bad_value), (4904, 24628, 33796, 2208));
     Ok(())
 }

@@ -1,5 +1,6 @@
 //! Tests of the field of 256 elements, and of error correction codewords.
 
+use crate::checks::check_eq;
 use qr_field::{Divisor, div, doubled, exponent_of, generator, mul, power_of, remainder};
 
 #[test]
@@ -10,7 +11,7 @@ fn products(rt: HostRuntime) {
         ("nothing times all bits", 0, 0xFF, 0),
     ];
     for (name, a, b, product) in rows {
-        assert_eq!(rt; mul(a, b), product, "{name}");
+        check_eq!(rt; mul(a, b), product, "{name}");
     }
 }
 
@@ -22,7 +23,7 @@ fn doubled_elements(rt: HostRuntime) {
         ("side by side", 0x8E80_FF00_0180, 0x011D_E300_021D),
     ];
     for (name, elements, twice) in rows {
-        assert_eq!(rt; doubled(elements), twice, "{name}");
+        check_eq!(rt; doubled(elements), twice, "{name}");
     }
 }
 
@@ -34,7 +35,7 @@ fn quotients(rt: HostRuntime) {
         ("nothing by all bits", 0, 0xFF, 0),
     ];
     for (name, a, b, quotient) in rows {
-        assert_eq!(rt; div(a, b), quotient, "{name}");
+        check_eq!(rt; div(a, b), quotient, "{name}");
     }
 }
 
@@ -45,13 +46,13 @@ fn first_powers(rt: HostRuntime) {
         0x26,
     ];
     for exponent in 0u8..16 {
-        assert_eq!(rt;
+        check_eq!(rt;
             power_of(exponent),
             first[usize::from(exponent)],
             "exponent {exponent}"
         );
     }
-    assert_eq!(rt; power_of(254), 0x8E, "the inverse of 2");
+    check_eq!(rt; power_of(254), 0x8E, "the inverse of 2");
 }
 
 #[test]
@@ -64,20 +65,20 @@ fn exponents(rt: HostRuntime) {
         ("the inverse of 2", 0x8E, 254),
     ];
     for (name, element, exponent) in rows {
-        assert_eq!(rt; exponent_of(element), exponent, "{name}");
+        check_eq!(rt; exponent_of(element), exponent, "{name}");
     }
 }
 
 #[test]
 fn generators(rt: HostRuntime) {
-    assert_eq!(rt; generator(1).as_slice(), &[0x01u8][..], "one codeword");
-    assert_eq!(rt;
+    check_eq!(rt; generator(1).as_slice(), &[0x01u8][..], "one codeword");
+    check_eq!(rt;
         generator(2).as_slice(),
         &[0x03u8, 0x02][..],
         "two codewords"
     );
     let seven = [0x7Fu8, 0x7A, 0x9A, 0xA4, 0x0B, 0x44, 0x75];
-    assert_eq!(rt; generator(7).as_slice(), &seven[..], "seven codewords");
+    check_eq!(rt; generator(7).as_slice(), &seven[..], "seven codewords");
 }
 
 #[test]
@@ -101,7 +102,7 @@ fn corrections(rt: HostRuntime) {
         ),
     ];
     for (name, data, correction) in &rows {
-        assert_eq!(rt; remainder(data, 10).as_slice(), &correction[..], "{name}");
+        check_eq!(rt; remainder(data, 10).as_slice(), &correction[..], "{name}");
     }
 }
 
@@ -129,7 +130,7 @@ fn two_blocks(rt: HostRuntime) {
         ),
     ];
     for (name, data, correction) in &rows {
-        assert_eq!(rt;
+        check_eq!(rt;
             divisor.correction(data).as_slice(),
             &correction[..],
             "{name}"

@@ -3,6 +3,7 @@
 ghost use Rattle.std.specs.Prelude.{◌≤◌, length};
 ghost use Rattle.qr_bits.specs.declared.modes.TheConstants.{INPUT_MAX};
 
+use crate::checks::{check, check_eq};
 use qr_bits::{INPUT_MAX, Interpretation, Mode, Rule, Segment, longest_fit, may_write, segments};
 use qr_layout::{Level, Version};
 use std::test::Fail;
@@ -10,13 +11,13 @@ use std::test::Fail;
 #[test]
 fn fields(rt: HostRuntime) {
     let gs1 = Interpretation::Gs1;
-    assert!(rt; may_write(b"", gs1), "no byte");
-    assert!(rt; may_write(b"10AB\x1D21%%\x1D", gs1), "two fields");
-    assert!(rt; may_write(b"%\x1D1", gs1), "a percent sign before it");
-    assert!(rt; !may_write(b"1\x1D\x1D2", gs1), "two separators");
-    assert!(rt; !may_write(b"1\x1D%", gs1), "a percent sign after it");
-    assert!(rt; may_write(b"\x1D\x1D%", Interpretation::Default), "no GS1");
-    assert!(rt; may_write(b"\x1D\x1D%", Interpretation::Eci(26)), "an ECI");
+    check!(rt; may_write(b"", gs1), "no byte");
+    check!(rt; may_write(b"10AB\x1D21%%\x1D", gs1), "two fields");
+    check!(rt; may_write(b"%\x1D1", gs1), "a percent sign before it");
+    check!(rt; !may_write(b"1\x1D\x1D2", gs1), "two separators");
+    check!(rt; !may_write(b"1\x1D%", gs1), "a percent sign after it");
+    check!(rt; may_write(b"\x1D\x1D%", Interpretation::Default), "no GS1");
+    check!(rt; may_write(b"\x1D\x1D%", Interpretation::Eci(26)), "an ECI");
 }
 
 // Says whether the input, taken as GS1 data, has these segments at version 1, with these characters in them.
@@ -44,29 +45,29 @@ const fn segment(mode: Mode, len: usize) -> Segment {
 fn gs1_segments(rt: HostRuntime) -> Result<(), Fail> {
     let auto = Rule::Auto;
     let one = [segment(Mode::Alphanumeric, 4)];
-    assert!(rt;
+    check!(rt;
         is_cut(&rt, b"A%B", auto, &one, b"A%%B")?,
         "35 bits, and 36 as bytes"
     );
     let one = [segment(Mode::Byte, 2)];
-    assert!(rt;
+    check!(rt;
         is_cut(&rt, b"%%", auto, &one, b"%%")?,
         "28 bits, and 35 as characters"
     );
     let one = [segment(Mode::Alphanumeric, 3)];
-    assert!(rt; is_cut(&rt, b"A\x1DB", auto, &one, b"A%B")?, "a separator");
+    check!(rt; is_cut(&rt, b"A\x1DB", auto, &one, b"A%B")?, "a separator");
     let one = [segment(Mode::Byte, 4)];
-    assert!(rt;
+    check!(rt;
         is_cut(&rt, b"a%\x1Db", auto, &one, b"a%\x1Db")?,
         "small letters"
     );
     let bytes = Rule::BytesOnly;
-    assert!(rt;
+    check!(rt;
         is_cut(&rt, b"A%\x1DB", bytes, &one, b"A%\x1DB")?,
         "bytes only"
     );
     let two = [segment(Mode::Numeric, 18), segment(Mode::Alphanumeric, 11)];
-    assert!(rt;
+    check!(rt;
         is_cut(
             &rt,
             b"010401234567890110ABC123\x1D2198",
@@ -77,8 +78,8 @@ fn gs1_segments(rt: HostRuntime) -> Result<(), Fail> {
         "148 bits"
     );
     let digits = [segment(Mode::Numeric, 4)];
-    assert!(rt; is_cut(&rt, b"0104", auto, &digits, b"0104")?, "digits");
-    assert!(rt; is_cut(&rt, b"", auto, &[], b"")?, "no byte");
+    check!(rt; is_cut(&rt, b"0104", auto, &digits, b"0104")?, "digits");
+    check!(rt; is_cut(&rt, b"", auto, &[], b"")?, "no byte");
     Ok(())
 }
 
@@ -102,27 +103,27 @@ fn fit(rt: &HostRuntime, input: &[u8], interpretation: Interpretation) -> Result
 // leaves 48. ECI 26 takes 12 and leaves 40, and ECI 999,999 takes 28 and leaves 24.
 #[test]
 fn prefixes_at_1_h(rt: HostRuntime) -> Result<(), Fail> {
-    assert_eq!(rt;
+    check_eq!(rt;
         fit(&rt, b"A%A%A%A%", Interpretation::Default)?,
         7,
         "51 bits"
     );
-    assert_eq!(rt;
+    check_eq!(rt;
         fit(&rt, b"A%A%A%A%", Interpretation::Gs1)?,
         4,
         "44 bits as bytes"
     );
-    assert_eq!(rt;
+    check_eq!(rt;
         fit(&rt, b"AA%AA\x1DAA", Interpretation::Gs1)?,
         5,
         "46 bits"
     );
-    assert_eq!(rt;
+    check_eq!(rt;
         fit(&rt, b"AAAAAAAA", Interpretation::Eci(26))?,
         4,
         "35 bits"
     );
-    assert_eq!(rt;
+    check_eq!(rt;
         fit(&rt, b"AAAAAAAA", Interpretation::Eci(999_999))?,
         2,
         "24 bits"

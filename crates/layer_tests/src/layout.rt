@@ -1,5 +1,6 @@
 //! Tests of versions, blocks, format and version information, and of what each module is for.
 
+use crate::checks::{check, check_eq};
 use qr_layout::{
     Blocks, Level, Place, Role, Version, alignment_centres, fixed_rectangles, format_word, role_at,
 };
@@ -7,18 +8,18 @@ use std::test::Fail;
 
 #[test]
 fn forty_versions(rt: HostRuntime) -> Result<(), Fail> {
-    assert_eq!(rt; Version::new(0), None, "no version 0");
-    assert_eq!(rt; Version::new(41), None, "no version 41");
+    check_eq!(rt; Version::new(0), None, "no version 0");
+    check_eq!(rt; Version::new(41), None, "no version 41");
     for (number, side, codewords, bits) in [(1, 21, 26, 0), (6, 41, 172, 7), (40, 177, 3706, 0)] {
         let version = Version::new(number).ok_or("no such version")?;
-        assert_eq!(rt; version.number(), number);
-        assert_eq!(rt; version.side(), side, "side of version {number}");
-        assert_eq!(rt;
+        check_eq!(rt; version.number(), number);
+        check_eq!(rt; version.side(), side, "side of version {number}");
+        check_eq!(rt;
             version.total_codewords(),
             codewords,
             "codewords of version {number}"
         );
-        assert_eq!(rt;
+        check_eq!(rt;
             version.remainder_bits(),
             bits,
             "remainder bits of version {number}"
@@ -40,7 +41,7 @@ fn data_codewords_of_the_standard(rt: HostRuntime) -> Result<(), Fail> {
         (40, Level::H, 1276, "40-H"),
     ] {
         let version = Version::new(number).ok_or("no such version")?;
-        assert_eq!(rt; version.data_codewords(level), want, "{name}");
+        check_eq!(rt; version.data_codewords(level), want, "{name}");
     }
     Ok(())
 }
@@ -54,7 +55,7 @@ fn blocks_of_two_lengths(rt: HostRuntime) -> Result<(), Fail> {
         long: 2,
         ec_len: 18,
     };
-    assert_eq!(rt; blocks, want, "5-Q");
+    check_eq!(rt; blocks, want, "5-Q");
     Ok(())
 }
 
@@ -74,12 +75,12 @@ fn sums_over_all_versions(rt: HostRuntime) {
             count_sum = count_sum.saturating_add(u16::from(blocks.short));
             count_sum = count_sum.saturating_add(u16::from(blocks.long));
         }
-        assert_eq!(rt;
+        check_eq!(rt;
             len_sum,
             lens,
             "error correction codewords of a block, {name}"
         );
-        assert_eq!(rt; count_sum, counts, "blocks, {name}");
+        check_eq!(rt; count_sum, counts, "blocks, {name}");
     }
 }
 
@@ -92,7 +93,7 @@ fn format_words_of_the_standard(rt: HostRuntime) {
         (format_word(Level::Q, 0), 0x355F, "level Q, mask 0"),
         (format_word(Level::H, 7), 0x083B, "level H, mask 7"),
     ] {
-        assert_eq!(rt; word, want, "{name}");
+        check_eq!(rt; word, want, "{name}");
     }
 }
 
@@ -106,7 +107,7 @@ fn version_words_of_the_standard(rt: HostRuntime) -> Result<(), Fail> {
         (40, Some(0x28C69)),
     ] {
         let version = Version::new(number).ok_or("no such version")?;
-        assert_eq!(rt; version.version_word(), want, "version {number}");
+        check_eq!(rt; version.version_word(), want, "version {number}");
     }
     Ok(())
 }
@@ -114,22 +115,22 @@ fn version_words_of_the_standard(rt: HostRuntime) -> Result<(), Fail> {
 #[test]
 fn centres_of_the_standard(rt: HostRuntime) -> Result<(), Fail> {
     let centres = |number| Version::new(number).map(|version| version.centres());
-    assert_eq!(rt;
+    check_eq!(rt;
         centres(1).ok_or("version 1")?.as_slice(),
         [].as_slice(),
         "version 1"
     );
-    assert_eq!(rt;
+    check_eq!(rt;
         centres(2).ok_or("version 2")?.as_slice(),
         [6, 18].as_slice(),
         "version 2"
     );
-    assert_eq!(rt;
+    check_eq!(rt;
         centres(32).ok_or("version 32")?.as_slice(),
         [6, 34, 60, 86, 112, 138].as_slice(),
         "version 32"
     );
-    assert_eq!(rt;
+    check_eq!(rt;
         centres(40).ok_or("version 40")?.as_slice(),
         [6, 30, 58, 86, 114, 142, 170].as_slice(),
         "version 40"
@@ -142,9 +143,9 @@ fn centres_without_the_corners(rt: HostRuntime) -> Result<(), Fail> {
     let version = Version::new(7).ok_or("version 7")?;
     let centres = [(6, 22), (22, 6), (22, 22), (22, 38), (38, 22), (38, 38)];
     let places = alignment_centres(version);
-    assert!(rt; places.len() == centres.len(), "six patterns");
+    check!(rt; places.len() == centres.len(), "six patterns");
     for (place, (row, col)) in places.iter().zip(centres) {
-        assert_eq!(rt; *place, Place { row, col });
+        check_eq!(rt; *place, Place { row, col });
     }
     Ok(())
 }
@@ -152,11 +153,11 @@ fn centres_without_the_corners(rt: HostRuntime) -> Result<(), Fail> {
 #[test]
 fn rectangles_of_versions_6_and_7(rt: HostRuntime) -> Result<(), Fail> {
     let sixth = fixed_rectangles(Version::new(6).ok_or("version 6")?);
-    assert!(rt; sixth.len() == 5, "no version information");
+    check!(rt; sixth.len() == 5, "no version information");
     let seventh = fixed_rectangles(Version::new(7).ok_or("version 7")?);
-    assert!(rt; seventh.len() == 7, "two copies of version information");
+    check!(rt; seventh.len() == 7, "two copies of version information");
     let last = seventh[6];
-    assert!(rt; (last.top, last.bottom) == (34, 37) && (last.left, last.right) == (0, 6));
+    check!(rt; (last.top, last.bottom) == (34, 37) && (last.left, last.right) == (0, 6));
     Ok(())
 }
 
@@ -190,7 +191,7 @@ fn function_patterns(rt: HostRuntime) {
         (7, 5, 22, false, "light ring above a timing pattern"),
         (7, 6, 22, true, "centre on a timing pattern"),
     ] {
-        assert_eq!(rt;
+        check_eq!(rt;
             role_in(number, row, col),
             Some(Role::Fixed(dark)),
             "{name}"
@@ -213,7 +214,7 @@ fn format_bits(rt: HostRuntime) {
         (14, 8, 8, "below the dark module"),
         (20, 8, 14, "last row"),
     ] {
-        assert_eq!(rt; role_in(1, row, col), Some(Role::FormatBit(bit)), "{name}");
+        check_eq!(rt; role_in(1, row, col), Some(Role::FormatBit(bit)), "{name}");
     }
 }
 
@@ -230,6 +231,6 @@ fn version_bits_and_codewords(rt: HostRuntime) {
         (1, 20, 20, Role::Region, "bottom right module"),
         (1, 9, 5, Role::Region, "left of the timing pattern"),
     ] {
-        assert_eq!(rt; role_in(number, row, col), Some(want), "{name}");
+        check_eq!(rt; role_in(number, row, col), Some(want), "{name}");
     }
 }

@@ -1,17 +1,18 @@
 //! Tests of `Matrix`: modules that are read and set, runs, transposed squares, and differences.
 
+use crate::checks::{check, check_eq};
 use qr_matrix::{BitRow, Matrix, differences, matrices_of_bytes, matrix_of_bytes, write_square};
 use std::test::Fail;
 
 #[test]
 fn one_place_is_set(rt: HostRuntime) -> Result<(), Fail> {
     let mut matrix = Matrix::new(rt.alloc(), 3)?;
-    assert_eq!(rt; matrix.side(), 3);
+    check_eq!(rt; matrix.side(), 3);
     matrix.set(1, 2, true);
     for row in 0..3 {
         for col in 0..3 {
             let is_set = row == 1 && col == 2;
-            assert_eq!(rt; matrix.dark(row, col), is_set, "row {row}, column {col}");
+            check_eq!(rt; matrix.dark(row, col), is_set, "row {row}, column {col}");
         }
     }
     Ok(())
@@ -26,7 +27,7 @@ fn a_rectangle_is_filled(rt: HostRuntime) -> Result<(), Fail> {
         for col in 0..70u8 {
             let is_round = row >= 2 && row < 5 && col >= 62 && col < 67;
             let is_dark = is_round && !(row == 3 && (col == 63 || col == 64));
-            assert_eq!(rt; matrix.dark(row, col), is_dark, "row {row}, column {col}");
+            check_eq!(rt; matrix.dark(row, col), is_dark, "row {row}, column {col}");
         }
     }
     Ok(())
@@ -38,8 +39,8 @@ fn four_modules_are_four_bits(rt: HostRuntime) -> Result<(), Fail> {
     matrix.set(1, 64, true);
     matrix.set(1, 66, true);
     matrix.set(1, 67, true);
-    assert_eq!(rt; matrix.four(1, 64), 0b1101);
-    assert_eq!(rt; matrix.four(1, 60), 0);
+    check_eq!(rt; matrix.four(1, 64), 0b1101);
+    check_eq!(rt; matrix.four(1, 60), 0);
     Ok(())
 }
 
@@ -56,7 +57,7 @@ fn a_row_is_masked_within(rt: HostRuntime) -> Result<(), Fail> {
             60 | 61 => false,
             _ => true,
         };
-        assert_eq!(rt; masked.at(col), is_dark, "column {col}");
+        check_eq!(rt; masked.at(col), is_dark, "column {col}");
     }
     Ok(())
 }
@@ -84,12 +85,12 @@ fn a_square_is_transposed(rt: HostRuntime) -> Result<(), Fail> {
         }
         let mut matrix = Matrix::new(rt.alloc(), side)?;
         matrix.fill(0, side, 0, side, true);
-        assert!(rt; plain.side() == matrix.side());
+        check!(rt; plain.side() == matrix.side());
         matrix.set_transposed(&plain);
         for row in 0..side {
             for col in 0..side {
                 let is_dark = places.contains(&(col, row));
-                assert_eq!(rt;
+                check_eq!(rt;
                     matrix.dark(row, col),
                     is_dark,
                     "row {row}, column {col} of {side}"
@@ -103,24 +104,24 @@ fn a_square_is_transposed(rt: HostRuntime) -> Result<(), Fail> {
 #[test]
 fn a_light_row_is_one_run(rt: HostRuntime) -> Result<(), Fail> {
     let matrix = Matrix::new(rt.alloc(), 177)?;
-    assert_eq!(rt; matrix.run_end(0, 60), 177);
+    check_eq!(rt; matrix.run_end(0, 60), 177);
     Ok(())
 }
 
 #[test]
 fn four_bits_are_set(rt: HostRuntime) -> Result<(), Fail> {
     for (place, bits) in [(0u8, 0b0001u8), (60, 0b0110), (64, 0b1011), (188, 0b1111)] {
-        assert!(rt; place <= 188 && place % 4 == 0 && bits < 16);
+        check!(rt; place <= 188 && place % 4 == 0 && bits < 16);
         let mut row = Matrix::new(rt.alloc(), 1)?.bit_row(0);
         row.set_four(place, bits);
-        assert_eq!(rt; row.four(place), bits, "bits from {place} on");
+        check_eq!(rt; row.four(place), bits, "bits from {place} on");
         for other in 0..192u8 {
             if other < place || place + 4 <= other {
-                assert!(rt; !row.at(other), "bit {other}, not from {place} on");
+                check!(rt; !row.at(other), "bit {other}, not from {place} on");
             }
         }
         row.set_four(place, 0b1000);
-        assert_eq!(rt;
+        check_eq!(rt;
             row.four(place),
             bits | 0b1000,
             "one bit more from {place} on"
@@ -136,13 +137,13 @@ fn bits_are_set(rt: HostRuntime) -> Result<(), Fail> {
     row.set_bits(64, 0b1011);
     for index in 0..192u8 {
         let is_set = matches!(index, 61 | 62 | 63 | 64 | 65 | 67);
-        assert_eq!(rt; row.at(index), is_set, "bit {index}");
+        check_eq!(rt; row.at(index), is_set, "bit {index}");
     }
-    assert_eq!(rt; row.bits_from(61), 0b111, "the bits of one word");
-    assert_eq!(rt; row.bits_from(64), 0b1011, "the bits of the next word");
-    assert_eq!(rt; row.ones_from(61), 3, "up to the end of the word");
-    assert_eq!(rt; row.ones_down_from(65), 2, "down to the end of the word");
-    assert_eq!(rt; (!row).ones_from(0), 61, "bits that are not set");
+    check_eq!(rt; row.bits_from(61), 0b111, "the bits of one word");
+    check_eq!(rt; row.bits_from(64), 0b1011, "the bits of the next word");
+    check_eq!(rt; row.ones_from(61), 3, "up to the end of the word");
+    check_eq!(rt; row.ones_down_from(65), 2, "down to the end of the word");
+    check_eq!(rt; (!row).ones_from(0), 61, "bits that are not set");
     Ok(())
 }
 
@@ -156,15 +157,25 @@ fn runs_over_the_border_of_words(rt: HostRuntime) -> Result<(), Fail> {
     let mut runs = matrix.dark_runs(3);
     for (start, end) in [(0, 2), (60, 66), (67, 128), (131, 132)] {
         let run = runs.next().ok_or("a run")?;
-        assert_eq!(rt; (run.start, run.end), (start, end));
+        check_eq!(rt; (run.start, run.end), (start, end));
     }
-    assert!(rt; runs.next().is_none());
-    assert!(rt; matrix.dark_runs(4).next().is_none(), "a light row");
+    check!(rt; runs.next().is_none());
+    check!(rt; matrix.dark_runs(4).next().is_none(), "a light row");
     Ok(())
 }
 
-// Only the listed modules of the two squares are dark. The squares have a side of 177, so a row takes three words of 64
-// bits.
+// Returns a square in which only these modules are dark. It has a side of 177, so a row takes three words of 64 bits.
+fn square_of(rt: &HostRuntime, places: &[(u8, u8)]) -> Result<Matrix, Fail> {
+    let mut matrix = Matrix::new(rt.alloc(), 177)?;
+    for (row, col) in places {
+        if *row >= matrix.side() || *col >= matrix.side() {
+            return Err("no such module".into());
+        }
+        matrix.set(*row, *col, true);
+    }
+    Ok(matrix)
+}
+
 #[test]
 fn differences_are_counted(rt: HostRuntime) -> Result<(), Fail> {
     let rows = [
@@ -180,17 +191,9 @@ fn differences_are_counted(rt: HostRuntime) -> Result<(), Fail> {
         ),
     ];
     for (name, first, second, wanted) in rows {
-        let (mut a, mut b) = (Matrix::new(rt.alloc(), 177)?, Matrix::new(rt.alloc(), 177)?);
-        for (row, col) in first {
-            assert!(rt; *row < a.side() && *col < a.side());
-            a.set(*row, *col, true);
-        }
-        for (row, col) in second {
-            assert!(rt; *row < b.side() && *col < b.side());
-            b.set(*row, *col, true);
-        }
-        assert!(rt; a.side() == b.side());
-        assert_eq!(rt; differences(&a, &b), wanted, "{name}");
+        let (a, b) = (square_of(&rt, first)?, square_of(&rt, second)?);
+        check!(rt; a.side() == b.side());
+        check_eq!(rt; differences(&a, &b), wanted, "{name}");
     }
     Ok(())
 }
@@ -209,33 +212,48 @@ fn byte_at(place: usize) -> u8 {
     }
 }
 
+// Returns the bytes of a square with this side, and seven more.
+fn bytes_of(rt: &HostRuntime, side: u8) -> Result<Vec<u8>, Fail> {
+    let area = usize::from(side) * usize::from(side);
+    let mut bytes = vec![in rt.alloc(); 0u8; area + 7]?;
+    for place in 0..area {
+        bytes[place] = byte_at(place);
+    }
+    Ok(bytes)
+}
+
 #[test]
 fn squares_are_read_from_bytes(rt: HostRuntime) -> Result<(), Fail> {
     for side in SIDES {
-        let area = usize::from(side) * usize::from(side);
-        let mut bytes = vec![in rt.alloc(); 0u8; area + 7]?;
-        for place in 0..area {
-            bytes[place] = byte_at(place);
-        }
+        let bytes = bytes_of(&rt, side)?;
+        check!(rt; usize::from(side) * usize::from(side) <= bytes.len());
         let matrix = matrix_of_bytes(rt.alloc(), &bytes, side)?;
+        for row in 0..side {
+            for col in 0..side {
+                let place = usize::from(row) * usize::from(side) + usize::from(col);
+                check_eq!(rt;
+                    matrix.dark(row, col),
+                    place % 3 != 1,
+                    "side {side}, row {row}, column {col}"
+                );
+            }
+        }
+    }
+    Ok(())
+}
+
+#[test]
+fn unknown_modules_are_read_from_bytes(rt: HostRuntime) -> Result<(), Fail> {
+    for side in SIDES {
+        let bytes = bytes_of(&rt, side)?;
+        check!(rt; usize::from(side) * usize::from(side) <= bytes.len());
         let (dark, unknown) = matrices_of_bytes(rt.alloc(), &bytes, side)?;
         for row in 0..side {
             for col in 0..side {
                 let place = usize::from(row) * usize::from(side) + usize::from(col);
-                let is_dark = place % 3 != 1;
-                assert_eq!(rt;
-                    matrix.dark(row, col),
-                    is_dark,
-                    "side {side}, row {row}, column {col}"
-                );
-                assert_eq!(rt;
-                    dark.dark(row, col),
-                    is_dark,
-                    "side {side}, row {row}, column {col}"
-                );
-                assert_eq!(rt;
-                    unknown.dark(row, col),
-                    place % 3 == 2,
+                check_eq!(rt;
+                    (dark.dark(row, col), unknown.dark(row, col)),
+                    (place % 3 != 1, place % 3 == 2),
                     "side {side}, row {row}, column {col}"
                 );
             }
@@ -248,10 +266,8 @@ fn squares_are_read_from_bytes(rt: HostRuntime) -> Result<(), Fail> {
 fn squares_are_written_as_bytes(rt: HostRuntime) -> Result<(), Fail> {
     for side in SIDES {
         let area = usize::from(side) * usize::from(side);
-        let mut bytes = vec![in rt.alloc(); 0u8; area]?;
-        for place in 0..area {
-            bytes[place] = byte_at(place);
-        }
+        let bytes = bytes_of(&rt, side)?;
+        check!(rt; area <= bytes.len());
         let matrix = matrix_of_bytes(rt.alloc(), &bytes, side)?;
         let mut written = vec![in rt.alloc(); 9u8; area + 7]?;
         write_square(&matrix, 3, &mut written);
@@ -261,7 +277,7 @@ fn squares_are_written_as_bytes(rt: HostRuntime) -> Result<(), Fail> {
             } else {
                 u8::from((place - 3) % 3 != 1)
             };
-            assert_eq!(rt; written[place], wanted, "side {side}, byte {place}");
+            check_eq!(rt; written[place], wanted, "side {side}, byte {place}");
         }
     }
     Ok(())

@@ -1,5 +1,6 @@
 //! Tests of the penalty of small and large squares.
 
+use crate::checks::{check, check_eq};
 use qr_matrix::{Matrix, penalty};
 use std::test::Fail;
 
@@ -48,15 +49,15 @@ fn penalties(rt: HostRuntime) -> Result<(), Fail> {
         ),
     ];
     for (name, side, pattern, points) in rows {
-        assert!(rt; side >= 1 && side <= 177, "{name}");
+        check!(rt; side >= 1 && side <= 177, "{name}");
         let mut matrix = Matrix::new(rt.alloc(), side)?;
         for row in 0..side {
             for col in 0..side {
-                assert!(rt; row < matrix.side() && col < matrix.side());
+                check!(rt; row < matrix.side() && col < matrix.side());
                 matrix.set(row, col, is_dark(pattern, row, col));
             }
         }
-        assert_eq!(rt; penalty(&matrix), points, "{name}");
+        check_eq!(rt; penalty(&matrix), points, "{name}");
     }
     Ok(())
 }

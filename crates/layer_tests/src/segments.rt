@@ -4,6 +4,7 @@ ghost use Rattle.std.specs.Prelude.{◌≡◌, ◌<◌, ◌≤◌, length};
 ghost use Rattle.std.specs.List.{All, sum_by};
 ghost use Rattle.qr_bits.specs.declared.modes.TheConstants.{INPUT_MAX};
 
+use crate::checks::{check, check_eq};
 use qr_bits::{
     INPUT_MAX, Interpretation, Mode, Rule, Segment, bit_len, covers, fold, least_bits, longest_fit,
     segments,
@@ -27,40 +28,50 @@ fn bits(version: u8, segs: &[Segment]) -> Result<u64, Fail>
 #[test]
 fn bits_of_segments(rt: HostRuntime) -> Result<(), Fail> {
     let digits = segment(Mode::Numeric, 41);
-    assert_eq!(rt; bits(1, &[digits])?, 151, "41 digits");
+    check_eq!(rt; bits(1, &[digits])?, 151, "41 digits");
     let digits = segment(Mode::Numeric, 42);
-    assert_eq!(rt; bits(1, &[digits])?, 154, "42 digits");
+    check_eq!(rt; bits(1, &[digits])?, 154, "42 digits");
     let digits = segment(Mode::Numeric, 7089);
-    assert_eq!(rt; bits(40, &[digits])?, 23_648, "7,089 digits at version 40");
+    check_eq!(rt; bits(40, &[digits])?, 23_648, "7,089 digits at version 40");
     let two = [segment(Mode::Byte, 2), segment(Mode::Numeric, 3)];
-    assert_eq!(rt; bits(1, &two)?, 52, "two letters and three digits");
-    assert_eq!(rt; bits(10, &two)?, 62, "the same at version 10");
-    assert_eq!(rt; bits(1, &[segment(Mode::Byte, 5)])?, 52, "five bytes");
-    let pairs = [segment(Mode::Kanji, 4)];
-    assert_eq!(rt; bits(1, &pairs)?, 38, "two kanji pairs");
-    let mixed = [segment(Mode::Byte, 1), segment(Mode::Kanji, 10)];
-    assert_eq!(rt; bits(1, &mixed)?, 97, "a byte and five kanji pairs");
-    let mixed = [segment(Mode::Byte, 1), segment(Mode::Kanji, 8)];
-    assert_eq!(rt; bits(1, &mixed)?, 84, "a byte and four kanji pairs");
-    assert_eq!(rt;
-        bits(1, &[segment(Mode::Byte, 9)])?,
-        84,
-        "nine bytes, as many bits as a byte and four kanji pairs"
-    );
-    let mixed = [segment(Mode::Numeric, 8), segment(Mode::Alphanumeric, 1)];
-    assert_eq!(rt; bits(1, &mixed)?, 60, "eight digits and a letter");
-    assert_eq!(rt; bits(10, &mixed)?, 64, "the same at version 10");
-    let whole = [segment(Mode::Alphanumeric, 9)];
-    assert_eq!(rt; bits(27, &whole)?, 67, "nine characters at version 27");
-    assert_eq!(rt;
+    check_eq!(rt; bits(1, &two)?, 52, "two letters and three digits");
+    check_eq!(rt; bits(10, &two)?, 62, "the same at version 10");
+    check_eq!(rt; bits(1, &[segment(Mode::Byte, 5)])?, 52, "five bytes");
+    check_eq!(rt;
         bits(10, &[segment(Mode::Byte, 5)])?,
         60,
         "five bytes at version 10"
     );
+    Ok(())
+}
+
+#[test]
+fn bits_of_kanji_pairs(rt: HostRuntime) -> Result<(), Fail> {
+    let pairs = [segment(Mode::Kanji, 4)];
+    check_eq!(rt; bits(1, &pairs)?, 38, "two kanji pairs");
+    let mixed = [segment(Mode::Byte, 1), segment(Mode::Kanji, 10)];
+    check_eq!(rt; bits(1, &mixed)?, 97, "a byte and five kanji pairs");
+    let mixed = [segment(Mode::Byte, 1), segment(Mode::Kanji, 8)];
+    check_eq!(rt; bits(1, &mixed)?, 84, "a byte and four kanji pairs");
+    check_eq!(rt;
+        bits(1, &[segment(Mode::Byte, 9)])?,
+        84,
+        "nine bytes, as many bits as a byte and four kanji pairs"
+    );
     let pairs = [segment(Mode::Kanji, 14)];
-    assert_eq!(rt; bits(1, &pairs)?, 103, "seven kanji pairs");
+    check_eq!(rt; bits(1, &pairs)?, 103, "seven kanji pairs");
     let half = [segment(Mode::Kanji, 12), segment(Mode::Byte, 1)];
-    assert_eq!(rt; bits(1, &half)?, 110, "six kanji pairs and half a pair");
+    check_eq!(rt; bits(1, &half)?, 110, "six kanji pairs and half a pair");
+    Ok(())
+}
+
+#[test]
+fn bits_of_digits_and_letters(rt: HostRuntime) -> Result<(), Fail> {
+    let mixed = [segment(Mode::Numeric, 8), segment(Mode::Alphanumeric, 1)];
+    check_eq!(rt; bits(1, &mixed)?, 60, "eight digits and a letter");
+    check_eq!(rt; bits(10, &mixed)?, 64, "the same at version 10");
+    let whole = [segment(Mode::Alphanumeric, 9)];
+    check_eq!(rt; bits(27, &whole)?, 67, "nine characters at version 27");
     Ok(())
 }
 
@@ -68,20 +79,20 @@ fn bits_of_segments(rt: HostRuntime) -> Result<(), Fail> {
 fn segments_that_cover(rt: HostRuntime) {
     let digit = segment(Mode::Numeric, 1);
     let letter = segment(Mode::Alphanumeric, 1);
-    assert!(rt; covers(b"", &[]), "nothing by nothing");
-    assert!(rt; covers(b"1A", &[digit, letter]), "a digit and a letter");
-    assert!(rt; !covers(b"1A", &[letter]), "a byte too few");
-    assert!(rt; !covers(b"1", &[digit, digit]), "a byte too many");
-    assert!(rt; !covers(b"A", &[digit]), "a letter as a digit");
-    assert!(rt; !covers(b"a", &[letter]), "a small letter");
+    check!(rt; covers(b"", &[]), "nothing by nothing");
+    check!(rt; covers(b"1A", &[digit, letter]), "a digit and a letter");
+    check!(rt; !covers(b"1A", &[letter]), "a byte too few");
+    check!(rt; !covers(b"1", &[digit, digit]), "a byte too many");
+    check!(rt; !covers(b"A", &[digit]), "a letter as a digit");
+    check!(rt; !covers(b"a", &[letter]), "a small letter");
     let pair = segment(Mode::Kanji, 2);
-    assert!(rt; covers(b"\x93\x5F", &[pair]), "a kanji pair");
-    assert!(rt; !covers(b"\x93\x3F", &[pair]), "a second byte of 3F");
-    assert!(rt;
+    check!(rt; covers(b"\x93\x5F", &[pair]), "a kanji pair");
+    check!(rt; !covers(b"\x93\x3F", &[pair]), "a second byte of 3F");
+    check!(rt;
         !covers(b"\x93\x5F\x93", &[segment(Mode::Kanji, 3)]),
         "half a pair"
     );
-    assert!(rt;
+    check!(rt;
         !covers(b"1", &[segment(Mode::Byte, 0), digit]),
         "an empty segment"
     );
@@ -112,46 +123,46 @@ fn are_segments(
 #[test]
 fn least_segments(rt: HostRuntime) -> Result<(), Fail> {
     let mixed = [(Mode::Byte, 2), (Mode::Numeric, 3)];
-    assert!(rt;
+    check!(rt;
         are_segments(&rt, b"ab012", 1, Rule::Auto, &mixed)?,
         "the first of equals"
     );
     let whole = [(Mode::Byte, 5)];
-    assert!(rt;
+    check!(rt;
         are_segments(&rt, b"ab012", 10, Rule::Auto, &whole)?,
         "a longer head"
     );
-    assert!(rt;
+    check!(rt;
         are_segments(&rt, b"ab012", 1, Rule::BytesOnly, &whole)?,
         "bytes only"
     );
     let mixed = [(Mode::Numeric, 8), (Mode::Alphanumeric, 1)];
-    assert!(rt;
+    check!(rt;
         are_segments(&rt, b"12345678A", 1, Rule::Auto, &mixed)?,
         "digits, a letter"
     );
-    assert!(rt;
+    check!(rt;
         are_segments(&rt, b"12345678A", 10, Rule::Auto, &mixed)?,
         "at version 10"
     );
     let whole = [(Mode::Alphanumeric, 9)];
-    assert!(rt;
+    check!(rt;
         are_segments(&rt, b"12345678A", 27, Rule::Auto, &whole)?,
         "at version 27"
     );
     let whole = [(Mode::Alphanumeric, 11)];
-    assert!(rt;
+    check!(rt;
         are_segments(&rt, b"HELLO WORLD", 1, Rule::Auto, &whole)?,
         "eleven characters"
     );
-    assert!(rt; are_segments(&rt, b"", 1, Rule::Auto, &[])?, "no byte");
+    check!(rt; are_segments(&rt, b"", 1, Rule::Auto, &[])?, "no byte");
     Ok(())
 }
 
 #[test]
 fn longest_input(rt: HostRuntime) -> Result<(), Fail> {
     let whole = [(Mode::Numeric, INPUT_MAX)];
-    assert!(rt;
+    check!(rt;
         are_segments(&rt, &[b'7'; INPUT_MAX], 40, Rule::Auto, &whole)?,
         "all digits"
     );
@@ -162,17 +173,17 @@ fn longest_input(rt: HostRuntime) -> Result<(), Fail> {
 fn kanji(rt: HostRuntime) -> Result<(), Fail> {
     let whole = [(Mode::Kanji, 4)];
     let rule = Rule::WithKanji;
-    assert!(rt;
+    check!(rt;
         are_segments(&rt, b"\x93\x5F\xE4\xAA", 1, rule, &whole)?,
         "two pairs"
     );
     let whole = [(Mode::Byte, 9)];
-    assert!(rt;
+    check!(rt;
         are_segments(&rt, b"a\x93\x5F\x93\x5F\x93\x5F\x93\x5F", 1, rule, &whole)?,
         "the first of equals"
     );
     let mixed = [(Mode::Byte, 1), (Mode::Kanji, 10)];
-    assert!(rt;
+    check!(rt;
         are_segments(
             &rt,
             b"a\x93\x5F\x93\x5F\x93\x5F\x93\x5F\x93\x5F",
@@ -184,9 +195,9 @@ fn kanji(rt: HostRuntime) -> Result<(), Fail> {
     );
     let pairs = b"\x93\x5F\x93\x5F\x93\x5F\x93\x5F\x93\x5F\x93\x5F\x93\x5F";
     let whole = [(Mode::Kanji, 14)];
-    assert!(rt; are_segments(&rt, pairs, 1, rule, &whole)?, "seven pairs");
+    check!(rt; are_segments(&rt, pairs, 1, rule, &whole)?, "seven pairs");
     let half = [(Mode::Kanji, 12), (Mode::Byte, 1)];
-    assert!(rt;
+    check!(rt;
         are_segments(&rt, &pairs[..13], 1, rule, &half)?,
         "six pairs and half a pair"
     );
@@ -205,8 +216,8 @@ fn least_bits_of_inputs(rt: HostRuntime) -> Result<(), Fail> {
         ("one of each", b"1A[", 15),
     ];
     for (name, input, bits) in rows {
-        assert!(rt; input.len() <= INPUT_MAX);
-        assert_eq!(rt; least_bits(input), bits, "{name}");
+        check!(rt; input.len() <= INPUT_MAX);
+        check_eq!(rt; least_bits(input), bits, "{name}");
     }
     Ok(())
 }
@@ -227,10 +238,10 @@ fn fit(rt: &HostRuntime, input: &[u8], rule: Rule) -> Result<usize, Fail>
 
 #[test]
 fn prefixes_at_1_h(rt: HostRuntime) -> Result<(), Fail> {
-    assert_eq!(rt; fit(&rt, b"abcdefgh", Rule::BytesOnly)?, 5, "eight letters");
-    assert_eq!(rt; fit(&rt, b"012345678901", Rule::Auto)?, 11, "twelve digits");
-    assert_eq!(rt; fit(&rt, b"", Rule::Auto)?, 0, "no byte");
-    assert_eq!(rt;
+    check_eq!(rt; fit(&rt, b"abcdefgh", Rule::BytesOnly)?, 5, "eight letters");
+    check_eq!(rt; fit(&rt, b"012345678901", Rule::Auto)?, 11, "twelve digits");
+    check_eq!(rt; fit(&rt, b"", Rule::Auto)?, 0, "no byte");
+    check_eq!(rt;
         fit(&rt, &[b'7'; INPUT_MAX], Rule::Auto)?,
         11,
         "the longest input"
@@ -244,12 +255,12 @@ fn prefixes_at_1_h(rt: HostRuntime) -> Result<(), Fail> {
 fn pairs_at_1_m(rt: HostRuntime) -> Result<(), Fail> {
     let pairs = b"\x93\x5F\x93\x5F\x93\x5F\x93\x5F\x93\x5F\x93\x5F\x93\x5F\x93\x5F";
     let (version, rule) = (Version::FIRST, Rule::WithKanji);
-    assert_eq!(rt;
+    check_eq!(rt;
         version.data_codewords(Level::M),
         16,
         "128 bits with a header's 20"
     );
-    assert_eq!(rt;
+    check_eq!(rt;
         longest_fit(
             rt.alloc(),
             pairs,
@@ -273,7 +284,7 @@ fn three_bytes(rt: HostRuntime) -> Result<(), Fail> {
     ];
     for (name, rule, wanted) in rows {
         let folded = fold(rt.alloc(), b"\x93\x61\x61", rule)?;
-        assert_eq!(rt; folded.as_slice(), wanted.as_slice(), "{name}");
+        check_eq!(rt; folded.as_slice(), wanted.as_slice(), "{name}");
     }
     Ok(())
 }

@@ -1,5 +1,6 @@
 //! Tests of the order in which codewords fill the encoding region.
 
+use crate::checks::{check, check_eq};
 use qr_layout::laws::{default_place, first_version, nth_place};
 use qr_layout::{Place, Strip, Version, all_strips, region_len, walk, walk_after};
 use std::test::Fail;
@@ -12,9 +13,9 @@ fn at((row, col): (u8, u8)) -> Place {
 fn walk_of_version_1(rt: HostRuntime) -> Result<(), Fail> {
     let mut steps = walk(Version::FIRST);
     for begin in [(20, 20), (20, 19), (19, 20)] {
-        assert_eq!(rt; steps.next(), Some(at(begin)));
+        check_eq!(rt; steps.next(), Some(at(begin)));
     }
-    assert_eq!(rt; steps.last(), Some(at((12, 0))));
+    check_eq!(rt; steps.last(), Some(at((12, 0))));
     Ok(())
 }
 
@@ -49,7 +50,7 @@ fn walks_resumed(rt: HostRuntime) -> Result<(), Fail> {
         let version = Version::new(number).ok_or("no such version")?;
         let mut steps = walk_after(version, at(after)).ok_or("not in the region")?;
         for next in then {
-            assert_eq!(rt; steps.next(), Some(at(next)), "{name}");
+            check_eq!(rt; steps.next(), Some(at(next)), "{name}");
         }
     }
     Ok(())
@@ -59,12 +60,12 @@ fn walks_resumed(rt: HostRuntime) -> Result<(), Fail> {
 fn walks_that_end_or_do_not_begin(rt: HostRuntime) -> Result<(), Fail> {
     let version = Version::FIRST;
     let mut end = walk_after(version, at((12, 0))).ok_or("not in the region")?;
-    assert_eq!(rt; end.next(), None, "after the last module");
-    assert!(rt;
+    check_eq!(rt; end.next(), None, "after the last module");
+    check!(rt;
         walk_after(version, at((6, 6))).is_none(),
         "a function module"
     );
-    assert!(rt;
+    check!(rt;
         walk_after(version, at((21, 0))).is_none(),
         "outside the symbol"
     );
@@ -84,12 +85,12 @@ fn lengths_of_the_region(rt: HostRuntime) -> Result<(), Fail> {
         (40, 29648),
     ] {
         let version = Version::new(number).ok_or("no such version")?;
-        assert_eq!(rt; region_len(version), want, "version {number}");
+        check_eq!(rt; region_len(version), want, "version {number}");
         let mut steps = 0u32;
         for _ in walk(version) {
             steps = steps.saturating_add(1);
         }
-        assert_eq!(rt; steps, want, "walk of version {number}");
+        check_eq!(rt; steps, want, "walk of version {number}");
     }
     Ok(())
 }
@@ -100,7 +101,7 @@ fn walk_over_column_6(rt: HostRuntime) -> Result<(), Fail> {
     let version = Version::FIRST;
     let mut steps = walk_after(version, Place { row: 9, col: 7 }).ok_or("not in the region")?;
     for (row, col) in [(9, 5), (9, 4), (10, 5)] {
-        assert_eq!(rt; steps.next(), Some(Place { row, col }));
+        check_eq!(rt; steps.next(), Some(Place { row, col }));
     }
     Ok(())
 }
@@ -117,16 +118,16 @@ fn strips_of_version_1(rt: HostRuntime) -> Result<(), Fail> {
     ];
     for (number, right, upward, name) in rows {
         let strip = Strip { right, upward };
-        assert_eq!(rt; all_strips(version).nth(number), Some(strip), "{name}");
+        check_eq!(rt; all_strips(version).nth(number), Some(strip), "{name}");
     }
-    assert_eq!(rt; all_strips(version).nth(10), None, "ten strips");
+    check_eq!(rt; all_strips(version).nth(10), None, "ten strips");
     Ok(())
 }
 
 #[test]
 fn first_values(rt: HostRuntime) {
-    assert_eq!(rt; first_version().number(), 1);
-    assert_eq!(rt; default_place(), Place { row: 0, col: 0 });
+    check_eq!(rt; first_version().number(), 1);
+    check_eq!(rt; default_place(), Place { row: 0, col: 0 });
 }
 
 #[test]
@@ -138,7 +139,7 @@ fn places_by_their_numbers(rt: HostRuntime) -> Result<(), Fail> {
         (207, Some(Place { row: 12, col: 0 })),
         (208, None),
     ] {
-        assert_eq!(rt; nth_place(version, number), want, "number {number}");
+        check_eq!(rt; nth_place(version, number), want, "number {number}");
     }
     Ok(())
 }

@@ -1,5 +1,6 @@
 //! Tests of `parse_drawing`: which squares it finds in a drawing, what these contain, and which texts it refuses.
 
+use crate::checks::check;
 use qr_devices::Counted;
 use qr_parsing::{DrawingFault, Drawn, parse_drawing};
 use qr_symbol::{Matrix, join, read_symbol};
@@ -58,7 +59,7 @@ fn drawings_of_one_symbol(rt: HostRuntime) -> Result<(), Fail> {
         for version in ["1", "2", "7", "40"] {
             for (number, margin) in [("0", 0u8), ("1", 1), ("4", 4), ("100", 100)] {
                 let words = ["-8", "-v", version, "-t", name, "-m", number];
-                assert!(rt;
+                check!(rt;
                     reads_back(rt.alloc(), &words, b"A", (kind, margin, 1))?,
                     "{name}, version {version}, margin {margin}"
                 );
@@ -75,8 +76,8 @@ fn drawings_of_series(rt: HostRuntime) -> Result<(), Fail> {
         for (len, count) in [(8usize, 2usize), (80, 16)] {
             for (number, margin) in [("0", 0u8), ("3", 3)] {
                 let words = ["-S", "-8", "-v", "1", "-l", "H", "-t", name, "-m", number];
-                assert!(rt; len <= 80);
-                assert!(rt;
+                check!(rt; len <= 80);
+                check!(rt;
                     reads_back(rt.alloc(), &words, &input[..len], (kind, margin, count))?,
                     "{name}, {count} symbols, margin {margin}"
                 );
@@ -132,8 +133,8 @@ fn drawings_typed_by_hand(rt: HostRuntime) -> Result<(), Fail> {
     ];
     for (text, kind, margin) in rows {
         let drawn = parse_drawing(rt.alloc(), text)?;
-        assert!(rt; (drawn.kind, drawn.margin, drawn.squares.len()) == (kind, margin, 1));
-        assert!(rt; shows_rows(&drawn));
+        check!(rt; (drawn.kind, drawn.margin, drawn.squares.len()) == (kind, margin, 1));
+        check!(rt; shows_rows(&drawn));
     }
     Ok(())
 }
@@ -190,12 +191,12 @@ fn changed_drawings(rt: HostRuntime) -> Result<(), Fail> {
                 Ok(found) => {
                     let mut again = Counted::new(Vec::new(alloc));
                     draw(&found.squares, found.kind, found.margin, &mut again)?;
-                    assert!(rt; again.into_inner().as_slice() == text.as_slice());
+                    check!(rt; again.into_inner().as_slice() == text.as_slice());
                 }
             }
         }
     }
-    assert!(rt; refused > 900, "{refused} of 1,000 are refused");
+    check!(rt; refused > 900, "{refused} of 1,000 are refused");
     Ok(())
 }
 
@@ -216,7 +217,7 @@ fn no_drawings(rt: HostRuntime) -> Result<(), Fail> {
         b"<0 0 0 0 0 0 0 0 0 8 8 M0 0h7v1h-7zM0 1h1v1h-1z",
     ];
     for text in texts {
-        assert!(rt;
+        check!(rt;
             matches!(
                 parse_drawing(rt.alloc(), text),
                 Err(DrawingFault::NotADrawing)

@@ -144,6 +144,7 @@ pub extern "C" fn qrproved_draw(
 #[cfg(test)]
 mod tests {
     use super::*;
+    use crate::checks::{check, check_eq};
     use std::test::Fail;
 
     // A square of two rows, and after it the same square with the colours exchanged.
@@ -178,9 +179,9 @@ mod tests {
                 &mut text,
                 &mut written,
             );
-            assert_eq!(rt; (status, written), (DONE, wanted.len()));
-            assert!(rt; text.starts_with(wanted));
-            assert!(rt; text[wanted.len().min(80)..].iter().all(|byte| *byte == 7));
+            check_eq!(rt; (status, written), (DONE, wanted.len()));
+            check!(rt; text.starts_with(wanted));
+            check!(rt; text[wanted.len().min(80)..].iter().all(|byte| *byte == 7));
         }
         Ok(())
     }
@@ -202,7 +203,7 @@ mod tests {
         for (name, (side, count, drawing, margin), room, wanted, told) in rows {
             let mut text = [7u8; 10];
             let mut written = 9;
-            assert!(rt; room <= text.len());
+            check!(rt; room <= text.len());
             let status = qrproved_draw(
                 rt.alloc(),
                 &SQUARES,
@@ -213,9 +214,9 @@ mod tests {
                 &mut text[..room],
                 &mut written,
             );
-            assert_eq!(rt; status, wanted, "{name}");
-            assert_eq!(rt; written, told, "{name}");
-            assert!(rt; text.iter().all(|byte| *byte == 7), "{name}");
+            check_eq!(rt; status, wanted, "{name}");
+            check_eq!(rt; written, told, "{name}");
+            check!(rt; text.iter().all(|byte| *byte == 7), "{name}");
         }
         Ok(())
     }

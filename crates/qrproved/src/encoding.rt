@@ -169,6 +169,7 @@ pub extern "C" fn qrproved_encode(
 #[cfg(test)]
 mod tests {
     use super::*;
+    use crate::checks::{check, check_eq};
     use std::test::Fail;
 
     // The symbol of `A` in byte mode at version 1 and level L (1-L), as another encoder draws it.
@@ -197,7 +198,7 @@ mod tests {
     ];
 
     // The number of the default interpretation, by which a symbol says nothing of what its bytes mean.
-    const NONE: u32 = 1_000_000;
+    const DEFAULT: u32 = 1_000_000;
 
     fn nothing() -> QrprovedSymbol {
         QrprovedSymbol {
@@ -218,13 +219,13 @@ mod tests {
             1,
             0,
             1,
-            NONE,
+            DEFAULT,
             0,
             &mut modules,
             &mut symbol,
         );
-        assert_eq!(rt; status, DONE);
-        assert_eq!(rt;
+        check_eq!(rt; status, DONE);
+        check_eq!(rt;
             (symbol.version, symbol.side, symbol.level, symbol.mask),
             (1, 21, 0, 0)
         );
@@ -232,14 +233,14 @@ mod tests {
             for col in 0..21u8 {
                 let byte = modules.get(21 * usize::from(row) + usize::from(col));
                 let is_dark = ROWS[usize::from(row)] >> (20 - col) & 1 == 1;
-                assert_eq!(rt;
+                check_eq!(rt;
                     byte.copied(),
                     Some(u8::from(is_dark)),
                     "row {row}, column {col}"
                 );
             }
         }
-        assert_eq!(rt;
+        check_eq!(rt;
             modules.get(441..),
             Some(&[7u8, 7][..]),
             "past the last module"
@@ -264,13 +265,13 @@ mod tests {
                 version,
                 level,
                 rule,
-                NONE,
+                DEFAULT,
                 0,
                 &mut modules,
                 &mut symbol,
             );
-            assert_eq!(rt; status, DONE, "{name}");
-            assert_eq!(rt; (symbol.version, symbol.mask), (least, mask), "{name}");
+            check_eq!(rt; status, DONE, "{name}");
+            check_eq!(rt; (symbol.version, symbol.mask), (least, mask), "{name}");
         }
         // Each input with its level, its rule and the least version that it fits (Table 7).
         let rows = [
@@ -294,13 +295,13 @@ mod tests {
                 1,
                 level,
                 rule,
-                NONE,
+                DEFAULT,
                 0,
                 &mut modules,
                 &mut symbol,
             );
-            assert_eq!(rt; status, DONE, "{name}");
-            assert_eq!(rt; symbol.version, version, "{name}");
+            check_eq!(rt; status, DONE, "{name}");
+            check_eq!(rt; symbol.version, version, "{name}");
         }
         Ok(())
     }
@@ -318,13 +319,13 @@ mod tests {
                 1,
                 0,
                 rule,
-                NONE,
+                DEFAULT,
                 0,
                 &mut modules,
                 &mut symbol,
             );
-            assert_eq!(rt; status, DONE, "rule {rule}");
-            assert_eq!(rt; symbol.version, version, "rule {rule}");
+            check_eq!(rt; status, DONE, "rule {rule}");
+            check_eq!(rt; symbol.version, version, "rule {rule}");
         }
         Ok(())
     }
@@ -358,21 +359,21 @@ mod tests {
         for (name, input, version, level, rule, room, wanted) in rows {
             let mut modules = [7u8; 441];
             let mut symbol = nothing();
-            assert!(rt; room <= modules.len());
+            check!(rt; room <= modules.len());
             let status = qrproved_encode(
                 rt.alloc(),
                 input,
                 version,
                 level,
                 rule,
-                NONE,
+                DEFAULT,
                 0,
                 &mut modules[..room],
                 &mut symbol,
             );
-            assert_eq!(rt; status, wanted, "{name}");
-            assert!(rt; modules.iter().all(|byte| *byte == 7), "{name}");
-            assert_eq!(rt;
+            check_eq!(rt; status, wanted, "{name}");
+            check!(rt; modules.iter().all(|byte| *byte == 7), "{name}");
+            check_eq!(rt;
                 (symbol.version, symbol.side, symbol.level, symbol.mask),
                 (9, 9, 9, 9),
                 "{name}"
@@ -405,13 +406,13 @@ mod tests {
                 1,
                 level,
                 0,
-                NONE,
+                DEFAULT,
                 1,
                 &mut modules,
                 &mut symbol,
             );
-            assert_eq!(rt; status, DONE, "{name}");
-            assert_eq!(rt; (symbol.version, symbol.level), (version, used), "{name}");
+            check_eq!(rt; status, DONE, "{name}");
+            check_eq!(rt; (symbol.version, symbol.level), (version, used), "{name}");
         }
         Ok(())
     }
@@ -423,7 +424,7 @@ mod tests {
         let letters = [b'a'; 18];
         let digits = [b'7'; 41];
         let rows = [
-            ("17 letters", &letters[..17], NONE, 1u8),
+            ("17 letters", &letters[..17], DEFAULT, 1u8),
             ("16 letters as UTF-8", &letters[..16], 26, 1),
             ("17 letters as UTF-8", &letters[..17], 26, 2),
             ("16 letters with ECI 127", &letters[..16], 127, 1),
@@ -432,7 +433,7 @@ mod tests {
             ("15 letters with ECI 16,384", &letters[..15], 16384, 2),
             ("14 letters with ECI 999,999", &letters[..14], 999_999, 1),
             ("17 letters as GS1 data", &letters[..17], 1_000_001, 1),
-            ("41 digits", &digits[..], NONE, 1),
+            ("41 digits", &digits[..], DEFAULT, 1),
             ("40 digits as GS1 data", &digits[..40], 1_000_001, 1),
             ("41 digits as GS1 data", &digits[..], 1_000_001, 2),
         ];
@@ -450,8 +451,8 @@ mod tests {
                 &mut modules,
                 &mut symbol,
             );
-            assert_eq!(rt; status, DONE, "{name}");
-            assert_eq!(rt; symbol.version, version, "{name}");
+            check_eq!(rt; status, DONE, "{name}");
+            check_eq!(rt; symbol.version, version, "{name}");
         }
         Ok(())
     }
@@ -523,8 +524,8 @@ mod tests {
                 &mut modules,
                 &mut symbol,
             );
-            assert_eq!(rt; status, wanted, "{name}");
-            assert!(rt;
+            check_eq!(rt; status, wanted, "{name}");
+            check!(rt;
                 status == DONE || modules.iter().all(|byte| *byte == 7),
                 "{name}"
             );

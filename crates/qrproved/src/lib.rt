@@ -12,6 +12,8 @@
 //! that are found before memory is requested. These are reported even if memory would be refused.
 #![tactic(auto)]
 
+#[cfg(test)]
+mod checks;
 mod drawing;
 mod encoding;
 mod interpretation;

@@ -219,6 +219,7 @@ pub extern "C" fn qrproved_mend(
 #[cfg(test)]
 mod tests {
     use super::*;
+    use crate::checks::{check, check_eq};
     use crate::samples::{another_mode, eight_digits};
     use crate::series::{QrprovedSeries, qrproved_encode_series};
     use std::test::Fail;
@@ -292,22 +293,22 @@ mod tests {
             let mut bytes = [7u8; 10];
             let mut mended = nothing();
             let status = qrproved_mend(rt.alloc(), &modules, 21, &mut bytes, &mut [], &mut mended);
-            assert_eq!(rt; status, DONE, "{name}");
-            assert_eq!(rt; bytes, *b"01234567\x07\x07", "{name}");
-            assert_eq!(rt;
+            check_eq!(rt; status, DONE, "{name}");
+            check_eq!(rt; bytes, *b"01234567\x07\x07", "{name}");
+            check_eq!(rt;
                 (mended.len, mended.version, mended.level),
                 (8, 1, 1),
                 "{name}"
             );
-            assert_eq!(rt; mended.wrong_modules, wrong, "{name}");
-            assert_eq!(rt; mended.wrong_format_modules, wrong_format, "{name}");
-            assert_eq!(rt;
+            check_eq!(rt; mended.wrong_modules, wrong, "{name}");
+            check_eq!(rt; mended.wrong_format_modules, wrong_format, "{name}");
+            check_eq!(rt;
                 (mended.changed_most, mended.changed_allowed),
                 (changed, 4),
                 "{name}"
             );
-            assert!(rt; mended.mask < 8 && mended.has_header == 0 && mended.position == 0);
-            assert_eq!(rt; (mended.last, mended.parity), (0, 0), "{name}");
+            check!(rt; mended.mask < 8 && mended.has_header == 0 && mended.position == 0);
+            check_eq!(rt; (mended.last, mended.parity), (0, 0), "{name}");
         }
         Ok(())
     }
@@ -350,10 +351,10 @@ mod tests {
             let mut bytes = [7u8; 8];
             let mut mended = nothing();
             let status = qrproved_mend(rt.alloc(), &modules, 21, &mut bytes, &mut [], &mut mended);
-            assert_eq!(rt; status, wanted, "{name}");
-            assert_eq!(rt; mended.wrong_modules, wrong, "{name}");
-            assert_eq!(rt; mended.wrong_format_modules, wrong_format, "{name}");
-            assert_eq!(rt; mended.changed_most, changed, "{name}");
+            check_eq!(rt; status, wanted, "{name}");
+            check_eq!(rt; mended.wrong_modules, wrong, "{name}");
+            check_eq!(rt; mended.wrong_format_modules, wrong_format, "{name}");
+            check_eq!(rt; mended.changed_most, changed, "{name}");
         }
         Ok(())
     }
@@ -372,7 +373,7 @@ mod tests {
             &mut modules,
             &mut series,
         );
-        assert_eq!(rt; status, DONE);
+        check_eq!(rt; status, DONE);
         // This module is a bit of the second symbol's first codeword. `min` is for the prover.
         modules[881] = 1 - modules[881].min(1);
         let mut bytes = [7u8; 3];
@@ -385,13 +386,13 @@ mod tests {
             &mut [],
             &mut mended,
         );
-        assert_eq!(rt; status, DONE);
-        assert_eq!(rt; bytes, *b"FGH");
-        assert_eq!(rt; (mended.len, mended.version, mended.level), (3, 1, 3));
-        assert_eq!(rt; (mended.has_header, mended.position), (1, 1));
-        assert_eq!(rt; (mended.last, mended.parity), (1, 0x08));
-        assert_eq!(rt; (mended.wrong_modules, mended.wrong_format_modules), (1, 0));
-        assert_eq!(rt; (mended.changed_most, mended.changed_allowed), (1, 8));
+        check_eq!(rt; status, DONE);
+        check_eq!(rt; bytes, *b"FGH");
+        check_eq!(rt; (mended.len, mended.version, mended.level), (3, 1, 3));
+        check_eq!(rt; (mended.has_header, mended.position), (1, 1));
+        check_eq!(rt; (mended.last, mended.parity), (1, 0x08));
+        check_eq!(rt; (mended.wrong_modules, mended.wrong_format_modules), (1, 0));
+        check_eq!(rt; (mended.changed_most, mended.changed_allowed), (1, 8));
         Ok(())
     }
 
@@ -424,7 +425,7 @@ mod tests {
         for (name, modules, side, room, wanted) in rows {
             let mut bytes = [7u8; 8];
             let mut mended = nothing();
-            assert!(rt; room <= bytes.len());
+            check!(rt; room <= bytes.len());
             let status = qrproved_mend(
                 rt.alloc(),
                 modules,
@@ -433,18 +434,18 @@ mod tests {
                 &mut [],
                 &mut mended,
             );
-            assert_eq!(rt; status, wanted, "{name}");
-            assert_eq!(rt; bytes, [7u8; 8], "{name}");
-            assert_eq!(rt; (mended.len, mended.wrong_modules), (9, 99), "{name}");
-            assert_eq!(rt; (mended.version, mended.has_header), (9, 9), "{name}");
-            assert_eq!(rt;
+            check_eq!(rt; status, wanted, "{name}");
+            check_eq!(rt; bytes, [7u8; 8], "{name}");
+            check_eq!(rt; (mended.len, mended.wrong_modules), (9, 99), "{name}");
+            check_eq!(rt; (mended.version, mended.has_header), (9, 9), "{name}");
+            check_eq!(rt;
                 (mended.position, mended.last, mended.parity),
                 (9, 9, 9),
                 "{name}"
             );
-            assert_eq!(rt; (mended.level, mended.mask), (9, 9), "{name}");
-            assert_eq!(rt; mended.wrong_format_modules, 9, "{name}");
-            assert_eq!(rt;
+            check_eq!(rt; (mended.level, mended.mask), (9, 9), "{name}");
+            check_eq!(rt; mended.wrong_format_modules, 9, "{name}");
+            check_eq!(rt;
                 (mended.changed_most, mended.changed_allowed),
                 (9, 9),
                 "{name}"

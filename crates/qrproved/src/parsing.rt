@@ -88,6 +88,7 @@ pub extern "C" fn qrproved_parse_drawing(
 #[cfg(test)]
 mod tests {
     use super::*;
+    use crate::checks::{check, check_eq};
     use crate::drawing::qrproved_draw;
     use std::test::Fail;
 
@@ -121,13 +122,13 @@ mod tests {
         let mut modules = [7u8; 66];
         let mut drawn = nothing();
         let status = qrproved_parse_drawing(rt.alloc(), &ASCII, &mut modules, &mut drawn);
-        assert_eq!(rt; status, DONE);
-        assert_eq!(rt; (drawn.drawing, drawn.margin), (0, 0));
-        assert_eq!(rt; (drawn.count, drawn.side), (1, 8));
+        check_eq!(rt; status, DONE);
+        check_eq!(rt; (drawn.drawing, drawn.margin), (0, 0));
+        check_eq!(rt; (drawn.count, drawn.side), (1, 8));
         for (y, row) in ROWS.iter().enumerate() {
-            assert_eq!(rt; modules.get(8 * y..8 * y + 8), Some(*row), "row {y}");
+            check_eq!(rt; modules.get(8 * y..8 * y + 8), Some(*row), "row {y}");
         }
-        assert_eq!(rt; modules.get(64..), Some(&[7u8, 7][..]));
+        check_eq!(rt; modules.get(64..), Some(&[7u8, 7][..]));
         Ok(())
     }
 
@@ -153,15 +154,15 @@ mod tests {
                     &mut text,
                     &mut written,
                 );
-                assert_eq!(rt; status, DONE, "drawing {drawing}, margin {margin}");
+                check_eq!(rt; status, DONE, "drawing {drawing}, margin {margin}");
                 text.truncate(written);
                 let mut modules = [7u8; 128];
                 let mut drawn = nothing();
                 let status = qrproved_parse_drawing(rt.alloc(), &text, &mut modules, &mut drawn);
-                assert_eq!(rt; status, DONE, "drawing {drawing}, margin {margin}");
-                assert_eq!(rt; (drawn.drawing, drawn.margin), (drawing, margin));
-                assert_eq!(rt; (drawn.count, drawn.side), (2, 8));
-                assert!(rt; modules == squares, "drawing {drawing}, margin {margin}");
+                check_eq!(rt; status, DONE, "drawing {drawing}, margin {margin}");
+                check_eq!(rt; (drawn.drawing, drawn.margin), (drawing, margin));
+                check_eq!(rt; (drawn.count, drawn.side), (2, 8));
+                check!(rt; modules == squares, "drawing {drawing}, margin {margin}");
             }
         }
         Ok(())
@@ -178,12 +179,12 @@ mod tests {
         for (name, text, room, wanted) in rows {
             let mut modules = [7u8; 64];
             let mut drawn = nothing();
-            assert!(rt; room <= modules.len());
+            check!(rt; room <= modules.len());
             let status = qrproved_parse_drawing(rt.alloc(), text, &mut modules[..room], &mut drawn);
-            assert_eq!(rt; status, wanted, "{name}");
-            assert!(rt; modules.iter().all(|byte| *byte == 7), "{name}");
-            assert_eq!(rt; (drawn.drawing, drawn.margin), (9, 9), "{name}");
-            assert_eq!(rt; (drawn.count, drawn.side), (9, 9), "{name}");
+            check_eq!(rt; status, wanted, "{name}");
+            check!(rt; modules.iter().all(|byte| *byte == 7), "{name}");
+            check_eq!(rt; (drawn.drawing, drawn.margin), (9, 9), "{name}");
+            check_eq!(rt; (drawn.count, drawn.side), (9, 9), "{name}");
         }
         Ok(())
     }

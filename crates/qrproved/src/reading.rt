@@ -149,6 +149,7 @@ pub extern "C" fn qrproved_read(
 #[cfg(test)]
 mod tests {
     use super::*;
+    use crate::checks::{check, check_eq};
     use crate::samples::{another_mode, eight_digits};
     use crate::series::{QrprovedSeries, qrproved_encode_series};
     use std::test::Fail;
@@ -177,13 +178,13 @@ mod tests {
         let mut bytes = [7u8; 10];
         let mut content = nothing();
         let status = qrproved_read(rt.alloc(), &modules, 21, &mut bytes, &mut [], &mut content);
-        assert_eq!(rt; status, DONE);
-        assert_eq!(rt; bytes, *b"01234567\x07\x07");
-        assert_eq!(rt;
+        check_eq!(rt; status, DONE);
+        check_eq!(rt; bytes, *b"01234567\x07\x07");
+        check_eq!(rt;
             (content.len, content.version, content.has_header),
             (8, 1, 0)
         );
-        assert_eq!(rt; (content.position, content.last, content.parity), (0, 0, 0));
+        check_eq!(rt; (content.position, content.last, content.parity), (0, 0, 0));
         Ok(())
     }
 
@@ -201,7 +202,7 @@ mod tests {
             &mut modules,
             &mut series,
         );
-        assert_eq!(rt; status, DONE);
+        check_eq!(rt; status, DONE);
         let rows = [
             (0u8, &modules[..441], &b"ABCDE"[..]),
             (1, &modules[441..], &b"FGH"[..]),
@@ -210,11 +211,11 @@ mod tests {
             let mut bytes = [7u8; 5];
             let mut content = nothing();
             let status = qrproved_read(rt.alloc(), square, 21, &mut bytes, &mut [], &mut content);
-            assert_eq!(rt; status, DONE);
-            assert_eq!(rt; bytes.get(..part.len()), Some(part), "symbol {position}");
-            assert_eq!(rt; content.len, part.len());
-            assert_eq!(rt; (content.has_header, content.position), (1, position));
-            assert_eq!(rt; (content.last, content.parity), (1, 0x08));
+            check_eq!(rt; status, DONE);
+            check_eq!(rt; bytes.get(..part.len()), Some(part), "symbol {position}");
+            check_eq!(rt; content.len, part.len());
+            check_eq!(rt; (content.has_header, content.position), (1, position));
+            check_eq!(rt; (content.last, content.parity), (1, 0x08));
         }
         Ok(())
     }
@@ -243,7 +244,7 @@ mod tests {
         for (name, modules, side, room, wanted) in rows {
             let mut bytes = [7u8; 8];
             let mut content = nothing();
-            assert!(rt; room <= bytes.len());
+            check!(rt; room <= bytes.len());
             let status = qrproved_read(
                 rt.alloc(),
                 modules,
@@ -252,9 +253,9 @@ mod tests {
                 &mut [],
                 &mut content,
             );
-            assert_eq!(rt; status, wanted, "{name}");
-            assert_eq!(rt; bytes, [7u8; 8], "{name}");
-            assert_eq!(rt;
+            check_eq!(rt; status, wanted, "{name}");
+            check_eq!(rt; bytes, [7u8; 8], "{name}");
+            check_eq!(rt;
                 (content.len, content.version, content.has_header),
                 (9, 9, 9),
                 "{name}"

@@ -110,6 +110,7 @@ pub extern "C" fn qrproved_encode_series(
 #[cfg(test)]
 mod tests {
     use super::*;
+    use crate::checks::{check, check_eq};
     use std::test::Fail;
 
     // In byte mode at version 1 and level H, the first of two symbols contains five of the eight letters.
@@ -127,17 +128,17 @@ mod tests {
             &mut modules,
             &mut series,
         );
-        assert_eq!(rt; status, DONE);
-        assert_eq!(rt; (series.count, series.side), (2, 21));
+        check_eq!(rt; status, DONE);
+        check_eq!(rt; (series.count, series.side), (2, 21));
         for start in [0usize, 441] {
             let edge = modules.get(start..start + 8);
-            assert_eq!(rt;
+            check_eq!(rt;
                 edge,
                 Some(&[1u8, 1, 1, 1, 1, 1, 1, 0][..]),
                 "a finder pattern and its separator"
             );
         }
-        assert_eq!(rt;
+        check_eq!(rt;
             modules.get(882..),
             Some(&[7u8, 7][..]),
             "past the last module"
@@ -161,7 +162,7 @@ mod tests {
         for (name, input, version, level, rule, room, wanted) in rows {
             let mut modules = [7u8; 882];
             let mut series = QrprovedSeries { count: 9, side: 9 };
-            assert!(rt; room <= modules.len());
+            check!(rt; room <= modules.len());
             let status = qrproved_encode_series(
                 rt.alloc(),
                 input,
@@ -172,9 +173,9 @@ mod tests {
                 &mut modules[..room],
                 &mut series,
             );
-            assert_eq!(rt; status, wanted, "{name}");
-            assert!(rt; modules.iter().all(|byte| *byte == 7), "{name}");
-            assert_eq!(rt; (series.count, series.side), (9, 9), "{name}");
+            check_eq!(rt; status, wanted, "{name}");
+            check!(rt; modules.iter().all(|byte| *byte == 7), "{name}");
+            check_eq!(rt; (series.count, series.side), (9, 9), "{name}");
         }
         Ok(())
     }

@@ -1,12 +1,15 @@
 //! Tests of the functions that make a symbol from an input or from codewords.
 
+use crate::checks::{check, check_eq};
 use crate::samples::EIGHT_DIGITS;
 use qr_bits::{INPUT_MAX, Interpretation, Rule};
 use qr_layout::{Level, Version};
+use qr_matrix::Matrix;
 use qr_symbol::laws::plain_and_fast_symbols_are_one;
 use qr_symbol::{
     EncodeFault, build, build_masked, deinterleave, draw_symbol, encode, encode_boosted, interleave,
 };
+use std::process::Abort;
 use std::test::Fail;
 
 #[test]
@@ -20,7 +23,7 @@ fn masks(rt: HostRuntime) -> Result<(), Fail> {
     ];
     let first = Version::FIRST;
     for (name, input, level, mask) in rows {
-        assert!(rt; input.len() <= INPUT_MAX);
+        check!(rt; input.len() <= INPUT_MAX);
         let symbol = encode(
             rt.alloc(),
             input,
@@ -29,8 +32,8 @@ fn masks(rt: HostRuntime) -> Result<(), Fail> {
             Rule::Auto,
             Interpretation::Default,
         )?;
-        assert_eq!(rt; symbol.version, first, "{name}");
-        assert_eq!(rt; symbol.mask, mask, "{name}");
+        check_eq!(rt; symbol.version, first, "{name}");
+        check_eq!(rt; symbol.mask, mask, "{name}");
     }
     Ok(())
 }
@@ -46,7 +49,7 @@ fn versions(rt: HostRuntime) -> Result<(), Fail> {
     ];
     for (name, len, smallest, version) in rows {
         let smallest = Version::new(smallest).ok_or("smallest version")?;
-        assert!(rt; len <= digits.len());
+        check!(rt; len <= digits.len());
         let symbol = encode(
             rt.alloc(),
             &digits[..len],
@@ -55,7 +58,7 @@ fn versions(rt: HostRuntime) -> Result<(), Fail> {
             Rule::Auto,
             Interpretation::Default,
         )?;
-        assert_eq!(rt; symbol.version.number(), version, "{name}");
+        check_eq!(rt; symbol.version.number(), version, "{name}");
     }
     Ok(())
 }
@@ -75,12 +78,12 @@ fn highest_levels(rt: HostRuntime) -> Result<(), Fail> {
     ];
     let first = Version::FIRST;
     for (name, len, lowest, version, level) in rows {
-        assert!(rt; len <= digits.len());
+        check!(rt; len <= digits.len());
         let input = &digits[..len];
         let plain = Interpretation::Default;
         let symbol = encode_boosted(rt.alloc(), input, lowest, first, Rule::Auto, plain)?;
-        assert_eq!(rt; symbol.version.number(), version, "{name}");
-        assert_eq!(rt; symbol.level, level, "{name}");
+        check_eq!(rt; symbol.version.number(), version, "{name}");
+        check_eq!(rt; symbol.level, level, "{name}");
     }
     Ok(())
 }
@@ -96,7 +99,7 @@ fn refusals(rt: HostRuntime) -> Result<(), Fail> {
         Rule::Auto,
         Interpretation::Default,
     );
-    assert!(rt; matches!(fault, Err(EncodeFault::Empty)), "no byte");
+    check!(rt; matches!(fault, Err(EncodeFault::Empty)), "no byte");
     let fault = encode(
         rt.alloc(),
         &[b'7'; 7090],
@@ -105,7 +108,7 @@ fn refusals(rt: HostRuntime) -> Result<(), Fail> {
         Rule::Auto,
         Interpretation::Default,
     );
-    assert!(rt; matches!(fault, Err(EncodeFault::TooLong)), "7,090 digits");
+    check!(rt; matches!(fault, Err(EncodeFault::TooLong)), "7,090 digits");
     let fault = encode(
         rt.alloc(),
         &[b'a'; 2954],
@@ -114,7 +117,7 @@ fn refusals(rt: HostRuntime) -> Result<(), Fail> {
         Rule::Auto,
         Interpretation::Default,
     );
-    assert!(rt; matches!(fault, Err(EncodeFault::TooLong)), "2,954 bytes");
+    check!(rt; matches!(fault, Err(EncodeFault::TooLong)), "2,954 bytes");
     let fault = encode(
         rt.alloc(),
         &[b'7'; INPUT_MAX],
@@ -123,7 +126,7 @@ fn refusals(rt: HostRuntime) -> Result<(), Fail> {
         Rule::Auto,
         Interpretation::Default,
     );
-    assert!(rt;
+    check!(rt;
         matches!(fault, Err(EncodeFault::TooLong)),
         "the longest input"
     );
@@ -162,10 +165,10 @@ fn masks_of_least_penalty(rt: HostRuntime) -> Result<(), Fail> {
             message.push(pad)?;
             pad = if pad == 0x11 { 0xEC } else { 0x11 };
         }
-        assert!(rt; message.len() == wanted);
+        check!(rt; message.len() == wanted);
         let codewords = interleave(rt.alloc(), version, level, &message)?;
         let symbol = build(rt.alloc(), version, level, &codewords)?;
-        assert_eq!(rt; symbol.mask, mask, "{name}");
+        check_eq!(rt; symbol.mask, mask, "{name}");
     }
     Ok(())
 }
@@ -195,30 +198,28 @@ static ROWS: [u32; 21] = [
     0b111111101001011100101,
 ];
 
+// Returns row and column of the first module that is not as in `ROWS`, if there is one.
+fn first_difference(rt: &impl Abort, matrix: &Matrix) -> Option<(u8, u8)> {
+    check!(*rt; matrix.side() == 21);
+    for row in 0..21u8 {
+        for col in 0..21u8 {
+            if matrix.dark(row, col) != (ROWS[usize::from(row)] >> (20 - col) & 1 == 1) {
+                return Some((row, col));
+            }
+        }
+    }
+    None
+}
+
 #[test]
 fn eight_digits_at_1_m(rt: HostRuntime) -> Result<(), Fail> {
     let version = Version::FIRST;
-    assert!(rt; version.total_codewords() == 26);
+    check!(rt; version.total_codewords() == 26);
     let symbol = build_masked(rt.alloc(), version, Level::M, &EIGHT_DIGITS, 0)?;
-    assert!(rt; symbol.matrix.side() == 21);
-    assert!(rt; symbol.version == version && symbol.level == Level::M && symbol.mask == 0);
+    check!(rt; symbol.version == version && symbol.level == Level::M && symbol.mask == 0);
+    check_eq!(rt; first_difference(&rt, &symbol.matrix), None);
     let drawn = draw_symbol(rt.alloc(), version, Level::M, &EIGHT_DIGITS, 0)?;
-    assert!(rt; drawn.side() == 21);
-    for row in 0..21u8 {
-        for col in 0..21u8 {
-            let dark = ROWS[usize::from(row)] >> (20 - col) & 1 == 1;
-            assert_eq!(rt;
-                symbol.matrix.dark(row, col),
-                dark,
-                "row {row}, column {col}"
-            );
-            assert_eq!(rt;
-                drawn.dark(row, col),
-                dark,
-                "drawn, row {row}, column {col}"
-            );
-        }
-    }
+    check_eq!(rt; first_difference(&rt, &drawn), None, "drawn");
     Ok(())
 }
 
@@ -230,24 +231,37 @@ fn four_blocks_of_two_lengths(rt: HostRuntime) -> Result<(), Fail> {
         message.push(byte)?;
     }
     let wanted = version.data_codewords(Level::Q);
-    assert!(rt; message.len() == usize::from(wanted));
+    check!(rt; message.len() == usize::from(wanted));
     let interleaved = interleave(rt.alloc(), version, Level::Q, &message)?;
-    assert!(rt; interleaved.len() == 134, "five and Q hold 134 codewords");
+    check!(rt; interleaved.len() == 134, "five and Q hold 134 codewords");
     let first = [0u8, 15, 30, 46, 1, 16, 31, 47];
-    assert_eq!(rt;
+    check_eq!(rt;
         &interleaved[..8],
         &first[..],
         "the first codewords of the four blocks"
     );
     let last = [45u8, 61];
-    assert_eq!(rt;
+    check_eq!(rt;
         &interleaved[60..62],
         &last[..],
         "the sixteenth of the two long blocks"
     );
     let again = deinterleave(rt.alloc(), version, Level::Q, &interleaved)?;
-    assert_eq!(rt; &again[..], &message[..], "put back");
+    check_eq!(rt; &again[..], &message[..], "put back");
     Ok(())
+}
+
+// Returns row and column of the first module in which two squares differ, if there is one.
+fn first_that_differs(rt: &impl Abort, plain: &Matrix, fast: &Matrix) -> Option<(u8, u8)> {
+    check!(*rt; plain.side() == fast.side());
+    for row in 0..plain.side() {
+        for col in 0..plain.side() {
+            if plain.dark(row, col) != fast.dark(row, col) {
+                return Some((row, col));
+            }
+        }
+    }
+    None
 }
 
 // `build` and `build_masked` make the same symbols. Some of these versions have no remainder bits, and others three,
@@ -260,25 +274,19 @@ fn plain_and_fast_symbols(rt: HostRuntime) -> Result<(), Fail> {
         for place in 0..version.total_codewords() {
             codewords.push((place % 251) as u8)?;
         }
-        assert!(rt; codewords.len() == usize::from(version.total_codewords()));
+        check!(rt; codewords.len() == usize::from(version.total_codewords()));
         let (plain, fast) = plain_and_fast_symbols_are_one(
             rt.alloc(),
             version,
             Level::Q,
             &codewords,
         )?;
-        let side = version.side();
-        assert!(rt; plain.matrix.side() == side && fast.matrix.side() == side);
-        for row in 0..side {
-            for col in 0..side {
-                assert!(rt; row < plain.matrix.side() && col < plain.matrix.side());
-                assert!(rt; row < fast.matrix.side() && col < fast.matrix.side());
-                assert!(rt;
-                    plain.matrix.dark(row, col) == fast.matrix.dark(row, col),
-                    "version {number}, row {row}, column {col}"
-                );
-            }
-        }
+        check_eq!(rt; plain.matrix.side(), version.side());
+        check_eq!(rt;
+            first_that_differs(&rt, &plain.matrix, &fast.matrix),
+            None,
+            "version {number}"
+        );
     }
     Ok(())
 }

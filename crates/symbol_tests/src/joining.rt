@@ -2,6 +2,7 @@
 
 ghost use Rattle.std.specs.Prelude.{◌<◌};
 
+use crate::checks::{check, check_eq};
 use crate::samples::{byte_codewords, byte_symbol};
 use qr_bits::Header;
 use qr_layout::{Level, Version};
@@ -52,7 +53,7 @@ fn a_letter(rt: HostRuntime) -> Result<(), Fail> {
         0x30, 0x04, 0x14, 0x01, 0x41, 0x00, 0xEC, 0x11, 0xEC, 0x11, 0xEC, 0x11, 0xEC, 0x11, 0xEC,
         0x11, 0xEC, 0x11, 0xEC,
     ];
-    assert_eq!(rt;
+    check_eq!(rt;
         message.as_slice(),
         wanted.as_slice(),
         "a header, a byte and pads"
@@ -60,7 +61,7 @@ fn a_letter(rt: HostRuntime) -> Result<(), Fail> {
     for (name, header) in [("a plain symbol", None), ("a series of one", Some(header))] {
         let symbols = [byte_symbol(&rt, b"A", header, Level::L)?];
         let joined = read_series(rt.alloc(), &symbols)?;
-        assert_eq!(rt; joined.as_slice(), b"A".as_slice(), "{name}");
+        check_eq!(rt; joined.as_slice(), b"A".as_slice(), "{name}");
     }
     Ok(())
 }
@@ -69,56 +70,57 @@ fn a_letter(rt: HostRuntime) -> Result<(), Fail> {
 fn two_parts(rt: HostRuntime) -> Result<(), Fail> {
     let parts = [part(&rt, 0)?, part(&rt, 1)?];
     let joined = read_series(rt.alloc(), &parts)?;
-    assert_eq!(rt; joined.as_slice(), b"ABCDEFGH".as_slice());
+    check_eq!(rt; joined.as_slice(), b"ABCDEFGH".as_slice());
     Ok(())
+}
+
+// Says whether `read_series` refuses these symbols with this fault.
+fn refuses(rt: &HostRuntime, symbols: &[Symbol], fault: ReadFault) -> bool {
+    read_series(rt.alloc(), symbols).err() == Some(fault)
 }
 
 #[test]
 fn refusals(rt: HostRuntime) -> Result<(), Fail> {
+    let series = ReadFault::Series;
+    check!(rt; refuses(&rt, &[], series), "no symbol");
     let other = Header {
         position: 0,
         last: 0,
         parity: 0x40,
     };
     let parity = [byte_symbol(&rt, b"A", Some(other), Level::L)?];
+    check!(rt; refuses(&rt, &parity, series), "the parity of another letter");
     let plain = [
         byte_symbol(&rt, b"A", None, Level::L)?,
         byte_symbol(&rt, b"A", None, Level::L)?,
     ];
+    check!(rt; refuses(&rt, &plain, series), "two plain symbols");
+    Ok(())
+}
+
+#[test]
+fn refusals_of_parts(rt: HostRuntime) -> Result<(), Fail> {
+    let series = ReadFault::Series;
     let exchanged = [part(&rt, 1)?, part(&rt, 0)?];
+    check!(rt; refuses(&rt, &exchanged, series), "the second part before the first");
     let alone = [part(&rt, 0)?];
+    check!(rt; refuses(&rt, &alone, series), "the first part alone");
     let twice = [part(&rt, 0)?, part(&rt, 0)?];
+    check!(rt; refuses(&rt, &twice, series), "the first part twice");
+    Ok(())
+}
+
+#[test]
+fn first_refusals(rt: HostRuntime) -> Result<(), Fail> {
     let side = [part(&rt, 0)?, light(&rt, 20)?, light(&rt, 21)?];
+    check!(rt;
+        refuses(&rt, &side, ReadFault::Side),
+        "a side of no version, then no format"
+    );
     let format = [part(&rt, 0)?, light(&rt, 21)?, light(&rt, 20)?];
-    let rows = [
-        ("no symbol", &[][..], ReadFault::Series),
-        (
-            "the parity of another letter",
-            &parity[..],
-            ReadFault::Series,
-        ),
-        ("two plain symbols", &plain[..], ReadFault::Series),
-        (
-            "the second part before the first",
-            &exchanged[..],
-            ReadFault::Series,
-        ),
-        ("the first part alone", &alone[..], ReadFault::Series),
-        ("the first part twice", &twice[..], ReadFault::Series),
-        (
-            "a side of no version, then no format",
-            &side[..],
-            ReadFault::Side,
-        ),
-        (
-            "no format, then a side of no version",
-            &format[..],
-            ReadFault::Format,
-        ),
-    ];
-    for (name, symbols, fault) in rows {
-        let joined = read_series(rt.alloc(), symbols);
-        assert_eq!(rt; joined.err(), Some(fault), "{name}");
-    }
+    check!(rt;
+        refuses(&rt, &format, ReadFault::Format),
+        "no format, then a side of no version"
+    );
     Ok(())
 }

@@ -1,5 +1,6 @@
 //! Tests of `label`, the function of the crate `example_label`.
 
+use crate::checks::{check, check_eq};
 use example_label::label;
 use qr_layout::{Level, Version};
 use qr_symbol::EncodeFault;
@@ -10,9 +11,9 @@ use std::test::Fail;
 fn a_letter_at_1_l(rt: HostRuntime) -> Result<(), Fail> {
     let version = Version::new(1).ok_or("version 1")?;
     let text = label(rt.alloc(), b"A", Level::L, version)?;
-    assert_eq!(rt; text.len(), 21 * 22 + 2);
-    assert_eq!(rt; text.get(..7), Some(&b"#######"[..]));
-    assert_eq!(rt; text.get(21 * 22..), Some(&b"A\n"[..]));
+    check_eq!(rt; text.len(), 21 * 22 + 2);
+    check_eq!(rt; text.get(..7), Some(&b"#######"[..]));
+    check_eq!(rt; text.get(21 * 22..), Some(&b"A\n"[..]));
     Ok(())
 }
 
@@ -20,8 +21,8 @@ fn a_letter_at_1_l(rt: HostRuntime) -> Result<(), Fail> {
 #[test]
 fn refusals(rt: HostRuntime) -> Result<(), Fail> {
     let fault = label(rt.alloc(), b"", Level::L, Version::FIRST);
-    assert!(rt; matches!(fault, Err(EncodeFault::Empty)), "no words");
+    check!(rt; matches!(fault, Err(EncodeFault::Empty)), "no words");
     let fault = label(rt.alloc(), &[b'a'; 2954], Level::L, Version::FIRST);
-    assert!(rt; matches!(fault, Err(EncodeFault::TooLong)), "2,954 bytes");
+    check!(rt; matches!(fault, Err(EncodeFault::TooLong)), "2,954 bytes");
     Ok(())
 }

@@ -1,3 +1,4 @@
+use crate::checks::{check, check_eq};
 use crate::samples::EIGHT_DIGITS;
 use qr_field::Divisor;
 use qr_mending::{mend, mend_with_erasures};
@@ -9,16 +10,16 @@ use std::process::Abort;
 fn mended_count(rt: &impl Abort, t: usize, damage: &[(usize, u8)]) -> Option<usize> {
     let mut damaged = EIGHT_DIGITS;
     for (place, codeword) in damage {
-        assert!(rt; *place < 26);
+        check!(rt; *place < 26);
         damaged[*place] = *codeword;
     }
     let divisor = Divisor::new(10);
-    assert!(rt; t <= 5 && divisor.count() == 10);
+    check!(rt; t <= 5 && divisor.count() == 10);
     let before = damaged;
     match mend(&divisor, t, &mut damaged) {
-        None => assert!(rt; damaged == before),
+        None => check!(rt; damaged == before),
         Some(changed) => {
-            assert!(rt; damaged == EIGHT_DIGITS);
+            check!(rt; damaged == EIGHT_DIGITS);
             return Some(changed);
         }
     }
@@ -41,7 +42,7 @@ fn block_of_eight_digits_damaged(rt: HostRuntime) {
         ("six codewords", 5, &six[..], None),
     ];
     for (name, t, damage, mended) in rows {
-        assert_eq!(rt; mended_count(&rt, t, damage), mended, "{name}");
+        check_eq!(rt; mended_count(&rt, t, damage), mended, "{name}");
     }
 }
 
@@ -57,21 +58,21 @@ fn mended_with_erasures(
     let mut damaged = EIGHT_DIGITS;
     let mut erased = [false; 26];
     for (place, codeword) in unread {
-        assert!(rt; *place < 26);
+        check!(rt; *place < 26);
         damaged[*place] = *codeword;
         erased[*place] = true;
     }
     for (place, codeword) in misread {
-        assert!(rt; *place < 26);
+        check!(rt; *place < 26);
         damaged[*place] = *codeword;
     }
     let divisor = Divisor::new(10);
-    assert!(rt; spare <= 10 && divisor.count() == 10);
+    check!(rt; spare <= 10 && divisor.count() == 10);
     let before = damaged;
     match mend_with_erasures(&divisor, spare, &erased, &mut damaged) {
-        None => assert!(rt; damaged == before),
+        None => check!(rt; damaged == before),
         Some(count) => {
-            assert!(rt; damaged == EIGHT_DIGITS);
+            check!(rt; damaged == EIGHT_DIGITS);
             return Some(count);
         }
     }
@@ -167,7 +168,7 @@ fn block_of_eight_digits_with_erasures(rt: HostRuntime) {
         ("four misread", 10, &unread[..0], &misread[..], Some(4)),
     ];
     for (name, spare, unread, misread, mended) in rows {
-        assert_eq!(rt;
+        check_eq!(rt;
             mended_with_erasures(&rt, spare, unread, misread),
             mended,
             "{name}"

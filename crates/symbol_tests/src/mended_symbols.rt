@@ -1,20 +1,16 @@
 //! Tests of damaged symbols and series.
 
+use crate::checks::{check, check_eq};
 use crate::samples::EIGHT_DIGITS;
 use qr_bits::{Interpretation, Rule};
 use qr_layout::{Level, Version};
 use qr_matrix::Matrix;
-use qr_mending::{mend_series, mend_symbol, mend_symbol_with_unknown};
-use qr_symbol::{ReadFault, build_masked, encode_series};
+use qr_mending::{Mended, mend_series, mend_symbol, mend_symbol_with_unknown};
+use qr_symbol::{ReadFault, Symbol, build_masked, encode_series};
 use std::test::Fail;
 
-// Mends the symbol of the input `01234567` at version 1 and level M (1-M) with these modules inverted. Returns the
-// number of misread codewords, the number of wrong modules in the format information, and the number of wrong modules
-// in the whole square.
-fn mend_inverted(
-    rt: &HostRuntime,
-    modules: &[(u8, u8)],
-) -> Result<Result<(usize, u8, u32), ReadFault>, Fail> {
+// Returns the symbol of the input `01234567` at version 1 and level M (1-M) with these modules inverted.
+fn inverted(rt: &HostRuntime, modules: &[(u8, u8)]) -> Result<Symbol, Fail> {
     let version = Version::FIRST;
     if version.total_codewords() != 26 {
         return Err("26 codewords".into());
@@ -27,7 +23,16 @@ fn mend_inverted(
         let dark = symbol.matrix.dark(*row, *col);
         symbol.matrix.set(*row, *col, !dark);
     }
-    match mend_symbol(rt.alloc(), &symbol.matrix) {
+    Ok(symbol)
+}
+
+// What was wrong in a symbol: the number of misread codewords, the number of wrong modules in the format information,
+// and the number of wrong modules in the whole square.
+type Wrong = (usize, u8, u32);
+
+// Returns what was wrong in a symbol that was mended, which has to contain `01234567`.
+fn wrong_in(mended: Result<Mended, ReadFault>) -> Result<Result<Wrong, ReadFault>, Fail> {
+    match mended {
         Err(fault) => Ok(Err(fault)),
         Ok(mended) => {
             if mended.parsed.bytes.as_slice() != b"01234567".as_slice() || mended.mask != 0 {
@@ -37,6 +42,12 @@ fn mend_inverted(
             Ok(Ok((changed, mended.wrong_format_modules, mended.wrong_modules)))
         }
     }
+}
+
+// Mends the symbol that `inverted` returns.
+fn mend_inverted(rt: &HostRuntime, modules: &[(u8, u8)]) -> Result<Result<Wrong, ReadFault>, Fail> {
+    let symbol = inverted(rt, modules)?;
+    wrong_in(mend_symbol(rt.alloc(), &symbol.matrix))
 }
 
 // At 1-M at most four misread codewords of the 26 are corrected, since two of the ten error correction codewords only
@@ -80,7 +91,7 @@ fn eight_digits_damaged(rt: HostRuntime) -> Result<(), Fail> {
         ("five codewords", &codewords[..], Err(ReadFault::Check)),
     ];
     for (name, modules, wanted) in rows {
-        assert_eq!(rt; mend_inverted(&rt, modules)?, wanted, "{name}");
+        check_eq!(rt; mend_inverted(&rt, modules)?, wanted, "{name}");
     }
     Ok(())
 }
@@ -103,37 +114,19 @@ fn mend_inverted_without(
     rt: &HostRuntime,
     modules: &[(u8, u8)],
     unread: usize,
-) -> Result<Result<(usize, u8, u32), ReadFault>, Fail> {
-    let version = Version::FIRST;
-    if version.total_codewords() != 26 {
-        return Err("26 codewords".into());
-    }
-    let mut symbol = build_masked(rt.alloc(), version, Level::M, &EIGHT_DIGITS, 0)?;
+) -> Result<Result<Wrong, ReadFault>, Fail> {
+    let symbol = inverted(rt, modules)?;
     let mut unknown = Matrix::new(rt.alloc(), 21)?;
-    for (i, (row, col)) in modules.iter().enumerate() {
-        if *row >= symbol.matrix.side() || *col >= symbol.matrix.side() {
-            return Err("no such module".into());
-        }
+    for (row, col) in modules.iter().take(unread) {
         if *row >= unknown.side() || *col >= unknown.side() {
             return Err("no such module".into());
         }
-        let dark = symbol.matrix.dark(*row, *col);
-        symbol.matrix.set(*row, *col, !dark);
-        unknown.set(*row, *col, i < unread);
+        unknown.set(*row, *col, true);
     }
     if unknown.side() != symbol.matrix.side() {
         return Err("another side".into());
     }
-    match mend_symbol_with_unknown(rt.alloc(), &symbol.matrix, &unknown) {
-        Err(fault) => Ok(Err(fault)),
-        Ok(mended) => {
-            if mended.parsed.bytes.as_slice() != b"01234567".as_slice() || mended.mask != 0 {
-                return Err("something else is read".into());
-            }
-            let changed = mended.changed.first().copied().ok_or("a block")?;
-            Ok(Ok((changed, mended.wrong_format_modules, mended.wrong_modules)))
-        }
-    }
+    wrong_in(mend_symbol_with_unknown(rt.alloc(), &symbol.matrix, &unknown))
 }
 
 // At 1-M eight of the ten error correction codewords correct errors, and two only detect them. An erased codeword uses
@@ -166,7 +159,7 @@ fn eight_digits_with_unread_modules(rt: HostRuntime) -> Result<(), Fail> {
         ),
     ];
     for (name, modules, unread, wanted) in rows {
-        assert_eq!(rt;
+        check_eq!(rt;
             mend_inverted_without(&rt, modules, unread)?,
             wanted,
             "{name}"
@@ -201,29 +194,29 @@ fn damaged_parts(rt: &HostRuntime) -> Result<Vec<Matrix>, Fail> {
 #[test]
 fn two_damaged_parts(rt: HostRuntime) -> Result<(), Fail> {
     let parts = damaged_parts(&rt)?;
-    assert!(rt; parts.len() == 2);
+    check!(rt; parts.len() == 2);
     let bytes = mend_series(rt.alloc(), &parts)?;
-    assert_eq!(rt; bytes.as_slice(), b"ABCDEFGH".as_slice());
+    check_eq!(rt; bytes.as_slice(), b"ABCDEFGH".as_slice());
     Ok(())
 }
 
 #[test]
 fn refusals(rt: HostRuntime) -> Result<(), Fail> {
     let mut parts = damaged_parts(&rt)?;
-    assert!(rt; parts.len() == 2);
-    assert_eq!(rt;
+    check!(rt; parts.len() == 2);
+    check_eq!(rt;
         mend_series(rt.alloc(), &parts[..1]).err(),
         Some(ReadFault::Series)
     );
-    assert_eq!(rt; mend_series(rt.alloc(), &[]).err(), Some(ReadFault::Series));
+    check_eq!(rt; mend_series(rt.alloc(), &[]).err(), Some(ReadFault::Series));
     parts.swap(0, 1);
-    assert_eq!(rt;
+    check_eq!(rt;
         mend_series(rt.alloc(), &parts).err(),
         Some(ReadFault::Series)
     );
     parts.push(Matrix::new(rt.alloc(), 21)?)?;
     parts.push(Matrix::new(rt.alloc(), 20)?)?;
-    assert_eq!(rt;
+    check_eq!(rt;
         mend_series(rt.alloc(), &parts).err(),
         Some(ReadFault::Format)
     );

@@ -1,5 +1,6 @@
 //! Tests of `encode_series`.
 
+use crate::checks::{check, check_eq};
 use qr_bits::{Header, INPUT_MAX, Interpretation, Rule};
 use qr_layout::{Level, Version};
 use qr_symbol::{EncodeFault, Symbol, encode_series, read_series, read_symbol};
@@ -27,7 +28,7 @@ fn eight_letters_at_1_h(rt: HostRuntime) -> Result<(), Fail> {
         Rule::BytesOnly,
         Interpretation::Default,
     )?;
-    assert_eq!(rt; symbols.len(), 2);
+    check_eq!(rt; symbols.len(), 2);
     let parts = [(0, &b"ABCDE"[..]), (1, &b"FGH"[..])];
     for (symbol, (position, bytes)) in symbols.iter().zip(parts) {
         let header = Header {
@@ -35,13 +36,13 @@ fn eight_letters_at_1_h(rt: HostRuntime) -> Result<(), Fail> {
             last: 1,
             parity: 0x08,
         };
-        assert!(rt;
+        check!(rt;
             says(&rt, symbol, Some(header), bytes)?,
             "symbol {position}"
         );
     }
     let joined = read_series(rt.alloc(), &symbols)?;
-    assert_eq!(rt; joined.as_slice(), b"ABCDEFGH".as_slice());
+    check_eq!(rt; joined.as_slice(), b"ABCDEFGH".as_slice());
     Ok(())
 }
 
@@ -56,8 +57,8 @@ fn a_plain_symbol_where_it_fits(rt: HostRuntime) -> Result<(), Fail> {
         Rule::BytesOnly,
         Interpretation::Default,
     )?;
-    assert_eq!(rt; symbols.len(), 1);
-    assert!(rt; says(&rt, &symbols[0], None, b"ABCDEFG")?);
+    check!(rt; symbols.len() == 1);
+    check!(rt; says(&rt, &symbols[0], None, b"ABCDEFG")?);
     Ok(())
 }
 
@@ -92,7 +93,7 @@ fn numbers_of_symbols_at_1_h(rt: HostRuntime) -> Result<(), Fail> {
     ];
     let version = Version::FIRST;
     for (name, input, rule, count) in rows {
-        assert!(rt; input.len() <= INPUT_MAX);
+        check!(rt; input.len() <= INPUT_MAX);
         let symbols = encode_series(
             rt.alloc(),
             input,
@@ -101,7 +102,7 @@ fn numbers_of_symbols_at_1_h(rt: HostRuntime) -> Result<(), Fail> {
             rule,
             Interpretation::Default,
         );
-        assert_eq!(rt; symbols.map(|symbols| symbols.len()), count, "{name}");
+        check_eq!(rt; symbols.map(|symbols| symbols.len()), count, "{name}");
     }
     Ok(())
 }
@@ -115,7 +116,7 @@ fn sixteen_full_parts_at_1_h(rt: HostRuntime) -> Result<(), Fail> {
         ("176 digits", &digits[..], Rule::Auto, 11),
     ];
     for (name, input, rule, len) in rows {
-        assert!(rt; input.len() <= INPUT_MAX);
+        check!(rt; input.len() <= INPUT_MAX);
         let symbols = encode_series(
             rt.alloc(),
             input,
@@ -124,10 +125,10 @@ fn sixteen_full_parts_at_1_h(rt: HostRuntime) -> Result<(), Fail> {
             rule,
             Interpretation::Default,
         )?;
-        assert_eq!(rt; symbols.len(), 16, "{name}");
+        check_eq!(rt; symbols.len(), 16, "{name}");
         for symbol in symbols.iter() {
             let part = read_symbol(rt.alloc(), &symbol.matrix)?;
-            assert_eq!(rt; part.bytes.len(), len, "{name}");
+            check_eq!(rt; part.bytes.len(), len, "{name}");
         }
     }
     Ok(())

@@ -1,10 +1,12 @@
 //! Tests of `read_symbol`.
 
+use crate::checks::{check, check_eq};
 use crate::samples::{EIGHT_DIGITS, byte_symbol};
 use qr_bits::{Interpretation, Item, Mode, Rule, Segment};
 use qr_layout::{Level, Version, walk};
 use qr_matrix::Matrix;
-use qr_symbol::{ReadFault, build_masked, encode, read_symbol};
+use qr_symbol::{ReadFault, Symbol, build_masked, encode, read_symbol};
+use std::process::Abort;
 use std::test::Fail;
 
 // Says whether the symbol has no structured append header, and is read as one segment of this mode with these bytes.
@@ -22,9 +24,34 @@ fn says(rt: &HostRuntime, matrix: &Matrix, mode: Mode, bytes: &[u8]) -> Result<b
     )
 }
 
+// Returns the fault with which `read_symbol` refuses the symbol, if it does.
+fn fault(rt: &HostRuntime, matrix: &Matrix) -> Option<ReadFault> {
+    read_symbol(rt.alloc(), matrix).err()
+}
+
+// Returns the symbol of the input `01234567` at version 1 and level M (1-M) with mask 0.
+fn eight_digits(rt: &HostRuntime) -> Result<Symbol, Fail> {
+    let version = Version::FIRST;
+    if version.total_codewords() != 26 {
+        return Err("26 codewords".into());
+    }
+    Ok(build_masked(rt.alloc(), version, Level::M, &EIGHT_DIGITS, 0)?)
+}
+
+// Says whether the symbol is read as the digits 01234567.
+fn says_eight_digits(rt: &HostRuntime, symbol: &Symbol) -> Result<bool, Fail> {
+    says(rt, &symbol.matrix, Mode::Numeric, b"01234567")
+}
+
+fn invert(rt: &impl Abort, matrix: &mut Matrix, row: u8, col: u8) {
+    check!(*rt; row < matrix.side() && col < matrix.side());
+    let dark = matrix.dark(row, col);
+    matrix.set(row, col, !dark);
+}
+
 #[test]
 fn eight_digits_with_a_module_inverted(rt: HostRuntime) -> Result<(), Fail> {
-    let rows = [
+    for (name, (row, col), wanted) in &[
         ("a corner of a finder pattern", (0, 0), None),
         ("a bit of the second format information", (20, 8), None),
         (
@@ -42,25 +69,13 @@ fn eight_digits_with_a_module_inverted(rt: HostRuntime) -> Result<(), Fail> {
             (12, 0),
             Some(ReadFault::Check),
         ),
-    ];
-    let version = Version::FIRST;
-    assert!(rt; version.total_codewords() == 26);
-    for (name, (row, col), fault) in rows {
-        let mut symbol = build_masked(rt.alloc(), version, Level::M, &EIGHT_DIGITS, 0)?;
-        assert!(rt;
-            says(&rt, &symbol.matrix, Mode::Numeric, b"01234567")?,
-            "as drawn"
-        );
-        assert!(rt; row < symbol.matrix.side() && col < symbol.matrix.side());
-        let dark = symbol.matrix.dark(row, col);
-        symbol.matrix.set(row, col, !dark);
-        let read = read_symbol(rt.alloc(), &symbol.matrix);
-        assert_eq!(rt; read.err(), fault, "{name}");
-        if fault.is_none() {
-            assert!(rt;
-                says(&rt, &symbol.matrix, Mode::Numeric, b"01234567")?,
-                "{name}"
-            );
+    ] {
+        let mut symbol = eight_digits(&rt)?;
+        check!(rt; says_eight_digits(&rt, &symbol)?, "as drawn");
+        invert(&rt, &mut symbol.matrix, *row, *col);
+        check_eq!(rt; fault(&rt, &symbol.matrix), *wanted, "{name}");
+        if wanted.is_none() {
+            check!(rt; says_eight_digits(&rt, &symbol)?, "{name}");
         }
     }
     Ok(())
@@ -70,30 +85,24 @@ fn eight_digits_with_a_module_inverted(rt: HostRuntime) -> Result<(), Fail> {
 // 208 belong to codewords, and all others are ignored.
 #[test]
 fn each_module_inverted(rt: HostRuntime) -> Result<(), Fail> {
-    let version = Version::FIRST;
-    assert!(rt; version.total_codewords() == 26);
-    let mut symbol = build_masked(rt.alloc(), version, Level::M, &EIGHT_DIGITS, 0)?;
+    let mut symbol = eight_digits(&rt)?;
     let (mut format, mut check, mut read) = (0u32, 0u32, 0u32);
     for row in 0..21u8 {
         for col in 0..21u8 {
-            assert!(rt; row < symbol.matrix.side() && col < symbol.matrix.side());
-            let dark = symbol.matrix.dark(row, col);
-            symbol.matrix.set(row, col, !dark);
-            match read_symbol(rt.alloc(), &symbol.matrix) {
-                Err(ReadFault::Format) => format = format.saturating_add(1),
-                Err(ReadFault::Check) => check = check.saturating_add(1),
-                Err(fault) => return Err(fault.into()),
-                Ok(_) => {
-                    let is_same = says(&rt, &symbol.matrix, Mode::Numeric, b"01234567")?;
-                    assert!(rt; is_same, "({row}, {col})");
+            invert(&rt, &mut symbol.matrix, row, col);
+            match fault(&rt, &symbol.matrix) {
+                Some(ReadFault::Format) => format = format.saturating_add(1),
+                Some(ReadFault::Check) => check = check.saturating_add(1),
+                Some(other) => return Err(other.into()),
+                None => {
+                    check!(rt; says_eight_digits(&rt, &symbol)?, "({row}, {col})");
                     read = read.saturating_add(1);
                 }
             }
-            assert!(rt; row < symbol.matrix.side() && col < symbol.matrix.side());
-            symbol.matrix.set(row, col, dark);
+            invert(&rt, &mut symbol.matrix, row, col);
         }
     }
-    assert_eq!(rt; (format, check, read), (15, 208, 218));
+    check_eq!(rt; (format, check, read), (15, 208, 218));
     Ok(())
 }
 
@@ -111,19 +120,17 @@ fn remainder_bits_inverted(rt: HostRuntime) -> Result<(), Fail> {
     )?;
     let mut inverted = 0u32;
     for module in walk(version).skip(8 * 44) {
-        assert!(rt; module.row < symbol.matrix.side() && module.col < symbol.matrix.side());
-        let dark = symbol.matrix.dark(module.row, module.col);
-        symbol.matrix.set(module.row, module.col, !dark);
-        assert!(rt; says(&rt, &symbol.matrix, Mode::Alphanumeric, b"A")?);
+        invert(&rt, &mut symbol.matrix, module.row, module.col);
+        check!(rt; says(&rt, &symbol.matrix, Mode::Alphanumeric, b"A")?);
         inverted = inverted.saturating_add(1);
     }
-    assert_eq!(rt; inverted, 7);
+    check_eq!(rt; inverted, 7);
     Ok(())
 }
 
 #[test]
 fn light_squares(rt: HostRuntime) -> Result<(), Fail> {
-    for (side, fault) in [
+    for (side, wanted) in [
         (1, ReadFault::Side),
         (17, ReadFault::Side),
         (20, ReadFault::Side),
@@ -132,10 +139,9 @@ fn light_squares(rt: HostRuntime) -> Result<(), Fail> {
         (176, ReadFault::Side),
         (177, ReadFault::Format),
     ] {
-        assert!(rt; side >= 1 && side <= 177);
+        check!(rt; side >= 1 && side <= 177);
         let matrix = Matrix::new(rt.alloc(), side)?;
-        let read = read_symbol(rt.alloc(), &matrix);
-        assert_eq!(rt; read.err(), Some(fault), "side {side}");
+        check_eq!(rt; fault(&rt, &matrix), Some(wanted), "side {side}");
     }
     Ok(())
 }
@@ -143,7 +149,7 @@ fn light_squares(rt: HostRuntime) -> Result<(), Fail> {
 #[test]
 fn letters_and_digits_as_bytes(rt: HostRuntime) -> Result<(), Fail> {
     let symbol = byte_symbol(&rt, b"ab012", None, Level::L)?;
-    assert!(rt; says(&rt, &symbol.matrix, Mode::Byte, b"ab012")?);
+    check!(rt; says(&rt, &symbol.matrix, Mode::Byte, b"ab012")?);
     Ok(())
 }
 
@@ -160,7 +166,7 @@ fn a_letter_in_every_symbol(rt: HostRuntime) -> Result<(), Fail> {
                 Rule::Auto,
                 Interpretation::Default,
             )?;
-            assert!(rt;
+            check!(rt;
                 says(&rt, &symbol.matrix, Mode::Alphanumeric, b"A")?,
                 "version {number}, {level:?}"
             );
