@@ -22,8 +22,15 @@ fn main() {
         Err(_) => folder_of_pkg_config(),
     };
     let wants_static = env::var(STATIC).is_ok_and(|it| it != "0");
+    let [archive, shared] =
+        ["libqrproved.a", "libqrproved.so"].map(|it| Path::new(&folder).join(it));
+    // So that Cargo links a library that was built anew. For a file that does not exist it would run this script at
+    // every build.
+    for file in [&archive, &shared].into_iter().filter(|it| it.exists()) {
+        println!("cargo:rerun-if-changed={}", file.display());
+    }
     // `make lib` leaves no file of the name that a linker looks for, but the archive.
-    let kind = if wants_static || !Path::new(&folder).join("libqrproved.so").exists() {
+    let kind = if wants_static || !shared.exists() {
         "static"
     } else {
         "dylib"

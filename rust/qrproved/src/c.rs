@@ -1,9 +1,13 @@
 //! The calls of include/qrproved.h.
 use std::os::raw::c_uchar;
 
+/// The version of the library that has these calls and structs.
+pub const VERSION_NUMBER: u32 = 200;
+
 /// What C takes for a version, a level, an interpretation, a side, and each other number of that kind.
 pub type Setting = u32;
 
+pub const SIDE_MAX: usize = 177;
 pub const SYMBOL_MAX: usize = 31329;
 pub const SERIES_MAX: usize = 501264;
 pub const BYTES_MAX: usize = 7089;
@@ -79,7 +83,16 @@ pub struct Drawn {
     pub side: u8,
 }
 
+// Each call but that for the version may be made if these conditions of include/qrproved.h hold:
+// - the library has the version VERSION_NUMBER;
+// - a pointer with a length beside it is to as many bytes, or for `ecis` structs, and each other pointer to a struct or
+//   a number;
+// - what the call writes overlaps nothing else that it gets, and nothing else reads or writes it during the call;
+// - nothing writes to what the call reads.
+// Its other conditions, on malloc and on signal handlers and forks, are kept by all safe code.
 extern "C" {
+    pub fn qrproved_version() -> u32;
+
     pub fn qrproved_encode(
         input: *const c_uchar,
         input_len: usize,

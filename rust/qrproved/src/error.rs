@@ -62,6 +62,7 @@ impl Error {
     }
 
     /// Returns the number that the library has for it.
+    #[must_use]
     pub fn status(self) -> u8 {
         self as u8
     }
@@ -89,6 +90,34 @@ impl fmt::Display for Error {
 }
 
 impl std::error::Error for Error {}
+
+/// Why a number is no [`Version`](crate::Version), or a text no [`Level`](crate::Level). As an [`Error`] it is
+/// [`Error::Settings`].
+#[derive(Clone, Copy, Debug, PartialEq, Eq, Hash)]
+#[non_exhaustive]
+pub enum SettingError {
+    /// The number is not from 1 to 40.
+    Version,
+    /// The text is not one of the letters L, M, Q and H.
+    Level,
+}
+
+impl fmt::Display for SettingError {
+    fn fmt(&self, to: &mut fmt::Formatter<'_>) -> fmt::Result {
+        to.write_str(match self {
+            SettingError::Version => "a version is from 1 to 40",
+            SettingError::Level => "a level is L, M, Q or H",
+        })
+    }
+}
+
+impl std::error::Error for SettingError {}
+
+impl From<SettingError> for Error {
+    fn from(_: SettingError) -> Error {
+        Error::Settings
+    }
+}
 
 #[cfg(test)]
 mod tests {

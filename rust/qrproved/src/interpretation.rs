@@ -3,6 +3,7 @@ use std::fmt;
 
 /// What a symbol says of its bytes.
 #[derive(Clone, Copy, Debug, Default, PartialEq, Eq, Hash)]
+#[non_exhaustive]
 pub enum Interpretation {
     /// Nothing.
     #[default]
@@ -17,6 +18,7 @@ pub enum Interpretation {
 
 impl Interpretation {
     /// Returns how the UTF-8 of a text is interpreted: by ECI 26, unless the text is ASCII.
+    #[must_use]
     pub fn of_text(text: &str) -> Interpretation {
         if text.is_ascii() {
             Interpretation::Default
@@ -59,7 +61,8 @@ pub enum Fnc1 {
 #[derive(Clone, Copy, Debug, PartialEq, Eq, Hash)]
 #[non_exhaustive]
 pub enum TextError {
-    /// This crate does not read the characters of this ECI, but those of UTF-8 (26), ISO/IEC 8859-1 (3) and ASCII (27).
+    /// This crate does not read the characters of this ECI, but those of UTF-8 (26), ISO/IEC 8859-1 (1 and 3) and ASCII
+    /// (27).
     Eci(u32),
     /// Some bytes are no characters of their ECI, or of UTF-8 if they have none.
     Characters(Option<u32>),
@@ -80,7 +83,8 @@ impl fmt::Display for TextError {
 impl std::error::Error for TextError {}
 
 impl Content {
-    /// Returns the data as text, each byte by the ECI in effect, and by UTF-8 where there is none.
+    /// Returns the data as text, each byte by the ECI in effect, and by UTF-8 where there is none. ECI headers past the
+    /// end of the data have no effect. A symbol of a series may begin or end within a character.
     ///
     /// # Errors
     ///
@@ -98,7 +102,8 @@ impl Content {
         self.data.split(|&byte| byte == SEPARATOR)
     }
 
-    /// Returns the ECI in effect with the bytes, for each stretch that no ECI header divides.
+    /// Returns the ECI in effect with the bytes, for each stretch that no ECI header divides. Since a caller can change
+    /// the fields, a header may be past the end of the data, or its begin less than that of the header before it.
     fn stretches(&self) -> impl Iterator<Item = (Option<u32>, &[u8])> {
         let begins = std::iter::once(0).chain(self.ecis.iter().map(|it| it.begin));
         let ends = self.ecis.iter().map(|it| it.begin);
@@ -106,7 +111,10 @@ impl Content {
         begins
             .zip(ends.chain(std::iter::once(self.data.len())))
             .zip(numbers)
-            .map(|((begin, end), number)| (number, &self.data[begin..end]))
+            .map(|((begin, end), number)| {
+                let end = end.min(self.data.len());
+                (number, &self.data[begin.min(end)..end])
+            })
     }
 }
 

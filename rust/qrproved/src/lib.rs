@@ -21,15 +21,21 @@
 //! light modules that a drawing needs on each side.
 //!
 //! Calls may be made from any number of threads at once.
+//!
+//! # Panics
+//!
+//! Each function that calls the library panics if the linked library has another version than this crate, since its
+//! calls may then take other arguments.
 
 mod c;
 mod error;
 mod interpretation;
 
-pub use error::Error;
+pub use error::{Error, SettingError};
 pub use interpretation::{Eci, Fnc1, Interpretation, TextError};
 
 use std::fmt;
+use std::str::FromStr;
 
 /// A version of symbols, from 1 to 40: a symbol of version v has 17 + 4v modules on a side.
 #[derive(Clone, Copy, Debug, PartialEq, Eq, PartialOrd, Ord, Hash)]
@@ -42,18 +48,37 @@ impl Version {
     pub const MAX: Version = Version(40);
 
     /// Returns the version of a number, or `None` if it is not from 1 to 40.
+    #[must_use]
     pub fn new(number: u8) -> Option<Version> {
         (1..=40).contains(&number).then_some(Version(number))
     }
 
     /// Returns the number, from 1 to 40.
+    #[must_use]
     pub fn number(self) -> u8 {
         self.0
     }
 
     /// Returns the modules on a side: 17 + 4 times the number.
+    #[must_use]
     pub fn side(self) -> usize {
         17 + 4 * usize::from(self.0)
+    }
+}
+
+/// As [`Version::new`], with an error.
+///
+/// ```
+/// use qrproved::{SettingError, Version};
+///
+/// assert_eq!(Version::try_from(40), Ok(Version::MAX));
+/// assert_eq!(Version::try_from(41), Err(SettingError::Version));
+/// ```
+impl TryFrom<u8> for Version {
+    type Error = SettingError;
+
+    fn try_from(number: u8) -> Result<Version, SettingError> {
+        Version::new(number).ok_or(SettingError::Version)
     }
 }
 
@@ -66,9 +91,13 @@ impl fmt::Display for Version {
 /// How much of a damaged symbol can be restored: about 7, 15, 25 or 30 % of the codewords.
 #[derive(Clone, Copy, Debug, PartialEq, Eq, PartialOrd, Ord, Hash)]
 pub enum Level {
+    /// About 7 %.
     L,
+    /// About 15 %.
     M,
+    /// About 25 %.
     Q,
+    /// About 30 %.
     H,
 }
 
@@ -76,8 +105,42 @@ impl Level {
     const ALL: [Level; 4] = [Level::L, Level::M, Level::Q, Level::H];
 }
 
+/// Takes the letter of a level, capital or small.
+///
+/// ```
+/// use qrproved::{Level, SettingError};
+///
+/// assert_eq!(("Q".parse(), "h".parse()), (Ok(Level::Q), Ok(Level::H)));
+/// assert_eq!("LM".parse::<Level>(), Err(SettingError::Level));
+/// ```
+impl FromStr for Level {
+    type Err = SettingError;
+
+    fn from_str(text: &str) -> Result<Level, SettingError> {
+        match text {
+            "L" | "l" => Ok(Level::L),
+            "M" | "m" => Ok(Level::M),
+            "Q" | "q" => Ok(Level::Q),
+            "H" | "h" => Ok(Level::H),
+            _ => Err(SettingError::Level),
+        }
+    }
+}
+
+impl fmt::Display for Level {
+    fn fmt(&self, to: &mut fmt::Formatter<'_>) -> fmt::Result {
+        to.pad(match self {
+            Level::L => "L",
+            Level::M => "M",
+            Level::Q => "Q",
+            Level::H => "H",
+        })
+    }
+}
+
 /// Which modes the segments of an input may have.
 #[derive(Clone, Copy, Debug, Default, PartialEq, Eq, Hash)]
+#[non_exhaustive]
 pub enum Rule {
     /// Numeric, alphanumeric and byte mode, whatever takes the least bits.
     #[default]
@@ -99,7 +162,8 @@ pub struct Options {
 }
 
 impl Options {
-    /// Returns the default, by which a text that is not ASCII says that it is UTF-8.
+    /// Returns the default options, but with ECI 26, which is UTF-8, if the text is not ASCII.
+    #[must_use]
     pub fn of_text(text: &str) -> Options {
         Options {
             interpretation: Interpretation::of_text(text),
@@ -120,6 +184,7 @@ impl Default for Options {
 
 /// How modules are drawn, as the command `qrencode` draws them.
 #[derive(Clone, Copy, Debug, PartialEq, Eq, Hash)]
+#[non_exhaustive]
 pub enum Drawing {
     /// Two `#` for a dark module, two spaces for a light one.
     Ascii,
@@ -140,35 +205,49 @@ impl Drawing {
     ];
 }
 
-/// A symbol: its version, its level and its modules.
+/// A symbol: its version, its level, its modules, and its mask if it is known.
 #[derive(Clone, Debug, PartialEq, Eq, Hash)]
 pub struct Symbol {
     version: Version,
     level: Level,
+    mask: Option<u8>,
     modules: Vec<u8>,
 }
 
 impl Symbol {
+    /// Returns the version that it has, which [`encode`] may have made higher than the one that was asked for.
+    #[must_use]
     pub fn version(&self) -> Version {
         self.version
     }
 
     /// Returns the level that it has, which [`Options::boost`] may have made higher than the one that was asked for.
+    #[must_use]
     pub fn level(&self) -> Level {
         self.level
     }
 
+    /// Returns the mask, from 0 to 7; `None` for a symbol of [`encode_series`], since the library does not tell the
+    /// masks of a series.
+    #[must_use]
+    pub fn mask(&self) -> Option<u8> {
+        self.mask
+    }
+
     /// Returns the modules on a side, from 21 to 177.
+    #[must_use]
     pub fn side(&self) -> usize {
         self.version.side()
     }
 
     /// Returns the modules, row by row: 1 for a dark module, 0 for a light one.
+    #[must_use]
     pub fn modules(&self) -> &[u8] {
         &self.modules
     }
 
     /// Returns the rows of modules, from the top.
+    #[must_use]
     pub fn rows(&self) -> impl ExactSizeIterator<Item = &[u8]> {
         self.modules.chunks_exact(self.side())
     }
@@ -178,6 +257,7 @@ impl Symbol {
     /// # Panics
     ///
     /// If the row or the column is not below the side.
+    #[must_use]
     pub fn is_dark(&self, row: usize, column: usize) -> bool {
         let side = self.side();
         assert!(
@@ -238,18 +318,20 @@ pub struct Drawn {
     pub margin: u8,
     /// The modules on a side of each square, from 8 to 177.
     pub side: usize,
-    /// The modules of 1 to 16 squares, as [`read`] and [`mend`] take them.
+    /// The modules of 1 to 16 squares, as [`read`], [`mend`] and [`draw_squares`] take them.
     pub squares: Vec<Vec<u8>>,
 }
 
 impl Mended {
     /// Returns whether the square is the symbol, module by module.
+    #[must_use]
     pub fn is_sound(&self) -> bool {
         self.wrong_modules == 0
     }
 
     /// Returns the share of the correction that is spent in the block with the most wrong codewords, from 0 to 1; codewords with
     /// a module that is not known do not count.
+    #[must_use]
     pub fn spent(&self) -> f64 {
         f64::from(self.changed_most) / f64::from(self.changed_allowed)
     }
@@ -271,7 +353,8 @@ pub fn encode(
     let mut symbol = c::Symbol::default();
     let interpretation = options.interpretation.number()?;
     let modules = filled(c::SYMBOL_MAX, |modules, len| {
-        // SAFETY: each pointer is to as many bytes as the length beside it, and the struct is C's.
+        // SAFETY: `filled` has checked the version, each length is that of its slice, and only the call has the buffers
+        // and the struct to which it writes.
         let status = unsafe {
             c::qrproved_encode(
                 input.as_ptr(),
@@ -291,6 +374,7 @@ pub fn encode(
     Ok(Symbol {
         version: Version(symbol.version),
         level: Level::ALL[usize::from(symbol.level)],
+        mask: Some(symbol.mask),
         modules,
     })
 }
@@ -312,7 +396,8 @@ pub fn encode_series(
     // 16 symbols are the longest series.
     let most = 16 * version.side().pow(2);
     let modules = filled(most, |modules, len| {
-        // SAFETY: each pointer is to as many bytes as the length beside it, and the struct is C's.
+        // SAFETY: `filled` has checked the version, each length is that of its slice, and only the call has the buffers
+        // and the struct to which it writes.
         let status = unsafe {
             c::qrproved_encode_series(
                 input.as_ptr(),
@@ -336,6 +421,7 @@ pub fn encode_series(
         .map(|it| Symbol {
             version,
             level,
+            mask: None,
             modules: it.to_vec(),
         })
         .collect())
@@ -354,7 +440,8 @@ pub fn read(modules: &[u8], side: usize) -> Result<Content, Error> {
     let mut ecis = buffer(c::ECIS_MAX)?;
     let side = setting(side)?;
     let data = filled(c::BYTES_MAX, |bytes, len| {
-        // SAFETY: each pointer is to as many bytes as the length beside it, and the struct is C's.
+        // SAFETY: `filled` has checked the version, each length is that of its slice, and only the call has the buffers
+        // and the struct to which it writes.
         let status = unsafe {
             c::qrproved_read(
                 modules.as_ptr(),
@@ -385,7 +472,8 @@ pub fn mend(modules: &[u8], side: usize) -> Result<Mended, Error> {
     let mut ecis = buffer(c::ECIS_MAX)?;
     let side = setting(side)?;
     let data = filled(c::BYTES_MAX, |bytes, len| {
-        // SAFETY: each pointer is to as many bytes as the length beside it, and the struct is C's.
+        // SAFETY: `filled` has checked the version, each length is that of its slice, and only the call has the buffers
+        // and the struct to which it writes.
         let status = unsafe {
             c::qrproved_mend(
                 modules.as_ptr(),
@@ -434,16 +522,56 @@ pub fn draw(symbols: &[Symbol], drawing: Drawing, margin: u8) -> Result<Vec<u8>,
     if symbols.iter().any(|it| it.version != first.version) {
         return Err(Error::Settings);
     }
-    let modules: Vec<u8> = symbols.iter().flat_map(|it| &it.modules).copied().collect();
-    let count = symbols.len().try_into().map_err(|_| Error::Settings)?;
+    let squares: Vec<_> = symbols.iter().map(Symbol::modules).collect();
+    draw_squares(&squares, first.side(), drawing, margin)
+}
+
+/// Returns the drawing of squares that all have the side `side`, as [`draw`] returns that of symbols. A square need not
+/// be a symbol. Each byte but 0 is a dark module, and bytes past the last module of a square are ignored.
+///
+/// So what [`parse_drawing`] returns is drawn in another type:
+///
+/// ```
+/// use qrproved::{draw_squares, parse_drawing, Drawing};
+/// # use qrproved::{draw, encode, Level, Options, Version};
+/// # let symbols = [encode(b"Shelf 12", Version::MIN, Level::M, &Options::default())?];
+/// # let text = draw(&symbols, Drawing::Ascii, 4)?;
+///
+/// let drawn = parse_drawing(&text)?;
+/// let document = draw_squares(&drawn.squares, drawn.side, Drawing::Svg, drawn.margin)?;
+/// # assert_eq!(document, draw(&symbols, Drawing::Svg, 4)?);
+/// # Ok::<(), qrproved::Error>(())
+/// ```
+///
+/// # Errors
+///
+/// [`Error::Settings`] if there are not 1 to 16 squares, if the side is not from 1 to 177, or if the margin is above
+/// 100; [`Error::Room`] if a square has fewer modules than the side says; [`Error::Memory`].
+pub fn draw_squares(
+    squares: &[impl AsRef<[u8]>],
+    side: usize,
+    drawing: Drawing,
+    margin: u8,
+) -> Result<Vec<u8>, Error> {
+    check_library();
+    if side > c::SIDE_MAX {
+        return Err(Error::Settings);
+    }
+    let modules = squares
+        .iter()
+        .map(|it| it.as_ref().get(..side * side).ok_or(Error::Room))
+        .collect::<Result<Vec<_>, _>>()?
+        .concat();
+    let count = squares.len().try_into().map_err(|_| Error::Settings)?;
     let call = |text: *mut u8, len: usize| {
         let mut written = 0;
-        // SAFETY: each pointer is to as many bytes as the length beside it, and `written` is a number of ours.
+        // SAFETY: the version is checked, each length is that of its slice, or 0 beside a null pointer, and only the
+        // call has `text` and `written`.
         let status = unsafe {
             c::qrproved_draw(
                 modules.as_ptr(),
                 modules.len(),
-                first.side() as c::Setting,
+                side as c::Setting,
                 count,
                 drawing as c::Setting,
                 c::Setting::from(margin),
@@ -469,7 +597,8 @@ pub fn draw(symbols: &[Symbol], drawing: Drawing, margin: u8) -> Result<Vec<u8>,
 pub fn parse_drawing(text: &[u8]) -> Result<Drawn, Error> {
     let mut drawn = c::Drawn::default();
     let modules = filled(c::SERIES_MAX, |modules, len| {
-        // SAFETY: each pointer is to as many bytes as the length beside it, and the struct is C's.
+        // SAFETY: `filled` has checked the version, each length is that of its slice, and only the call has the buffers
+        // and the struct to which it writes.
         let status = unsafe {
             c::qrproved_parse_drawing(text.as_ptr(), text.len(), modules, len, &mut drawn)
         };
@@ -522,8 +651,13 @@ fn buffer<T: Clone + Default>(room: usize) -> Result<Vec<T>, Error> {
     Ok(buffer)
 }
 
-/// Makes a call with a buffer, and returns what the call wrote to it, or its status.
+/// Makes a call with a new buffer, and returns what the call wrote to it, or its status.
+///
+/// # Panics
+///
+/// As [`check_library`], before the call.
 fn filled(room: usize, call: impl FnOnce(*mut u8, usize) -> (u8, usize)) -> Result<Vec<u8>, Error> {
+    check_library();
     let mut buffer = buffer(room)?;
     let (status, written) = call(buffer.as_mut_ptr(), room);
     match Error::of_status(status) {
@@ -563,6 +697,43 @@ fn content_of(data: Vec<u8>, ecis: &[c::Eci], told: &c::Content) -> Content {
             2 => Some(Fnc1::Application(told.application)),
             _ => None,
         },
+    }
+}
+
+/// Lets a call be made only to a library of the crate's version.
+///
+/// # Panics
+///
+/// If the linked library has another version.
+fn check_library() {
+    // SAFETY: the call takes nothing, and is the same in all versions.
+    check_version(unsafe { c::qrproved_version() });
+}
+
+fn check_version(number: u32) {
+    let named = |it: u32| format!("{}.{}.{}", it / 10000, it / 100 % 100, it % 100);
+    assert!(
+        number == c::VERSION_NUMBER,
+        "the linked libqrproved has version {}, and the crate qrproved needs {}",
+        named(number),
+        named(c::VERSION_NUMBER)
+    );
+}
+
+#[cfg(test)]
+mod tests {
+    use super::{c, check_library, check_version};
+
+    #[test]
+    fn the_library_has_the_version_of_the_crate() {
+        check_library();
+        check_version(c::VERSION_NUMBER);
+    }
+
+    #[test]
+    #[should_panic(expected = "libqrproved has version 1.23.45, and the crate qrproved needs")]
+    fn another_version_is_refused() {
+        check_version(12345);
     }
 }
 

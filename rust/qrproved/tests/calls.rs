@@ -1,7 +1,8 @@
 //! What the crate adds to the library: its types, and its refusals. The symbols themselves are compared by tests/library.
 use qrproved::{
-    draw, draw_svg, encode, encode_series, mend, parse_drawing, read, Content, Drawing, Eci, Error,
-    Fnc1, Header, Interpretation, Level, Options, Rule, TextError, Version,
+    draw, draw_squares, draw_svg, encode, encode_series, mend, parse_drawing, read, Content,
+    Drawing, Eci, Error, Fnc1, Header, Interpretation, Level, Options, Rule, SettingError,
+    TextError, Version,
 };
 
 /// What the command has: the level that is asked for.
@@ -163,6 +164,22 @@ fn texts_by_their_ecis() {
 }
 
 #[test]
+fn a_changed_content_has_a_text() {
+    let content = |data: &[u8], begins: &[usize]| Content {
+        ecis: begins
+            .iter()
+            .map(|&begin| Eci { begin, number: 26 })
+            .collect(),
+        ..plain(data)
+    };
+    let mut cut = content(b"ABCD", &[1, 3, 4]);
+    cut.data.truncate(2);
+    assert_eq!(cut.text().as_deref(), Ok("AB"));
+    assert_eq!(content(b"", &[1, 2]).text().as_deref(), Ok(""));
+    assert!(content(b"ABCD", &[3, 1, usize::MAX, 0]).text().is_ok());
+}
+
+#[test]
 fn damage_is_measured() {
     let mut modules = eight_digits();
     modules[20 * 21 + 20] ^= 1; // of the first codeword
@@ -209,11 +226,53 @@ fn a_symbol_has_rows_and_columns() {
 }
 
 #[test]
+fn a_symbol_has_a_mask_and_in_a_series_none() {
+    for input in [b"01234567".as_slice(), b"A", b"Shelf 12"] {
+        let symbol = encode(input, Version::MIN, Level::L, &PLAIN).unwrap();
+        let mended = mend(symbol.modules(), symbol.side()).unwrap();
+        assert_eq!(symbol.mask(), Some(mended.mask));
+        let series = encode_series(input, Version::MIN, Level::L, &PLAIN).unwrap();
+        assert_eq!(
+            (series[0].modules(), series[0].mask()),
+            (symbol.modules(), None)
+        );
+    }
+}
+
+#[test]
 #[should_panic(expected = "no module at row 0 and column 21")]
 fn a_column_past_the_side_is_none() {
-    encode(b"A", Version::MIN, Level::L, &PLAIN)
-        .unwrap()
-        .is_dark(0, 21);
+    let symbol = encode(b"A", Version::MIN, Level::L, &PLAIN).unwrap();
+    let _ = symbol.is_dark(0, 21);
+}
+
+#[test]
+fn versions_and_levels_are_made_of_numbers_and_letters() {
+    for number in 0..=255 {
+        let version = Version::try_from(number);
+        assert_eq!(version, Version::new(number).ok_or(SettingError::Version));
+        assert_eq!(version.is_ok(), (1..=40).contains(&number));
+    }
+    for (level, capital, small) in [
+        (Level::L, "L", "l"),
+        (Level::M, "M", "m"),
+        (Level::Q, "Q", "q"),
+        (Level::H, "H", "h"),
+    ] {
+        assert_eq!((capital.parse(), small.parse()), (Ok(level), Ok(level)));
+        assert_eq!(
+            (level.to_string(), format!("{level:>3}")),
+            (capital.to_string(), format!("  {capital}"))
+        );
+    }
+    for text in ["", " L", "LL", "A", "0", "\u{FF2C}"] {
+        assert_eq!(text.parse::<Level>(), Err(SettingError::Level));
+    }
+    assert_eq!(Error::from(SettingError::Level), Error::Settings);
+    assert_eq!(
+        SettingError::Version.to_string(),
+        "a version is from 1 to 40"
+    );
 }
 
 #[test]
@@ -485,6 +544,29 @@ fn symbols_are_drawn() {
 }
 
 #[test]
+fn squares_are_drawn() {
+    // A square of one module is no symbol. Bytes past the module are ignored.
+    for (square, text) in [([1u8, 0], "##\n"), ([7, 1], "##\n"), ([0, 1], "  \n")] {
+        let drawn = draw_squares(&[square], 1, Drawing::Ascii, 0);
+        assert_eq!(drawn.as_deref(), Ok(text.as_bytes()));
+    }
+    let two = draw_squares(&[vec![1u8, 1], vec![0]], 1, Drawing::AsciiInverse, 0);
+    assert_eq!(two.as_deref(), Ok(b"  \n##\n".as_slice()));
+
+    let refused = |squares: &[&[u8]], side, margin| {
+        draw_squares(squares, side, Drawing::Svg, margin).unwrap_err()
+    };
+    let square: &[u8] = &[0; 441];
+    assert_eq!(refused(&[], 21, 4), Error::Settings);
+    assert_eq!(refused(&[square; 17], 21, 4), Error::Settings);
+    assert_eq!(refused(&[square], 21, 101), Error::Settings);
+    assert_eq!(refused(&[&[]], 0, 4), Error::Settings);
+    assert_eq!(refused(&[&[]], 178, 4), Error::Settings);
+    assert_eq!(refused(&[square], usize::MAX, 4), Error::Settings);
+    assert_eq!(refused(&[square, &square[1..]], 21, 4), Error::Room);
+}
+
+#[test]
 fn a_document_has_a_size() {
     let symbols = vec![encode(b"A", Version::MIN, Level::L, &PLAIN).unwrap(); 2];
     for (count, mm, size) in [
@@ -529,6 +611,8 @@ fn drawings_are_parsed() {
                 .collect();
             assert_eq!(contents.concat(), b"ABCDEFGH");
             assert_eq!(parse_drawing(&text[1..]), Err(Error::NoDrawing));
+            let document = draw_squares(&drawn.squares, drawn.side, Drawing::Svg, 4);
+            assert_eq!(document, draw(&symbols, Drawing::Svg, 4));
         }
     }
     assert_eq!(parse_drawing(b""), Err(Error::NoDrawing));
