@@ -16,6 +16,7 @@ static void print_words(const char *words)
 		switch (*words) {
 		case '&': fputs("&amp;", stdout); break;
 		case '<': fputs("&lt;", stdout); break;
+		case '>': fputs("&gt;", stdout); break;
 		default: putchar(*words);
 		}
 }

@@ -6,7 +6,8 @@ import qrproved
 
 try:
     text, file = sys.argv[1:]
+    document = qrproved.encode(text).svg()
     with open(file, "wb") as it:
-        it.write(qrproved.encode(text).svg())
+        it.write(document)
 except (ValueError, OSError, qrproved.Error) as fault:
     sys.exit(f"svg.py: {fault}")

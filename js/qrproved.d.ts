@@ -71,7 +71,7 @@ export class QRSymbol {
   /**
    * Returns a PNG image of one bit a pixel. `scale` is the number of pixels of a module on a side, from 1 to 100: 8 unless given.
    * `mm` is the width of the image with its margin, in millimetres; in its place, `dpi` is the number of pixels of an inch. Throws a
-   * TypeError for both.
+   * TypeError for both, and SettingsError for a size that PNG cannot say: less than one pixel a metre, or more than 2147483647.
    */
   png(options?: { scale?: number; margin?: number; mm?: number; dpi?: number; quiet?: boolean }): Uint8Array;
   /** Returns a URL that contains the image, a PNG unless the type is 'svg'. */
@@ -161,7 +161,8 @@ export function encode(input: Input, options?: Options & { boost?: boolean }): Q
 
 /**
  * Returns the symbols of a series (structured append), all of one version and level: from 1 to 16. An input that fits one symbol is one
- * plain symbol. Each symbol has the ECI header, or says that its data are GS1 data. Throws as encode does, but TooManyError in place of TooLongError, if the input takes more than 16 symbols.
+ * plain symbol. Each symbol has the ECI header, or says that its data are GS1 data. Throws as encode does, but TooManyError in place
+ * of TooLongError, if the input takes more than 16 symbols.
  */
 export function encodeSeries(input: Input, options: Options & { version: number }): QRSymbol[];
 

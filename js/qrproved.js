@@ -25,6 +25,7 @@ const SCALE_MAX = 100;
 const SIZE_MAX = 100000; // of mm and dpi
 const ECI_MAX = 999999;
 const MM_OF_INCH = 25.4;
+const DENSITY_MAX = 2 ** 31 - 1; // pixels a metre: a number in a PNG image has 31 bits
 const MODULE_MIN = 0.25; // mm
 
 /** Returns each option as it is given, or its default. An option of another name would do nothing, and so is refused. */
@@ -140,9 +141,13 @@ export class QRSymbol {
     const { scale, margin, mm, dpi, quiet } = chosen(options, { scale: 8, margin: 4, mm: undefined, dpi: undefined, quiet: false });
     const modules = this.side + 2 * whole('margin', margin, 0, 100), pixels = modules * whole('scale', scale, 1, SCALE_MAX);
     if (mm !== undefined && dpi !== undefined) throw new TypeError('mm and dpi both say how large the image is: one of them is given');
-    const size = mm !== undefined ? length('mm', mm) : dpi !== undefined ? MM_OF_INCH * pixels / length('dpi', dpi) : Infinity;
-    warn(quiet, margin, size / modules);
-    return imageOf(this.modules, this.side, scale, margin, Math.round(1000 * pixels / size));
+    const size = mm !== undefined ? length('mm', mm) : dpi !== undefined ? MM_OF_INCH * pixels / length('dpi', dpi) : null;
+    const density = size === null ? 0 : 1000 * pixels / size;
+    if (size !== null && !(density > 0.5 && density < DENSITY_MAX + 0.5)) {
+      throw new SettingsError(`${pixels} pixels cannot be ${Number(size.toPrecision(3))} mm wide in a PNG image`);
+    }
+    warn(quiet, margin, (size ?? Infinity) / modules);
+    return imageOf(this.modules, this.side, scale, margin, Math.round(density));
   }
 
   dataURL(options = {}) {

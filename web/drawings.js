@@ -12,7 +12,7 @@ function rowsOfBlocks(texts) {
 
 /** Returns the rows of a drawing in pairs of signs. */
 function rowsOfPairs(texts) {
-  return texts.map((text) => text.match(/../gu).map((pair) => ({ '##': 1, '  ': 0 })[pair] ?? UNKNOWN));
+  return texts.map((text) => text.match(/../gsu).map((pair) => ({ '##': 1, '  ': 0 })[pair] ?? UNKNOWN));
 }
 
 /** Returns the rows of the least rectangle with all modules that are not light. */

@@ -75,7 +75,8 @@ function factsOf(margin) {
 /** Returns what is to be said of the width of a module in millimetres; 0 is not known. */
 function smallOf(module) {
   const isSmall = module > 0 && module < MODULE_LEAST;
-  return isSmall ? [`A module is ${module.toFixed(2)} mm wide: under ${MODULE_LEAST} mm few scanners read it.`] : [];
+  // rounded down, so that it is under the limit that is named
+  return isSmall ? [`A module is ${(Math.floor(1000 * module) / 1000).toFixed(3)} mm wide: under ${MODULE_LEAST} mm few scanners read it.`] : [];
 }
 
 /** Returns what readers are told of the characters of a text; empty for ASCII and for GS1 data. */
@@ -115,10 +116,10 @@ function show() {
   on('copy').disabled ||= symbols.length > 1;
 }
 
-/** Saves bytes or a text as a file. */
-function save(name, type, ...content) {
+/** Saves parts, of bytes or of text, as a file. */
+function save(name, type, parts) {
   const link = document.createElement('a');
-  link.href = URL.createObjectURL(new Blob(content, { type }));
+  link.href = URL.createObjectURL(new Blob(parts, { type }));
   link.download = name;
   link.click();
   setTimeout(() => URL.revokeObjectURL(link.href), 60000);
@@ -131,7 +132,7 @@ function documentOf() {
 }
 
 function saveDocument() {
-  save('symbol.svg', 'image/svg+xml', documentOf());
+  save('symbol.svg', 'image/svg+xml', [documentOf()]);
 }
 
 function pngs() {
@@ -142,10 +143,13 @@ function pngs() {
 }
 
 function saveImages() {
-  pngs().forEach((png, k, all) => save(all.length > 1 ? `symbol-${k + 1}-of-${all.length}.png` : 'symbol.png', 'image/png', png));
+  pngs().forEach((png, k, all) => save(all.length > 1 ? `symbol-${k + 1}-of-${all.length}.png` : 'symbol.png', 'image/png', [png]));
 }
 
-/** Puts the image into the clipboard; where the browser lets no page do so, the SVG document as a text. */
+/**
+ * Puts the image into the clipboard; where the browser lets no page do so, the SVG document as a text. A page that a server sends over
+ * plain HTTP has no clipboard at all.
+ */
 async function copy() {
   const [png] = pngs();
   if (!png) return;
@@ -153,9 +157,12 @@ async function copy() {
     await navigator.clipboard.write([new ClipboardItem({ 'image/png': new Blob([png], { type: 'image/png' }) })]);
     say(on('facts'), 'The image is in the clipboard.', 'good');
   } catch {
-    await navigator.clipboard?.writeText(documentOf()).then(
-      () => say(on('facts'), 'The SVG document is in the clipboard, as a text.', 'good'),
-      () => say(on('facts'), 'This browser lets no page copy: download the image.', 'fault'));
+    try {
+      await navigator.clipboard.writeText(documentOf());
+      say(on('facts'), 'The SVG document is in the clipboard, as a text.', 'good');
+    } catch {
+      say(on('facts'), 'The browser does not let this page copy: download the image.', 'fault');
+    }
   }
 }
 
@@ -220,7 +227,7 @@ function saveAll() {
       return []; // showSheet has said so
     }
   });
-  save('labels.zip', 'application/zip', ...zipOf(files));
+  save('labels.zip', 'application/zip', zipOf(files));
 }
 
 /** Returns why lines have no symbol, in sentences. */
@@ -303,7 +310,8 @@ function damageOf(found, modules) {
 }
 
 function spentOf(found, modules) {
-  const meter = document.createElement('meter'), percent = Math.floor(100 * found.spent);
+  // rounded up, as `qrproved check` does
+  const meter = document.createElement('meter'), percent = Math.ceil(100 * found.changedMost / found.changedAllowed);
   Object.assign(meter, { min: 0, max: 1, low: 0.5, high: 0.75, optimum: 0, value: found.spent });
   const more = modules.includes(2) ? ' Codewords with unknown modules are not counted.' : '';
   meter.setAttribute('aria-label', 'Correction that is spent');
@@ -346,8 +354,11 @@ function contentOf(square) {
   }
 }
 
+let shows = 0; // how often squares were shown
+
 /** Shows squares that were found, and what each contains. */
 function showSquares(squares) {
+  shows += 1;
   const caption = (k) => (squares.length > 1 ? `${k + 1} of ${squares.length}` : '');
   on('found-drawing').replaceChildren(...squares.map((square, k) => figureOf(picture(square), 'what was found', caption(k))));
   on('found-drawing').classList.toggle('many', squares.length > 1);
@@ -397,19 +408,17 @@ async function pixelsOf(file) {
   return context.getImageData(0, 0, width, height);
 }
 
-/** Shows what the symbols of an image contain. */
+/** Shows what the symbols of an image contain, unless something else was shown while the file was opened. */
 async function showImage(file) {
   if (!file) return;
-  let pixels;
   showSquares([]);
+  const before = shows;
   // An SVG document that the library has drawn is parsed; others are read as images.
   const exact = file.type === 'image/svg+xml' ? squaresOfDrawing(await file.text()) : null;
+  const pixels = exact ? null : await pixelsOf(file).catch(() => null);
+  if (shows !== before) return;
   if (exact) return showSquares(exact);
-  try {
-    pixels = await pixelsOf(file);
-  } catch {
-    return say(on('found'), 'Not readable: this browser cannot open the file as an image.', 'fault');
-  }
+  if (!pixels) return say(on('found'), 'Not readable: this browser cannot open the file as an image.', 'fault');
   try {
     return showSquares(parsePicture(pixels).map((modules) => ({ modules, side: Math.sqrt(modules.length) })));
   } catch (error) {
@@ -418,9 +427,10 @@ async function showImage(file) {
   }
 }
 
-/** Takes an image that is dropped or pasted, while labels are checked. */
+/** Takes an image that is dropped or pasted, while labels are checked; and any other file that is dropped, to say that it is none. */
 function takeImage(event, given) {
-  const file = [...given?.files ?? []].find((it) => it.type.startsWith('image/'));
+  const files = [...given?.files ?? []];
+  const file = files.find((it) => it.type.startsWith('image/')) ?? (event.type === 'drop' ? files[0] : undefined);
   if (!file || on('check').hidden) return;
   event.preventDefault();
   showImage(file);
@@ -479,7 +489,13 @@ for (const form of document.forms) form.addEventListener('submit', (event) => ev
 on('pasted').addEventListener('input', showFound);
 on('paste-sample').addEventListener('click', pasteSample);
 on('image').addEventListener('change', () => showImage(on('image').files[0]));
-document.addEventListener('dragover', (event) => event.preventDefault());
+// A browser would open a file that is dropped, or a link that no field takes as a text; some would do so in place of the page.
+for (const kind of ['dragover', 'drop']) {
+  document.addEventListener(kind, (event) => {
+    const { types } = event.dataTransfer, isText = types.includes('text/plain') && !types.includes('Files');
+    if (!isText || !event.target.closest?.('textarea, [type=number]')) event.preventDefault();
+  });
+}
 document.addEventListener('drop', (event) => takeImage(event, event.dataTransfer));
 document.addEventListener('paste', (event) => takeImage(event, event.clipboardData));
 on('save-svg').addEventListener('click', saveDocument);

@@ -3,12 +3,12 @@ import assert from 'node:assert/strict';
 import { execFileSync } from 'node:child_process';
 import { createHash } from 'node:crypto';
 import { readFileSync } from 'node:fs';
-import { pathToFileURL } from 'node:url';
+import { fileURLToPath, pathToFileURL } from 'node:url';
 import { resolve } from 'node:path';
 import { test } from 'node:test';
 import { inflateSync } from 'node:zlib';
 
-const folder = process.env.QRPROVED ?? new URL('../../out/npm/package', import.meta.url).pathname;
+const folder = process.env.QRPROVED ?? fileURLToPath(new URL('../../out/npm/package', import.meta.url));
 const at = pathToFileURL(resolve(folder, 'qrproved.js')).href;
 const { draw, encode, encodeSeries, load, mend, parseDrawing, parsePicture, read, ...errors } = await import(at);
 
@@ -310,8 +310,10 @@ test('images without an upright symbol', () => {
 test('sizes in millimetres and pixels of an inch', () => {
   const symbol = encode('A'), plain = symbol.svg(); // 29 modules wide with its margin, and 232 pixels
   assert.equal(symbol.svg({ mm: 14.5 }), plain.replace('<svg ', '<svg width="14.5mm" height="14.5mm" '));
-  for (const [options, wanted] of [[{ dpi: 300 }, 11811], [{ dpi: 203.2 }, 8000], [{ mm: 29 }, 8000], [{ mm: 14.5 }, 16000]]) {
-    const found = chunks(symbol.png(options)), [, data] = found[1], view = new DataView(data.buffer, data.byteOffset);
+  const least = [[{ dpi: 0.02 }, 1], [{ mm: 41999, scale: 1, margin: 0 }, 1]], most = [{ mm: 232000 / 2147483647 }, 2147483647];
+  const sizes = [[{ dpi: 300 }, 11811], [{ dpi: 203.2 }, 8000], [{ mm: 29 }, 8000], [{ mm: 14.5 }, 16000], ...least, most];
+  for (const [options, wanted] of sizes) {
+    const found = chunks(symbol.png({ ...options, quiet: true })), [, data] = found[1], view = new DataView(data.buffer, data.byteOffset);
     assert.deepEqual(found.map(([name]) => name), ['IHDR', 'pHYs', 'IDAT', 'IEND']);
     assert.deepEqual([view.getUint32(0), view.getUint32(4), data[8], data.length], [wanted, wanted, 1, 9]);
   }
@@ -321,6 +323,10 @@ test('sizes in millimetres and pixels of an inch', () => {
     assert.throws(() => symbol.png({ dpi: wrong }), refused('SettingsError', 5, 'SETTINGS'));
   }
   assert.throws(() => symbol.png({ mm: '20' }), TypeError);
+  for (const wrong of [{ dpi: 0.01 }, { dpi: 5e-324 }, { mm: 42000, scale: 1, margin: 0 }, { mm: 0.0001 }, { mm: 0.00001 }, { mm: 5e-324 }]) {
+    assert.throws(() => symbol.png(wrong), refused('SettingsError', 5, 'SETTINGS'), JSON.stringify(wrong));
+  }
+  assert.throws(() => symbol.png({ mm: 0.0001 }), { message: '232 pixels cannot be 0.0001 mm wide in a PNG image' });
 });
 
 test('small margins and modules are warned of, each once', () => {

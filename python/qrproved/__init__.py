@@ -135,8 +135,9 @@ class Symbol:
         mm      the width of the picture with its margin, in millimetres
         dpi     in place of mm, the pixels of an inch
 
-        Without mm and dpi the picture does not say how large it is. Raises SettingsError if a number is out of range, TypeError for
-        both mm and dpi, and RoomError if there are too few modules. Warns by PrintWarning of what scanners may not read.
+        Without mm and dpi the picture does not say how large it is. Raises SettingsError if a number is out of range, or if the size
+        is one that PNG cannot state: its pixels are counted by the metre. Raises TypeError for both mm and dpi, and RoomError if
+        there are too few modules. Warns by PrintWarning of what scanners may not read.
         """
         _no_more("png", "", wrong, "scale", "margin", "mm", "dpi")
         return self._png(scale, margin, mm, dpi)
@@ -192,8 +193,11 @@ class Symbol:
         size = None if mm is None else _size("mm", mm)
         if dpi is not None:
             size = MM_OF_INCH * width / _size("dpi", dpi)
+        pixels_a_metre = 0 if size is None else 1000 * width / size
+        if size is not None and not 0.5 < pixels_a_metre < 2**31 - 0.5:
+            raise SettingsError(f"a PNG picture of {width} pixels cannot say that it is {size:.3g} mm wide")
         _warn(light, None if size is None else size / (self.side + 2 * light))
-        return _png.png(self.modules, self.side, pixels, light, 0 if size is None else round(1000 * width / size))
+        return _png.png(self.modules, self.side, pixels, light, round(pixels_a_metre))
 
     def _svg(self, margin: int, mm: Optional[float]) -> bytes:
         document = draw([self], drawing=Drawing.SVG, margin=margin)
@@ -209,6 +213,8 @@ class Symbol:
                 raise TypeError("an SVG document has no pixels, and so no dpi: its size is given by mm")
             return self._svg(margin, mm)
         if kind == "txt":
+            if mm is not None or dpi is not None:
+                raise TypeError("a text has no size: neither mm nor dpi is given")
             return self.text(margin=margin).encode()
         raise SettingsError(f"the name of the file ends in .png, .svg or .txt, or kind is one of these, and not {kind!r}")
 
@@ -556,10 +562,15 @@ def mend(modules: Union[Symbol, Bytes], side: Optional[int] = None) -> Mended:
                   mended.changed_most, mended.changed_allowed)
 
 
-def draw(symbols: Sequence[Symbol], *wrong: NoReturn, drawing: Name = Drawing.UTF8, margin: int = 4) -> bytes:
+def _listed(symbols: Union[Symbol, Sequence[Symbol]]) -> list[Symbol]:
+    """Returns the symbols as a list. (A symbol can be indexed, so list() would take its modules for symbols.)"""
+    return [symbols] if isinstance(symbols, Symbol) else list(symbols)
+
+
+def draw(symbols: Union[Symbol, Sequence[Symbol]], *wrong: NoReturn, drawing: Name = Drawing.UTF8, margin: int = 4) -> bytes:
     """Returns the drawing of symbols of one side: texts one after the other, or one document with one below the other.
 
-    symbols  from 1 to COUNT_MAX
+    symbols  from 1 to COUNT_MAX, or a symbol alone
     drawing  a Drawing, its name ('svg') or its number
     margin   light modules on each side of each symbol, from 0 to MARGIN_MAX; a scanner needs 4
 
@@ -567,7 +578,7 @@ def draw(symbols: Sequence[Symbol], *wrong: NoReturn, drawing: Name = Drawing.UT
     has too few modules, and OutOfMemoryError.
     """
     _no_more("draw", "symbols, ", wrong, "drawing", "margin")
-    kind, light, listed = _named("drawing", Drawing, drawing), _setting("margin", margin, 0, MARGIN_MAX), list(symbols)
+    kind, light, listed = _named("drawing", Drawing, drawing), _setting("margin", margin, 0, MARGIN_MAX), _listed(symbols)
     count = _setting("the number of symbols", len(listed), 1, COUNT_MAX)
     side = _setting("side", listed[0].side, 1, SIDE_MAX)
     if any(symbol.side != side for symbol in listed):

@@ -33,6 +33,7 @@ class Style(NamedTuple):
     fill: str = "black"
     stroke: str = "none"
     width: float = 1.0
+    visibility: str = "visible"
     fill_alpha: float = 1.0
     stroke_alpha: float = 1.0
     across: float = 1.0  # the scale, and the place of the origin
@@ -79,13 +80,17 @@ def _brightness(colour: str, alpha: float, ground: int) -> Optional[int]:
     return round((0.299 * red + 0.587 * green + 0.114 * blue) * share + ground * (1 - share))
 
 
-def _styled(element: ElementTree.Element, style: Style) -> Style:
+def _attributes(element: ElementTree.Element) -> dict[str, str]:
+    """Returns the attributes of an element, and what its attribute `style` says in place of some of them."""
     given = dict(element.attrib)
     given.update(pair.strip().split(":", 1) for pair in given.get("style", "").split(";") if ":" in pair)
-    given = {name.strip(): value.strip() for name, value in given.items()}
+    return {name.strip(): value.strip() for name, value in given.items()}
+
+
+def _styled(given: dict[str, str], style: Style) -> Style:
     alpha = _opacity(given.get("opacity"), 1)
     style = style._replace(fill=given.get("fill", style.fill), stroke=given.get("stroke", style.stroke),
-                           width=_number(given.get("stroke-width"), style.width),
+                           width=_number(given.get("stroke-width"), style.width), visibility=given.get("visibility", style.visibility),
                            fill_alpha=_opacity(given.get("fill-opacity"), style.fill_alpha) * alpha,
                            stroke_alpha=_opacity(given.get("stroke-opacity"), style.stroke_alpha) * alpha)
     rest = given.get("transform", "")
@@ -179,15 +184,19 @@ def _lined(style: Style, points: list[tuple[float, float]], brightness: Optional
 def _rectangles(element: ElementTree.Element, style: Style, ground: int) -> Iterator[Rectangle]:
     """Yields what an element draws, in the order in which it is drawn."""
     name = element.tag.rsplit("}", 1)[-1] if isinstance(element.tag, str) else "title"
-    if name in SILENT or element.get("display") == "none":
+    given = _attributes(element)
+    if name in SILENT or given.get("display") == "none":
         return
-    style = _styled(element, style)
-    fill = _brightness(style.fill, style.fill_alpha, ground)
-    stroke = _brightness(style.stroke, style.stroke_alpha, ground)
+    style = _styled(given, style)
     if name in ("svg", "g"):
         for child in element:
             yield from _rectangles(child, style, ground)
-    elif name == "rect":
+        return
+    if style.visibility in ("hidden", "collapse"):
+        return
+    fill = _brightness(style.fill, style.fill_alpha, ground)
+    stroke = _brightness(style.stroke, style.stroke_alpha, ground)
+    if name == "rect":
         if stroke is not None or element.get("rx") or element.get("ry"):
             raise _refuse("a rectangle with a line around it, or with round corners")
         x, y = (_number(element.get(it), 0) for it in "xy")
@@ -223,13 +232,13 @@ def pixels(document: bytes, ground: int) -> list[bytes]:
         raise ValueError("the document is not SVG")
     try:
         drawn = [Rectangle(*(round(FINE * edge) for edge in it[:4]), it.brightness) for it in _rectangles(root, Style(), ground)]
+        drawn = [it for it in drawn if it.left < it.right and it.top < it.bottom]
+        if not drawn:
+            raise ValueError("the SVG document draws nothing")
+        left, width, across = _steps({edge for it in drawn for edge in (it.left, it.right)})
+        top, height, down = _steps({edge for it in drawn for edge in (it.top, it.bottom)})
     except (OverflowError, RecursionError):
         raise ValueError("the SVG document has too large a number, or an element within too many others") from None
-    drawn = [it for it in drawn if it.left < it.right and it.top < it.bottom]
-    if not drawn:
-        raise ValueError("the SVG document draws nothing")
-    left, width, across = _steps({edge for it in drawn for edge in (it.left, it.right)})
-    top, height, down = _steps({edge for it in drawn for edge in (it.top, it.bottom)})
     rows = [bytearray([ground]) * width for _ in range(height)]
     for it in drawn:
         a, b = round((it.left - left) / across), round((it.right - left) / across)

@@ -181,6 +181,7 @@ class Calls(unittest.TestCase):
         lines = ["".join(halves[pair] for pair in zip(rows[y], rows[y + 1])) for y in range(0, 22, 2)]
         self.assertEqual(symbol.text(margin=1).splitlines()[:11], lines)
         self.assertEqual(qrproved.draw([symbol, symbol], margin=1).decode(), symbol.text(margin=1) * 2)
+        self.assertEqual(qrproved.draw(symbol, margin=1).decode(), symbol.text(margin=1))
 
     def test_a_symbol_is_drawn_as_svg(self):
         symbol = qrproved.Symbol(1, 21, 0, EIGHT_DIGITS)
