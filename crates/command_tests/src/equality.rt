@@ -1,7 +1,10 @@
 //! Tests of `==`, by which two values differ if one of their fields does, and of `clone`, which returns an equal value.
 
 use crate::checks::{check, check_eq};
-use qr_bits::{BitFault, Header, Mode, ParseFault, Rule, Segment};
+use qr_bits::{
+    BitFault, Designator, EciChange, Fnc1, Header, Interpretation, Item, Mode, ParseFault, Rule,
+    Segment,
+};
 use qr_layout::{Level, Place, Role, Strip, Version};
 use qr_parsing::DrawingFault;
 use qr_symbol::{EncodeFault, ReadFault};
@@ -68,6 +71,71 @@ fn of_segments(rt: HostRuntime) -> Result<(), Fail> {
                 }
     );
     check_eq!(rt; header.clone()?, header);
+    Ok(())
+}
+
+#[test]
+fn of_interpretations(rt: HostRuntime) -> Result<(), Fail> {
+    let eci = Interpretation::Eci(26);
+    check!(rt; eci == eci && eci != Interpretation::Eci(3) && eci != Interpretation::Default);
+    check!(rt; Interpretation::Gs1 != Interpretation::Default);
+    check_eq!(rt; eci.clone()?, eci);
+    let designator = Designator {
+        number: 26,
+        codewords: 1,
+    };
+    let (other, longer) = (
+        Designator {
+            number: 27,
+            ..designator
+        },
+        Designator {
+            codewords: 2,
+            ..designator
+        },
+    );
+    check!(rt; designator == designator && designator != other && designator != longer);
+    check_eq!(rt; designator.clone()?, designator);
+    let change = EciChange {
+        number: 26,
+        begin: 1,
+    };
+    let (other, later) = (
+        EciChange {
+            number: 27,
+            ..change
+        },
+        EciChange { begin: 2, ..change },
+    );
+    check!(rt; change == change && change != other && change != later);
+    check_eq!(rt; change.clone()?, change);
+    Ok(())
+}
+
+#[test]
+fn of_items(rt: HostRuntime) -> Result<(), Fail> {
+    let segment = Segment {
+        mode: Mode::Byte,
+        len: 2,
+    };
+    let data = Item::Data(segment);
+    check!(rt; data == data && data != Item::Data(Segment { len: 3, ..segment }));
+    let designator = Designator {
+        number: 26,
+        codewords: 1,
+    };
+    let longer = Designator {
+        codewords: 2,
+        ..designator
+    };
+    let eci = Item::Eci(designator);
+    check!(rt; eci == eci && eci != Item::Eci(longer) && eci != data);
+    let second = Item::Fnc1Second(37);
+    check!(rt; second == second && second != Item::Fnc1Second(38) && second != Item::Fnc1First);
+    check_eq!(rt; eci.clone()?, eci);
+    let fnc1 = Fnc1::Second(37);
+    check!(rt; fnc1 == fnc1 && fnc1 != Fnc1::Second(38) && fnc1 != Fnc1::First);
+    check_eq!(rt; fnc1.clone()?, fnc1);
     Ok(())
 }
 

@@ -1,5 +1,5 @@
-//! Tests of the command with devices in memory, of drawings and devices, and of `==` and `clone` of all public types.
-//! 1-M stands for version 1 and level M.
+//! Tests of the command with devices in memory, of drawings and devices, and of `==` and `clone` of each public type
+//! that has `==`. 1-M stands for version 1 and level M.
 #![tactic(auto)]
 
 #[cfg(test)]

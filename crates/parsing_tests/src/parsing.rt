@@ -153,8 +153,8 @@ fn below(state: &mut u64, end: usize) -> usize {
 
 static SIGNS: [u8; 26] = *b" #\n\xE2\x96\x84\x80\x88M0123456789hvz-\"<x";
 
-// Changes the text one to four times: replaces, removes or inserts a byte, or cuts the text off. `% 4` and `% 26` are
-// for the prover.
+// Changes the text one to four times: replaces, removes or inserts a byte, or cuts the text off. `below` has no
+// contract, so only by `% 4` and `% 26` does the prover know how often the loop turns, and that the index is in range.
 fn changed(alloc: Global, text: &[u8], state: &mut u64) -> Result<Vec<u8>, Fail> {
     let mut changed = Vec::from_slice(alloc, text)?;
     for _ in 0..1 + below(state, 4) % 4 {

@@ -97,11 +97,12 @@ fn row_for(numbers: &PerState) -> u32
     ensures low { result < FLAG }
     ensures modes { (p : RunState) → mode_at result p ≡ ranked (in_state numbers.now p % 4) }
 {
-    let last = numbers.half_pair % 4 + 4 * (numbers.whole_pair % 4);
-    let last = numbers.character2 % 4 + 4 * (numbers.in_bytes % 4 + 4 * last);
-    let last = numbers.digit3 % 4 + 4 * (numbers.character1 % 4 + 4 * last);
-    let last = numbers.digit1 % 4 + 4 * (numbers.digit2 % 4 + 4 * last);
-    numbers.start % 4 + 4 * last
+    // The row is made from its highest bits down. `higher` has the bits of the states so far.
+    let higher = numbers.half_pair % 4 + 4 * (numbers.whole_pair % 4);
+    let higher = numbers.character2 % 4 + 4 * (numbers.in_bytes % 4 + 4 * higher);
+    let higher = numbers.digit3 % 4 + 4 * (numbers.character1 % 4 + 4 * higher);
+    let higher = numbers.digit1 % 4 + 4 * (numbers.digit2 % 4 + 4 * higher);
+    numbers.start % 4 + 4 * higher
 }
 
 // The choices for a byte in alphanumeric mode.

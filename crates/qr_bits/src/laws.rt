@@ -1,8 +1,9 @@
 //! Laws of this crate's definitions. A function with an empty body does nothing: its contract is the law. If its name
 //! ends in `compute`, the law has examples that the standard prints, or that were worked out by hand.
 //!
-//! The functions with a body state laws of the public types: which numbers the faults have, that `==` is true exactly
-//! for equal values, and that a clone is equal to its original.
+//! The functions with a body state laws of the public types: which numbers the faults have, and, of each type whose
+//! values can be compared and cloned, that `==` is true exactly for equal values and that a clone is equal to its
+//! original.
 
 ghost use Rattle.std.specs.Prelude.{◌≡◌, ◌-◌, ◌/◌, ◌%◌, ℕ, List, [], ◌∷◌, ◌++◌, true, false, length, map, codes, ◌↔◌, IsTrue, IfOk};
 ghost use Rattle.qr_layout.specs.declared.level.Level.{Level};
@@ -24,6 +25,7 @@ ghost use Rattle.qr_bits.specs.Laws.{BitsAreCodewordBits, CountsFitWhereBitsFit,
 ghost use Rattle.qr_bits.specs.Examples.{all_modes, eight_digits, eleven_characters, interpreted, middle, middle_data, one, modes_of_fields, segments_of_fields, three_fields, two_kanji, two_kanji_data, unreadable};
 
 use crate::fault::{BitFault, ParseFault};
+use crate::interpretation::{Designator, EciChange, Fnc1, Interpretation, Item};
 use crate::modes::{INPUT_MAX, Mode, Rule};
 use crate::segmentation::Segment;
 use crate::stream::Header;
@@ -207,9 +209,9 @@ pub fn rules_compute()
     ensures kanji { map (may_use Rule.WithKanji) all_modes ≡ true ∷ true ∷ true ∷ true ∷ [] }
 {}
 
-/// Examples of folding. Under `Auto` and `BytesOnly` they have the bytes at both ends of the alphabet. Under
-/// `WithKanji` a kanji pair stays as it is although its second byte is a small letter, and a last byte that could begin
-/// a pair stays as it is too.
+/// Examples of folding. Under `Auto` and `BytesOnly` the input has the letters `A`, `Z`, `a` and `z`, and the bytes
+/// just before `A`, after `Z`, before `a` and after `z`. Under `WithKanji` a kanji pair stays as it is although its
+/// second byte is a small letter, and a last byte that could begin a pair stays as it is too.
 #[tactic(auto, unfolding(crate::specs::Folding::folded_around_pairs, crate::specs::Modes::is_kanji_pair))]
 pub fn foldings_compute()
     ensures auto { folded Rule.Auto (codes "@AZ[`az{") ≡ codes "@AZ[`AZ{" }
@@ -289,6 +291,41 @@ pub fn headers_are_equal(a: Header, b: Header) -> bool
     a == b
 }
 
+/// `==` says whether the two are the same `Interpretation`.
+pub fn interpretations_are_equal(a: Interpretation, b: Interpretation) -> bool
+    ensures { IsTrue result ↔ (a ≡ b) }
+{
+    a == b
+}
+
+/// `==` says whether the two are the same `Designator`.
+pub fn designators_are_equal(a: Designator, b: Designator) -> bool
+    ensures { IsTrue result ↔ (a ≡ b) }
+{
+    a == b
+}
+
+/// `==` says whether the two are the same `Item`.
+pub fn items_are_equal(a: Item, b: Item) -> bool
+    ensures { IsTrue result ↔ (a ≡ b) }
+{
+    a == b
+}
+
+/// `==` says whether the two are the same `Fnc1`.
+pub fn fnc1s_are_equal(a: Fnc1, b: Fnc1) -> bool
+    ensures { IsTrue result ↔ (a ≡ b) }
+{
+    a == b
+}
+
+/// `==` says whether the two are the same `EciChange`.
+pub fn eci_changes_are_equal(a: EciChange, b: EciChange) -> bool
+    ensures { IsTrue result ↔ (a ≡ b) }
+{
+    a == b
+}
+
 /// `==` says whether the two are the same `BitFault`.
 pub fn bit_faults_are_equal(a: BitFault, b: BitFault) -> bool
     ensures { IsTrue result ↔ (a ≡ b) }
@@ -326,6 +363,41 @@ pub fn segment_clones(a: Segment) -> Result<Segment, AllocError>
 
 /// A clone of a `Header` is equal to it.
 pub fn header_clones(a: Header) -> Result<Header, AllocError>
+    ensures { IfOk result (λ b. b ≡ a) }
+{
+    a.clone()
+}
+
+/// A clone of an `Interpretation` is equal to it.
+pub fn interpretation_clones(a: Interpretation) -> Result<Interpretation, AllocError>
+    ensures { IfOk result (λ b. b ≡ a) }
+{
+    a.clone()
+}
+
+/// A clone of a `Designator` is equal to it.
+pub fn designator_clones(a: Designator) -> Result<Designator, AllocError>
+    ensures { IfOk result (λ b. b ≡ a) }
+{
+    a.clone()
+}
+
+/// A clone of an `Item` is equal to it.
+pub fn item_clones(a: Item) -> Result<Item, AllocError>
+    ensures { IfOk result (λ b. b ≡ a) }
+{
+    a.clone()
+}
+
+/// A clone of a `Fnc1` is equal to it.
+pub fn fnc1_clones(a: Fnc1) -> Result<Fnc1, AllocError>
+    ensures { IfOk result (λ b. b ≡ a) }
+{
+    a.clone()
+}
+
+/// A clone of an `EciChange` is equal to it.
+pub fn eci_change_clones(a: EciChange) -> Result<EciChange, AllocError>
     ensures { IfOk result (λ b. b ≡ a) }
 {
     a.clone()

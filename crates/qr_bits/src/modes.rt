@@ -164,15 +164,18 @@ pub(crate) fn character_value(character: u8) -> u16
     ensures value { result ≡ character_value character }
     ensures most { result ≤ 44 }
 {
-    place_of(character).unwrap() as u16
+    index_of(character).unwrap() as u16
 }
 
 #[tactic(auto, unfolding(crate::specs::Modes::characters))]
-fn place_of(character: u8) -> Option<usize>
+fn index_of(character: u8) -> Option<usize>
     ensures { result ≡ position (λ c. c == character) characters }
 {
     CHARACTERS.iter().position(|other| *other == character)
 }
+
+// The number by which `kanji_value` multiplies the high byte (ISO/IEC 18004:2015, 7.4.6).
+pub(crate) const KANJI_FACTOR: u16 = 0xC0;
 
 // The number of 13 bits that is written for a kanji pair (ISO/IEC 18004:2015, 7.4.6). The subtraction closes the gap
 // between the two ranges of pairs, and leaves a low byte of at most BC. So it is enough to multiply the high byte by
@@ -188,7 +191,7 @@ pub(crate) fn kanji_value(high: u8, low: u8) -> u16
     } else {
         pair - 0xC140
     };
-    0xC0 * (rest / 256) + rest % 256
+    KANJI_FACTOR * (rest / 256) + rest % 256
 }
 
 pub(crate) fn may_use(rule: Rule, mode: Mode) -> bool

@@ -14,7 +14,8 @@ use crate::bits::BitReader;
 use crate::fault::ParseFault;
 use crate::interpretation::{Designator, EciChange, Fnc1, Item, fnc1_of, interpreted};
 use crate::modes::{
-    CHARACTERS, ECI, FNC1_FIRST, FNC1_SECOND, Mode, byte_count, count_width, mode_of, payload_bits,
+    CHARACTERS, ECI, FNC1_FIRST, FNC1_SECOND, KANJI_FACTOR, Mode, byte_count, count_width, mode_of,
+    payload_bits,
 };
 use crate::segmentation::Segment;
 use crate::stream::Header;
@@ -24,21 +25,22 @@ use std::marker::Model;
 
 // Limits of the numbers that are written for three digits, two digits, one digit, two characters, and one character.
 // Each number is below its limit (ISO/IEC 18004:2015, 7.4.3, 7.4.4).
-const THREE_DIGITS: u16 = 1000;
+const THREE_DIGITS_LIMIT: u16 = 1000;
 
-const TWO_DIGITS: u16 = 100;
+const TWO_DIGITS_LIMIT: u16 = 100;
 
-const ONE_DIGIT: u16 = 10;
+const ONE_DIGIT_LIMIT: u16 = 10;
 
-const PAIRS: u16 = 2025;
+const TWO_CHARACTERS_LIMIT: u16 = 2025;
 
-const SINGLES: u16 = 45;
+const ONE_CHARACTER_LIMIT: u16 = 45;
 
-// The greatest remainder that the value of a kanji pair leaves when it is divided by 0xC0 (ISO/IEC 18004:2015, 7.4.6).
+// The greatest remainder that the value of a kanji pair leaves when it is divided by `KANJI_FACTOR` (ISO/IEC
+// 18004:2015, 7.4.6).
 const LOW_MAX: u16 = 0xBC;
 
 // The number in an ECI designator has at most six digits, so it is below this limit (ISO/IEC 18004:2015, 7.4.2).
-pub(crate) const NUMBERS: u32 = 1_000_000;
+pub(crate) const ECI_LIMIT: u32 = 1_000_000;
 
 /// What data codewords contain.
 #[derive(Debug, Drop)]
@@ -233,7 +235,7 @@ fn designator(reader: &mut BitReader) -> Result<Designator, ParseFault>
     }
     let low = number(reader, 16)?;
     let number = 65536 * u32::from(first - 192) + u32::from(low);
-    if number >= NUMBERS {
+    if number >= ECI_LIMIT {
         return Err(ParseFault::BadValue);
     }
     Ok(Designator {
@@ -329,7 +331,7 @@ fn digits(reader: &mut BitReader, count: usize, out: &mut Vec<u8>) -> Result<(),
     let mut left = count;
     while left >= 3 {
         let group = reader.take(10);
-        if group >= THREE_DIGITS {
+        if group >= THREE_DIGITS_LIMIT {
             return Err(ParseFault::BadValue);
         }
         out.extend_from_slice(&[digit(group / 100), digit(group / 10), digit(group)])?;
@@ -350,14 +352,14 @@ fn last_digits(reader: &mut BitReader, left: usize, out: &mut Vec<u8>) -> Result
     match left {
         2 => {
             let group = reader.take(7);
-            if group >= TWO_DIGITS {
+            if group >= TWO_DIGITS_LIMIT {
                 return Err(ParseFault::BadValue);
             }
             out.extend_from_slice(&[digit(group / 10), digit(group)])?;
         }
         1 => {
             let group = reader.take(4);
-            if group >= ONE_DIGIT {
+            if group >= ONE_DIGIT_LIMIT {
                 return Err(ParseFault::BadValue);
             }
             out.push(digit(group))?;
@@ -383,7 +385,7 @@ fn characters(reader: &mut BitReader, count: usize, out: &mut Vec<u8>) -> Result
     let mut left = count;
     while left >= 2 {
         let pair = reader.take(11);
-        if pair >= PAIRS {
+        if pair >= TWO_CHARACTERS_LIMIT {
             return Err(ParseFault::BadValue);
         }
         out.extend_from_slice(&[character(pair / 45), character(pair % 45)])?;
@@ -391,7 +393,7 @@ fn characters(reader: &mut BitReader, count: usize, out: &mut Vec<u8>) -> Result
     }
     if left == 1 {
         let single = reader.take(6);
-        if single >= SINGLES {
+        if single >= ONE_CHARACTER_LIMIT {
             return Err(ParseFault::BadValue);
         }
         out.push(character(single))?;
@@ -425,7 +427,7 @@ fn kanji(reader: &mut BitReader, count: usize, out: &mut Vec<u8>) -> Result<(), 
     let mut left = count;
     while left > 0 {
         let value = reader.take(13);
-        if value % 0xC0 > LOW_MAX {
+        if value % KANJI_FACTOR > LOW_MAX {
             return Err(ParseFault::BadValue);
         }
         let pair = kanji_pair(value);
@@ -442,8 +444,10 @@ fn kanji_pair(value: u16) -> u16
     requires { value < 8192 }
     ensures { result ≡ kanji_pair value }
 {
-    let high = value / 0xC0;
-    let rest = 256 * high + value % 0xC0;
+    let high = value / KANJI_FACTOR;
+    let rest = 256 * high + value % KANJI_FACTOR;
+    // In the first range of pairs, `rest` is at most 9FFC - 8140, which is 1EBC. In the second range it is at least
+    // E040 - C140, which is 1F00 (all hexadecimal).
     if high <= 0x1E {
         rest + 0x8140
     } else {

@@ -20,7 +20,7 @@ use crate::modes::{
     ALPHANUMERIC, BYTE, ECI, FNC1_FIRST, KANJI, Mode, NUMERIC, STRUCTURED_APPEND, character_value,
     count_width, kanji_value,
 };
-use crate::parsing::NUMBERS;
+use crate::parsing::ECI_LIMIT;
 use crate::segmentation::Segment;
 use qr_layout::Version;
 use std::alloc::AllocError;
@@ -80,7 +80,7 @@ pub(crate) fn put_start(
 // codewords there are: 0 for one, 10 for two, and 110 for three (ISO/IEC 18004:2015, 7.4.2, Table 4).
 #[tactic(auto, unfolding(crate::specs::Interpretation::designator))]
 fn put_designator(writer: &mut BitWriter, number: u32) -> Result<(), AllocError>
-    requires { number < NUMBERS }
+    requires { number < ECI_LIMIT }
     ensures { OnOk result (writer.new ≡ writer.old ++ designator number) }
 {
     if number < 128 {

@@ -109,14 +109,14 @@ pub(crate) struct Pen {
 fn send<W: Sink>(out: &mut W, bytes: &[u8], interrupted: u16) -> Result<u16, DrawFault>
     requires { interrupted ≤ INTERRUPTIONS_MAX }
     ensures writes { MatchResult result
-        (λ tries. Writes (W.device out.old) (W.device out.new)
-        interrupted tries bytes.now [])
+        (λ interruptions. Writes (W.device out.old) (W.device out.new)
+        interrupted interruptions bytes.now [])
         (λ _. Stops (W.device out.old) (W.device out.new)
         interrupted bytes.now) }
-    ensures few { MatchResult result (λ tries. tries ≤ INTERRUPTIONS_MAX) (λ _. Unit {0}) }
+    ensures few { MatchResult result (λ interruptions. interruptions ≤ INTERRUPTIONS_MAX) (λ _. Unit {0}) }
 {
     let mut at: usize = 0;
-    let mut tries = interrupted;
+    let mut interruptions = interrupted;
     'offers: while at < bytes.len() {
         let len = (bytes.len() - at).min(WRITE_MAX);
         match out.write(&bytes[at..at + len]) {
@@ -127,23 +127,23 @@ fn send<W: Sink>(out: &mut W, bytes: &[u8], interrupted: u16) -> Result<u16, Dra
                 at += taken;
             }
             Err(Trouble::Interrupted) => {
-                if tries == INTERRUPTIONS_MAX {
+                if interruptions == INTERRUPTIONS_MAX {
                     return Err(DrawFault::Write);
                 }
-                tries += 1;
+                interruptions += 1;
             }
             Err(Trouble::Failed) => return Err(DrawFault::Write),
         }
     }
-    Ok(tries)
+    Ok(interruptions)
 }
 
 impl Pen {
     ghost use Rattle.std.specs.Prelude.{◌≡◌, ◌≤◌, ◌+◌, [], OnOk, length};
     ghost use Rattle.qr_drawing.specs.Steps.Pen.{Reserves};
 
-    /// Makes room for `room` bytes. If the pen has less room, all its bytes are written. So the pen is empty after a call
-    /// with `WRITE_MAX`.
+    /// Makes room for `room` bytes. If the pen has less room, all its bytes are written. So the pen is empty after a
+    /// call with `WRITE_MAX`.
     #[inline(always)]
     pub(crate) fn reserve<W: Sink>(&mut self, out: &mut W, room: usize) -> Result<(), DrawFault>
         requires { room ≤ WRITE_MAX }

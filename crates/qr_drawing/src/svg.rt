@@ -18,7 +18,9 @@ use qr_devices::Sink;
 // than 32 the writes would have other sizes, and the test `sizes_of_single_writes` in `command_tests` would fail.
 const BOX_MAX: usize = 32;
 
-// How many bytes of room the pen has to have for all that comes before the first box.
+// How many bytes of room the pen has to have for all that comes before the first box. This is at most 263 bytes: 39 of
+// the XML declaration, at most 120 from `push_opening`, at most 80 from `push_background`, and 24 of the beginning of
+// the path.
 const HEAD_MAX: usize = 300;
 
 // The number of bytes after the last box.
@@ -26,8 +28,8 @@ const TAIL: usize = 11;
 
 // `push_digit` and the three functions after it append numbers digit by digit, which takes fewer instructions than the
 // crate `itoa` does. They are used for the row of a box, and for its width if the box has ten modules or more. Smaller
-// widths come from the table `SHORT_RUNS`, and the digits of a column from the table `TWO_DIGITS`. `itoa` formats the
-// numbers before the path.
+// widths come from the table `SHORT_RUNS`. For a column `push_column` takes the last two digits from the table
+// `TWO_DIGITS`, and computes the first of three digits, or the only one. `itoa` formats the numbers before the path.
 fn push_digit<const CAP: usize>(text: &mut Piece<CAP>, digit: u16)
     requires digit { digit < 10 }
     requires room { length text.old < CAP }
@@ -200,8 +202,8 @@ fn push_opening(text: &mut Piece<PEN_SIZE>, width: u16, height: u16)
     ensures items { text.new ≡ text.old ++ opening width height }
     ensures len { length text.new ≤ length text.old + 120 }
 {
-    let width_after = b"<svg xmlns=\"http://www.w3.org/2000/svg\" version=\"1.1\" viewBox=\"0 0 ";
-    push_numbered(text, width_after, width);
+    let before_width = b"<svg xmlns=\"http://www.w3.org/2000/svg\" version=\"1.1\" viewBox=\"0 0 ";
+    push_numbered(text, before_width, width);
     push_numbered(text, b" ", height);
     text.push_all(b"\" shape-rendering=\"crispEdges\">\n");
 }

@@ -2,9 +2,9 @@
 //! shows a module `upper` and the module `lower` below it; in the other styles it is two characters, which show only
 //! the module `upper`.
 //!
-//! Most cells are appended eight or four at a time, by copies from tables. In names, `eight` means eight neighbouring
-//! modules of a row, `quad` four and `pair` two. These modules are the bits of a number. Bit 0 is the leftmost module,
-//! and a bit that is 1 is dark.
+//! Most modules are read eight at a time, and most cells are appended four at a time, by one or two copies from a
+//! table. In names, `eight` means eight neighbouring modules of a row, `quad` four and `pair` two. These modules are
+//! the bits of a number. Bit 0 is the leftmost module, and a bit that is 1 is dark.
 //!
 //! A raster has fewer than 1,000 rows (`drawing.rt` says why). So the number of a line, counted from 0, is below 1,000.
 //! The first row of modules that a line shows has a number below 2,000.
@@ -68,8 +68,8 @@ fn push_cell(text: &mut Piece<PEN_SIZE>, style: TextStyle, upper: bool, lower: b
     text.push_all(&[character; 2]);
 }
 
-// Returns eight modules of row `y` of the raster, from column `col` of the square on. All are light if the first of them
-// is not in the square.
+// Returns eight modules of row `y` of the raster, from column `col` of the square on. All are light if the first of
+// them is not in the square.
 #[inline(always)]
 #[tactic(auto, using(crate::proofs::lemmas::svg::is_dark_at_above, crate::proofs::lemmas::svg::is_dark_at_below, crate::proofs::lemmas::text::CellLemmas::dark_none))]
 fn dark_bits(raster: &Raster, y: u16, col: u8) -> u8
@@ -260,7 +260,7 @@ pub(crate) fn put_texts<S: HasSquare, W: Sink>(
             matrix: symbol.square(),
             margin,
         };
-        let rows = 2 * u16::from(margin) + u16::from(raster.matrix.side());
+        let rows = raster.width();
         // If the number of rows is odd, the last line of half blocks shows one row, and light modules below it.
         let lines = match style {
             TextStyle::Plain | TextStyle::Inverse => rows,

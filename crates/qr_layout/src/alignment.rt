@@ -106,12 +106,12 @@ fn is_corner_pair(side: u8, a: u8, b: u8) -> bool
     requires { 21 ≤ side }
     ensures { result ≡ is_corner_pair side a b }
 {
-    let last = side - 7;
-    a == 6 && b == 6 || a == 6 && b == last || a == last && b == 6
+    let last_centre = side - 7;
+    a == 6 && b == 6 || a == 6 && b == last_centre || a == last_centre && b == 6
 }
 
 // Whether column `col` crosses an alignment pattern whose centre is in row `a`.
-fn is_beside(centres: &[u8], side: u8, a: u8, col: u8) -> bool
+fn column_crosses_pattern(centres: &[u8], side: u8, a: u8, col: u8) -> bool
     requires { 21 ≤ side }
     ensures { result ≡ list_any (λ b. nat_le (b - 2) col && nat_lt col (b + 3)
         && not (is_corner_pair side a b)) centres.now }
@@ -128,11 +128,10 @@ fn is_in_pattern(centres: &[u8], side: u8, row: u8, col: u8) -> bool
         && list_any (λ b. nat_le (b - 2) col && nat_lt col (b + 3)
         && not (is_corner_pair side a b)) centres.now) centres.now }
 {
-    centres
-        .iter()
-        .any(|a| is_near(*a, row) && is_beside(centres, side, *a, col))
+    centres.iter().any(|a| is_near(*a, row) && column_crosses_pattern(centres, side, *a, col))
 }
 
+// Whether a place is in an alignment pattern of a symbol of this version.
 #[tactic(auto, using(crate::proofs::lemmas::alignment::alignment_parts))]
 pub(crate) fn is_in_alignment(version: Version, row: u8, col: u8) -> bool
     ensures { result ≡ is_alignment version row col }

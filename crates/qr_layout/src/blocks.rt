@@ -50,7 +50,8 @@ static BLOCK_COUNTS: [[u8; 40]; 4] = [
 ];
 
 /// How many blocks a symbol has, and how many codewords each of them has. The short blocks come before the long ones
-/// (ISO/IEC 18004:2015, 7.5.1, Table 9).
+/// (ISO/IEC 18004:2015, 7.5.1, Table 9). The bounds that are given for the fields hold of the values that
+/// `Version::blocks` returns.
 #[derive(Clone, Copy, Debug, PartialEq, Eq)]
 pub struct Blocks {
     /// The number of short blocks, at least 1.
@@ -64,6 +65,7 @@ pub struct Blocks {
 }
 
 impl Version {
+    // How many error correction codewords each block has.
     fn correction_len(self, level: Level) -> u8
         ensures { result ≡ correction_len_of self level }
     {

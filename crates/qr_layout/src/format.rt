@@ -168,9 +168,9 @@ impl Version {
     }
 }
 
-// The bit of the version information that the module at a place contains, or `None` if it contains none. In the copy
-// beside the top right finder pattern, row 0 has bits 0 to 2 from left to right, row 1 bits 3 to 5, and so on to row 5.
-// In the other copy, rows and columns are exchanged.
+// The bit of the version information that the module at a place contains, or `None` if it contains none. Symbols have
+// version information from version 7 on. In the copy beside the top right finder pattern, row 0 has bits 0 to 2 from
+// left to right, row 1 bits 3 to 5, and so on to row 5. In the other copy, rows and columns are exchanged.
 #[tactic(auto, using(crate::proofs::lemmas::format::BitPlaceLemmas::version_at))]
 pub(crate) fn version_bit(version: Version, row: u8, col: u8) -> Option<u8>
     requires row_in { row < side_of version }

@@ -1,12 +1,12 @@
 //! The order in which codewords fill the encoding region (ISO/IEC 18004:2015, 7.7.3), as a walk through the symbol. The
 //! walk goes through the strips from right to left: upward in the first, downward in the second, and so on by turns. In
-//! each row of a strip the right module comes before the left one. In a symbol of four rows, the walk would go through
-//! the two rightmost strips thus:
+//! each row of a strip the right module comes before the left one. In a symbol of four rows, the modules of the two
+//! rightmost strips would have these indices in the walk:
 //!
-//!     10  9   8  7
-//!     12 11   6  5
-//!     14 13   4  3
-//!     16 15   2  1
+//!      9  8   7  6
+//!     11 10   5  4
+//!     13 12   3  2
+//!     15 14   1  0
 //!
 //! The walk yields the places that are in the encoding region, and passes over the others.
 
@@ -34,7 +34,7 @@ struct Cursor {
 }
 
 impl Cursor {
-    // There are at most 88 strips, in version 40.
+    // The place of the module that the cursor is at. There are at most 88 strips, in version 40.
     fn place(self) -> Place
         requires strips_left { 0 < self.strips_left }
         requires strips_in { self.strips_left ≤ 88 }
@@ -141,6 +141,7 @@ pub fn walk(version: Version) -> Places
     Places {
         version,
         cursor: Cursor {
+            // All columns but column 6 are in strips, so there are (side - 1) / 2 strips.
             strips_left: 8 + 2 * version.number(),
             row: version.side() - 1,
             at_left: false,

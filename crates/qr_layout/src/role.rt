@@ -40,8 +40,8 @@ fn finder_ring(side: u8, row: u8, col: u8) -> u8
     requires { 21 ≤ side }
     ensures { result ≡ finder_ring side row col }
 {
-    let far = side - 4;
-    ring(3, 3, row, col).min(ring(3, far, row, col).min(ring(far, 3, row, col)))
+    let far_centre = side - 4;
+    ring(3, 3, row, col).min(ring(3, far_centre, row, col).min(ring(far_centre, 3, row, col)))
 }
 
 // Whether a place is in the light ring of an alignment pattern, which is ring 1 around its centre.

@@ -26,7 +26,7 @@ pub struct Strip {
     pub upward: bool,
 }
 
-// There are at most 88 strips, in version 40. Those with an even number are filled upward.
+// The strip with this number. There are at most 88 strips, in version 40. Those with an even number are filled upward.
 #[inline(always)]
 pub(crate) fn strip_at(number: u8) -> Strip
     requires least { 0 < number }
@@ -93,6 +93,7 @@ pub fn all_strips(version: Version) -> Strips
     ensures inside { All (λ x. (1 ≤ x.right) × (x.right < side_of version)) result }
 {
     Strips {
+        // All columns but column 6 are in strips, so there are (side - 1) / 2 strips.
         remaining: 8 + 2 * version.number(),
     }
 }

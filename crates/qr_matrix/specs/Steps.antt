@@ -93,11 +93,11 @@ abbrev pub is_near_five : (ℕ → Bool) → ℕ → Bool
 is_near_five join r = (begin_five join r || (nat_lt 0 r && begin_five join (r - 1))) || (nat_lt 1 r && begin_five join (r - 2))
 
 -- What the code knows of a column when the first `n` comparisons are done. The comparison `k`, counted from 0, says
--- whether the modules in the rows `k` and `k + 1` have the same colour, and `join k` is its result. `joined` is true if
+-- whether the modules in the rows `k` and `k + 1` have the same colour, and `join k` is its result. `same` is true if
 -- the last comparison was true, `threes` if the last two were, and `fives` if the last four were. `earlier_threes` and
 -- `earlier_fives` are what `threes` and `fives` were one comparison earlier
-pub record IsAbove (join : ℕ → Bool) (n : ℕ) (joined threes earlier_threes fives earlier_fives : Bool) : Type 0 where
-  pub joined_is : joined ≡ (nat_lt 0 n && join (n - 1))
+pub record IsAbove (join : ℕ → Bool) (n : ℕ) (same threes earlier_threes fives earlier_fives : Bool) : Type 0 where
+  pub same_is : same ≡ (nat_lt 0 n && join (n - 1))
   pub threes_are : threes ≡ (nat_lt 1 n && (join (n - 2) && join (n - 1)))
   pub earlier_threes_are : earlier_threes ≡ (nat_lt 2 n && (join (n - 3) && join (n - 2)))
   pub fives_are : fives ≡ (nat_lt 3 n && begin_five join (n - 4))

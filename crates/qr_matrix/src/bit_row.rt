@@ -95,8 +95,7 @@ impl BitRow {
         requires { pattern < 64 }
         ensures { (c : ℕ) → c < 192 → has result c ≡ has_bit pattern (c % 6) }
     {
-        // Bit c of the row is bit `c % 6` of the pattern. 64 % 6 is 4 and 128 % 6 is 2, so the second word begins with
-        // bit 4 of the pattern, and the third with bit 2.
+        // 64 % 6 is 4 and 128 % 6 is 2, so the second word begins with bit 4 of the pattern, and the third with bit 2.
         let pattern = u64::from(pattern);
         let word = pattern.wrapping_mul(SIXTHS);
         BitRow([word, word << 2 | pattern >> 4, word << 4 | pattern >> 2])

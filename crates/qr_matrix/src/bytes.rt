@@ -70,7 +70,7 @@ fn word_of(bytes: &[u8], start: usize) -> Option<u64>
 // Returns the row of `side` modules from byte `start` on. It is read 64 bytes at a time, so bytes after the row are
 // read too. Returns `None` if byte `end` would have to be read, or if a byte that is read is neither 0 nor 1.
 #[inline(always)]
-fn plain_row_of(bytes: &[u8], start: usize, end: usize, side: u8) -> Option<BitRow>
+fn row_by_words(bytes: &[u8], start: usize, end: usize, side: u8) -> Option<BitRow>
     requires least { 1 ≤ side }
     requires most { side ≤ 177 }
     requires room { start + side ≤ end }
@@ -117,7 +117,7 @@ fn rows_of(bytes: &[u8], start: usize, end: usize, side: u8) -> (BitRow, BitRow)
     ensures dark { (c : ℕ) → has result.0 c ≡ (nat_lt c side && not (slice_index_or bytes.now (start + c) 0 == 0)) }
     ensures unknown { (c : ℕ) → has result.1 c ≡ (nat_lt c side && slice_index_or bytes.now (start + c) 0 == 2) }
 {
-    match plain_row_of(bytes, start, end, side) {
+    match row_by_words(bytes, start, end, side) {
         Some(row) => (row, BitRow::EMPTY),
         None => {
             let light = modules_of(bytes, start, side, LIGHT);

@@ -138,6 +138,7 @@ impl Matrix {
         self.rows[row]
     }
 
+    // Returns one word of row `row`. Word `number` has the 64 columns from column `64 * number` on.
     #[tactic(auto, using(crate::proofs::Named::bit_row_facts, crate::proofs::Named::row_facts))]
     pub(crate) fn word(&self, row: usize, number: usize) -> u64
         requires row_in { row < self.now.side }
@@ -198,8 +199,8 @@ impl Matrix {
         let words = side.div_ceil(64);
         for band in 0..words {
             for word in 0..words {
-                // Tile `band` of band `word` of `other`. If it has rows below the last row of the square, these stay
-                // light.
+                // The tile of `other` that becomes tile `word` of band `band` of this square. In `other` it is tile
+                // `band` of band `word`. If it has rows below the last row of the square, these stay light.
                 let mut tile = [0; 64];
                 for line in 0..(side - 64 * word).min(64) {
                     tile[line] = other.rows[64 * word + line].0[band];

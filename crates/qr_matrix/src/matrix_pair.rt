@@ -285,60 +285,62 @@ impl MatrixPair {
         self.rows[usize::from(row)].put_bits(col, count, bits);
     }
 
+    // As `set_rows_masked`, but for squares whose rows take `words` words. The callers pass a constant, so that the
+    // compiler leaves out the words that are always empty.
     #[inline(always)]
     fn set_rows_masked_in(
         &mut self,
         first: u8,
-        plain: &Matrix,
+        unmasked: &Matrix,
         within: &Matrix,
         patterns: (u8, u8),
         words: u8,
     )
         requires first_in { first < 12 }
-        requires plain_side { plain.now.side ≡ self.old.first.side }
+        requires unmasked_side { unmasked.now.side ≡ self.old.first.side }
         requires within_side { within.now.side ≡ self.old.first.side }
         requires patterns_in { (patterns.0 < 64) × (patterns.1 < 64) }
         requires width { NeedsWords self.old.first.side words }
         ensures { (second : Bool) → one_of self.new second ≡ square self.old.first.side
             (λ r c. if r % 12 == first then (if colour within.now r c
             && has_bit (if second then patterns.1 else patterns.0) (c % 6)
-            then not (colour plain.now r c) else colour plain.now r c) else colour (one_of self.old second) r c) }
+            then not (colour unmasked.now r c) else colour unmasked.now r c) else colour (one_of self.old second) r c) }
     {
         let pattern = RowPair::of(BitRow::repeated(patterns.0), BitRow::repeated(patterns.1));
         let side = usize::from(self.side);
         let mut row = usize::from(first);
         while row < side {
-            let (bits, region) = (plain.bit_row(row), within.bit_row(row));
+            let (bits, region) = (unmasked.bit_row(row), within.bit_row(row));
             let inverted = RowPair::of(region, region) & pattern;
             self.rows[row].put_words(words, RowPair::of(bits, bits) ^ inverted);
             row += 12;
         }
     }
 
-    /// Copies every twelfth row of `plain`, from row `first` on, into both squares. The module in column c is inverted
-    /// if `within` is dark at its place, and bit `c % 6` of the pattern is 1. The pattern is `patterns.0` for the first
-    /// square, and `patterns.1` for the second. Bit 0 is the lowest bit.
+    /// Copies every twelfth row of `unmasked`, from row `first` on, into both squares. The module in column c is
+    /// inverted if `within` is dark at its place, and bit `c % 6` of the pattern is 1. The pattern is `patterns.0` for
+    /// the first square, and `patterns.1` for the second. Bit 0 is the lowest bit.
     pub fn set_rows_masked(
         &mut self,
         first: u8,
-        plain: &Matrix,
+        unmasked: &Matrix,
         within: &Matrix,
         patterns: (u8, u8),
     )
         requires first_in { first < 12 }
         requires squares { (second : Bool) → IsSquare self.old.first.side (one_of self.old second) }
-        requires plain_side { plain.now.side ≡ self.old.first.side }
+        requires unmasked_side { unmasked.now.side ≡ self.old.first.side }
         requires within_side { within.now.side ≡ self.old.first.side }
         requires patterns_in { (patterns.0 < 64) × (patterns.1 < 64) }
         ensures { (second : Bool) → one_of self.new second ≡ square self.old.first.side
             (λ r c. if r % 12 == first then (if colour within.now r c
             && has_bit (if second then patterns.1 else patterns.0) (c % 6)
-            then not (colour plain.now r c) else colour plain.now r c) else colour (one_of self.old second) r c) }
+            then not (colour unmasked.now r c) else colour unmasked.now r c) else colour (one_of self.old second) r c) }
     {
         match self.side.div_ceil(64) {
-            1 => self.set_rows_masked_in(first, plain, within, patterns, 1),
-            2 => self.set_rows_masked_in(first, plain, within, patterns, 2),
-            _ => self.set_rows_masked_in(first, plain, within, patterns, 3),
+            1 => self.set_rows_masked_in(first, unmasked, within, patterns, 1),
+            2 => self.set_rows_masked_in(first, unmasked, within, patterns, 2),
+            _ => self.set_rows_masked_in(first, unmasked, within, patterns, 3),
         }
     }
 }

@@ -15,6 +15,7 @@ use crate::windows::window_count;
 // The points of Table 11 for a square, which here is two by two modules of one colour.
 const SQUARE_POINTS: u32 = 3;
 
+// The points of Table 11 for a window.
 const WINDOW_POINTS: u32 = 40;
 
 // The points for each whole 5 % by which the share of dark modules differs from a half.
@@ -94,6 +95,9 @@ pub(crate) fn count_all<S: Squares>(squares: &S) -> Counted<<S::Row as Rows>::Co
     }
 }
 
+// The penalty of a square in which this was counted. The bounds follow from how it was counted. At each of the rows, at
+// most 177, the set bits of one bit row were counted, which has 192 bits. For runs and windows the set bits of two bit
+// rows were counted, one for those that lie in the row and one for those that lie in columns.
 fn points(side: u8, counted: Counted<u32>) -> u32
     requires least { 1 ≤ side }
     requires most { side ≤ 177 }

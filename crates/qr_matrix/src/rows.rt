@@ -24,8 +24,11 @@ pub(crate) trait Rows: Copy
     // argument is the column.
     ghost bit: { Self → (second : Bool) → ℕ → Bool };
 
+    // The number of one of the squares. `second` says which square is meant.
     ghost number: { Self.Counts → (second : Bool) → ℕ };
 
+    // The row in which the bits below `n` are set. These bits fill the first `words` words, but may end anywhere in the
+    // last of them. Where `words` is a constant, the compiler knows the other words.
     fn below_in(n: u8, words: u8) -> Self
         requires least { 64 * (words - 1) ≤ n }
         requires most { n ≤ 64 * words }
@@ -44,6 +47,8 @@ pub(crate) trait Rows: Copy
         ensures { (second : Bool) (c : ℕ) → c < 192
             → bit result second c ≡ (nat_lt 0 c && bit self second (c - 1)) };
 
+    // Whether no bit is set in any of the squares' rows. The answer only saves time, so the contract says nothing of
+    // the answer `false`.
     fn is_empty(self) -> bool
         ensures { result ≡ true → (second : Bool) (c : ℕ) → bit self second c ≡ false };
 

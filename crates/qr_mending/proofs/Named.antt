@@ -5,7 +5,7 @@ use Rattle.qr_mending.proofs.lemmas.block.{erasures-one, differences-same, mende
 use Rattle.qr_mending.proofs.lemmas.{erasures.{errors-more, modified-more, erasures-marked, length-read, errors-self}, errors.RemovalLemmas.sum-more}
 use Rattle.qr_mending.proofs.lemmas.{format.{near-one, near-two}, laws.{DistanceLemmas.symbols-apart, WeakerLemmas.weaker-block}}
 use Rattle.qr_mending.proofs.lemmas.locator.{add-all, add-begins, add-leading, add-more, add-skip, search-begins, shift-more, shift-leading}
-use Rattle.qr_mending.proofs.lemmas.{mending.unmended-one, roots.{length-rooted, length-rooted_rest, divided-more, rest-more_divided, value-more_divided}}
+use Rattle.qr_mending.proofs.lemmas.{mending.unmended-one, roots.{length-rooted, length-rooted_rest, divided-more, quotient-value-more_divided, value-more_divided}}
 use Rattle.qr_mending.proofs.lemmas.sums.{digits-added, table-at, multiple-first, multiple-is, multiple-none, multiple-same, values-none}
 use Rattle.qr_symbol.proofs.Facts.{data-sizes-whole, readings-none, sizes-whole, unjoined-next}
 use Rattle.std.{proofs.lemmas.{List.{take_all, take_rest, take-replicate, Elements.All-from_get_or}, Result.err_from_is_err_and}, specs.Int.Bits.xor_zero_r}
@@ -30,7 +30,7 @@ pub ruleset shift_facts = (shift-more, shift-leading, take-replicate)
 
 pub ruleset root_facts = (All-from_get_or, length-rooted, length-rooted_rest)
 
-pub ruleset division_facts = (All-from_get_or, divided-more, rest-more_divided, value-more_divided)
+pub ruleset division_facts = (All-from_get_or, divided-more, quotient-value-more_divided, value-more_divided)
 
 pub ruleset block_facts = (differences-same, mended-same)
 

@@ -43,9 +43,9 @@ abbrev pub compared_cost : FormatCopy → ℕ → ℕ
 compared_cost First cost = 2 * cost
 compared_cost Second cost = 2 * cost + 1
 
--- The square has to be read with the level `l` and the mask `mask`. They are near to a copy of the format information.
--- Of all pairs of level and mask that are near to a copy, and with which all blocks can be mended, none has a lower
--- number by `compared_cost` (ISO/IEC 18004:2015, 7.9.1, 12)
+-- `l` and `mask` are the level and the mask with which the square is read. They are near to a copy of the format
+-- information. Of all pairs of level and mask that are near to a copy, and with which all blocks can be mended, none has
+-- a lower number by `compared_cost` (ISO/IEC 18004:2015, 7.9.1, 12)
 pub record HasFormat (unknown : Grid) (v : ℕ) (g : Grid) (l : Level) (mask : ℕ) : Type 0 where
   pub copy : FormatCopy
   pub near : IsNearFormat unknown copy g l mask
@@ -54,8 +54,8 @@ pub record HasFormat (unknown : Grid) (v : ℕ) (g : Grid) (l : Level) (mask : �
       → compared_cost copy (format_cost unknown g l mask) ≤ compared_cost other (format_cost unknown g k n)
 
 -- The square `g` is a damaged form of a symbol of version `v` with the data codewords `message`. It has the side of
--- this version, and it has to be read with the level `l` and the mask `mask`. If it is read so, its blocks can be
--- mended to `message` (ISO/IEC 18004:2015, 7.5.1, 7.9.1, 12)
+-- this version. `l` and `mask` are the level and the mask with which it is read (`HasFormat`). If it is read so, its
+-- blocks can be mended to `message` (ISO/IEC 18004:2015, 7.5.1, 7.9.1, 12)
 pub record IsDamagedForm (unknown g : Grid) (v : ℕ) (l : Level) (mask : ℕ) (message changed : List ℕ) : Type 0 where
   pub sized : IsOfVersion g v
   pub format : HasFormat unknown v g l mask

@@ -38,6 +38,8 @@ fn count_differences(xs: &[u8], ys: &[u8]) -> usize
     count
 }
 
+// Returns whether the codewords are a block of the code: whether the last of them are the error correction codewords
+// that belong to those before.
 pub(crate) fn is_block(divisor: &Divisor, codewords: &[u8]) -> bool
     requires { divisor.now ≤ length codewords.now }
     ensures { Decides result (IsBlock divisor.now codewords.now) }
@@ -47,6 +49,7 @@ pub(crate) fn is_block(divisor: &Divisor, codewords: &[u8]) -> bool
     correction.as_slice() == &codewords[start..]
 }
 
+// Adds two polynomials, given by their coefficients. In the field, the sum of two elements is their exclusive or.
 #[tactic(auto, using(crate::proofs::Named::sum_facts))]
 fn sum(xs: &[u8], ys: &[u8]) -> ArrayVec<u8, 30>
     requires long { length xs.now ≡ length ys.now }

@@ -25,22 +25,24 @@ use qr_field::{div, exponent_of, mul, power_of};
 
 // Divides a polynomial by x + `root` by Horner's rule, and returns the value of the quotient at `root`. `terms` lists
 // the coefficients of the polynomial, that of the lowest power first. They are replaced by the coefficients of the
-// quotient. The quotient has one coefficient less, so the last of `terms` becomes 0. The remainder is not returned.
+// quotient. The quotient has one coefficient less, so the last of `terms` becomes 0. In each turn `carried` is the
+// coefficient of the quotient that the turn writes. What it is after the last turn is the remainder of the division,
+// which is not returned.
 #[tactic(auto, using(crate::proofs::Named::division_facts))]
 fn divide(terms: &mut [u8], root: u8) -> u8
     ensures quotient { terms.new ≡ quotient root terms.old }
     ensures value { result ≡ eval root (quotient root terms.old) }
     ensures bytes { All IsByte terms.old }
 {
-    let mut value = 0;
-    let mut rest = 0;
+    let mut carried = 0;
+    let mut quotient_at_root = 0;
     for j in (0..terms.len()).rev() {
-        let next = terms[j] ^ mul(root, value);
-        terms[j] = value;
-        rest = value ^ mul(root, rest);
-        value = next;
+        let next = terms[j] ^ mul(root, carried);
+        terms[j] = carried;
+        quotient_at_root = carried ^ mul(root, quotient_at_root);
+        carried = next;
     }
-    rest
+    quotient_at_root
 }
 
 // Divides `locator` by x + `root` until `root` is no longer a root of `locator`. Returns the value that `locator` then
@@ -54,12 +56,12 @@ fn divide_out(locator: &mut ArrayVec<u8, 31>, root: u8) -> u8
     ensures value { result ≡ eval root locator.new.items }
     ensures others { (y : ℕ) → IsByte y → y ≢ root → eval y locator.old.items ≡ 0 → eval y locator.new.items ≡ 0 }
 {
-    let mut rest = 0;
-    while rest == 0 {
-        rest = divide(locator.as_mut_slice(), root);
+    let mut value_at_root = 0;
+    while value_at_root == 0 {
+        value_at_root = divide(locator.as_mut_slice(), root);
         locator.pop();
     }
-    rest
+    value_at_root
 }
 
 // Takes the error of the codeword at `location` out of the syndromes.
@@ -114,10 +116,10 @@ impl Removal {
             AreLeft location errors self.new }
     {
         let root = power_of(location);
-        let rest = divide_out(&mut self.locator, root);
+        let value_at_root = divide_out(&mut self.locator, root);
         let error = div(
             dot(self.locator.as_slice(), self.syndromes.as_slice()),
-            rest,
+            value_at_root,
         );
         self.syndromes.truncate(self.locator.len() - 1);
         remove(self.syndromes.as_mut_slice(), error, location);

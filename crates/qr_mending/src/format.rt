@@ -152,6 +152,7 @@ pub(crate) fn format_cost(scan: &Scan, level: Level, mask: u8) -> u8
     first + CopyBits::read(scan, FormatCopy::Second).cost(word)
 }
 
+// Returns the mask with which `level` is near to the copy, if there is one.
 fn near_mask_of(bits: CopyBits, level: Level) -> Option<u8>
     ensures { (u g : Grid) (copy : FormatCopy) → AreBitsOf u copy g bits → MatchOption result
         ((mask : ℕ) → IsNearFormat u copy g level mask → ⊥) (λ mask. IsNearFormat u copy g level mask) }

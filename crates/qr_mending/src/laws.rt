@@ -1,9 +1,8 @@
 //! Laws of mending. The contract of each function is the law. Where a function has code, the law is about what this
 //! code returns.
 //!
-//! Suppose that the symbol has a certain level and mask; then a copy of the format information costs 1 for each of its
-//! modules that was not read, and 2 for each that is misread. A level and a mask are near to a copy if this cost is at
-//! most 6. A codeword is erased if it is known to be unreadable, and misread if it was read with a wrong value.
+//! `format.rt` says what a copy of the format information costs, and when a level and a mask are near to it. A codeword
+//! is erased if it is known to be unreadable, and misread if it was read with a wrong value.
 
 ghost use Rattle.std.specs.Prelude.{◌≡◌, ◌≢◌, ◌↔◌, ◌⊎◌, Err, ℕ, ◌+◌, ◌*◌, ◌/◌, ◌<◌, ◌≤◌, ◌==◌, ◌&&◌, false, List, [], ◌∷◌, map, length, replicate, Option, None, MatchResult};
 ghost use Rattle.std.specs.List.{All};

@@ -23,12 +23,12 @@ use arrayvec::ArrayVec;
 use qr_field::div;
 
 // `best` solves all equations for which enough syndromes were taken in. `earlier` is what `best` was before its degree
-// last rose. `discrepancy` is the sum that `earlier` has for the first equation that it does not solve.
+// last rose. `earlier_discrepancy` is the sum that `earlier` has for the first equation that it does not solve.
 #[derive(Drop)]
 pub(crate) struct Search {
     pub(crate) best: Polynomial,
     earlier: Polynomial,
-    discrepancy: u8,
+    earlier_discrepancy: u8,
 }
 
 impl Search {
@@ -42,7 +42,7 @@ impl Search {
         Search {
             best: one,
             earlier: one,
-            discrepancy: 1,
+            earlier_discrepancy: 1,
         }
     }
 
@@ -70,7 +70,7 @@ impl Search {
         if discrepancy == 0 {
             return true;
         }
-        let factor = div(discrepancy, self.discrepancy);
+        let factor = div(discrepancy, self.earlier_discrepancy);
         if 2 * degree > i {
             self.best.add(factor, &self.earlier, 2 * degree - i - 1);
             return true;
@@ -82,7 +82,7 @@ impl Search {
         raised.add(factor, &self.earlier, 0);
         self.earlier = self.best;
         self.best = raised;
-        self.discrepancy = discrepancy;
+        self.earlier_discrepancy = discrepancy;
         true
     }
 }

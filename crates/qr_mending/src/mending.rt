@@ -1,9 +1,7 @@
 //! Mends and reads damaged symbols (ISO/IEC 18004:2015, 7.5.1, 7.9.1 and 12). A codeword is erased if one of its
 //! modules was not read. Each codeword has a mark in `marks`, which is 0 exactly if the codeword is not erased.
 //!
-//! Suppose that the symbol has a certain level and mask. Then a copy of the format information costs 1 for each of its
-//! modules that was not read, and 2 for each that is misread. A level and a mask are near to a copy if this cost is at
-//! most 6.
+//! `format.rt` says what a copy of the format information costs, and when a level and a mask are near to it.
 
 ghost use Rattle.std.specs.Prelude.{◌≡◌, ◌<◌, ◌≤◌, length, IfErr, IfOk, IfSome, MatchOption, MatchResult};
 ghost use Rattle.std.specs.Bool.{OnTrue};
@@ -69,6 +67,8 @@ fn mend_with(
     }
 }
 
+// Whether the two pairs of level and mask are the same. `==` says this too, but with it the WebAssembly file has 400
+// bytes more.
 fn is_same_format(a: Option<(Level, u8)>, b: Option<(Level, u8)>) -> bool
     ensures { OnTrue result (a ≡ b) }
 {
@@ -126,21 +126,21 @@ fn mend_by_format(alloc: Global, scan: &Scan) -> Result<Option<MendedSquare>, Re
     ensures fault { IfErr result (λ e. e ≡ ReadFault.Memory) }
 {
     let marks = read_marks(alloc, scan.version, scan.unknown)?;
-    let near = near_format_of(scan, FormatCopy::First);
-    let first = mend_with(alloc, scan, &marks, near)?;
+    let near_first = near_format_of(scan, FormatCopy::First);
+    let first = mend_with(alloc, scan, &marks, near_first)?;
     if is_certain(scan, &first) {
         return Ok(first);
     }
-    let other = near_format_of(scan, FormatCopy::Second);
-    if is_same_format(near, other) {
+    let near_second = near_format_of(scan, FormatCopy::Second);
+    if is_same_format(near_first, near_second) {
         return Ok(first);
     }
-    let second = mend_with(alloc, scan, &marks, other)?;
+    let second = mend_with(alloc, scan, &marks, near_second)?;
     Ok(nearer(scan, first, second))
 }
 
-// Counts the wrong modules by comparing the square with `symbol`, the undamaged symbol. Where a module was not read,
-// `symbol` first gets another colour than the square has, so that the two differ exactly where a module is wrong.
+// Counts the wrong modules by comparing the square with `symbol`, the undamaged symbol. First each module of `symbol`
+// that was not read in `scan.matrix` gets the colour that it does not have there, so that `differences` counts it too.
 fn count_wrong(scan: &Scan, mut symbol: Matrix) -> u32
     requires { symbol.side ≡ scan.now.matrix.now.side }
     ensures { result ≡ wrong_modules scan.now.unknown.now scan.now.matrix.now symbol }

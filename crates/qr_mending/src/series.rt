@@ -23,9 +23,10 @@ fn mend_all(alloc: Global, damaged: &[Matrix]) -> Result<Vec<Parsed>, ReadFault>
     Ok(contents)
 }
 
-/// Mends damaged symbols, and joins their bytes in order, if they are one symbol without a structured append header, or
-/// a whole series (ISO/IEC 18004:2015, 8 and 12). A series is whole if each structured append header has the position
-/// of its symbol (from 0), the number of symbols less 1, and the parity data of all bytes.
+/// Mends damaged symbols, and joins their bytes. The symbols have to be one symbol without a structured append header,
+/// or a whole series in the order of its positions (ISO/IEC 18004:2015, 8 and 12). A series is whole if each structured
+/// append header has the position of its symbol (from 0), the number of symbols less 1, and the parity data of all
+/// bytes.
 ///
 /// # Errors
 ///

@@ -277,8 +277,8 @@ pub(crate) fn sixteen_values(terms: &[u8], first: u8) -> [u8; 16]
     sums.values()
 }
 
-// The values at 2 to the powers `first` to `first` + 15 of the polynomial whose coefficients are `remainder`, that of
-// the highest power first. The loop runs backward, as in `sixteen_values`.
+// Sixteen values of a polynomial: those at 2^`first` to 2^(`first` + 15). Its coefficients are `remainder`, with the
+// coefficient of the highest power first. The loop runs backward, as in `sixteen_values`.
 fn sixteen_syndromes(remainder: &[u8], first: u8) -> [u8; 16]
     requires { length remainder.now ≤ 30 }
     ensures { (k : ℕ) → k < 16 → slice_index result k ≡ value_at (first + k) remainder.now }

@@ -2,4 +2,4 @@
 use Rattle.qr_parsing.proofs.lemmas.sheet.{small}
 
 -- Indices of bytes.
-pub ruleset place_facts = (small)
+pub ruleset index_facts = (small)

@@ -11,8 +11,8 @@ ghost use Rattle.qr_parsing.specs.Parsing.{BeginsAsSymbol, IsDrawingOf, IsNoDraw
 ghost use Rattle.qr_parsing.specs.Steps.Parsing.{CanBeDrawn, IsGuess};
 ghost use Rattle.qr_parsing.specs.Steps.Sheet.{IsSheetOf, kind_in};
 
-use crate::sheet::{COUNT_MAX, SIDE_MAX, SIDE_MIN, Sheet, margin_of, squares_of};
-use crate::svg::{canvas_of, size_in};
+use crate::sheet::{COUNT_MAX, MARGIN_MAX, SIDE_MAX, SIDE_MIN, Sheet, margin_of, squares_of};
+use crate::svg::{painted_bytes, size_in};
 use crate::text::{ascii_sheet, cell_sheet, cells_in, kind_in};
 use qr_devices::{Bounded, Counted};
 use qr_drawing::{Drawing, draw};
@@ -61,7 +61,10 @@ fn drawn_of(alloc: Global, sheet: &Sheet) -> Result<Option<Drawn>, AllocError>
         → IfOk result (λ found. MatchOption found (IsNoDrawing text) (λ d. IsGuess d.kind d.margin d.squares.items text)) }
 {
     let margin = margin_of(sheet);
-    if margin > 255 || sheet.width < 2 * margin + SIDE_MIN || sheet.width - 2 * margin > SIDE_MAX {
+    if margin > MARGIN_MAX
+        || sheet.width < 2 * margin + SIDE_MIN
+        || sheet.width - 2 * margin > SIDE_MAX
+    {
         return Ok(None);
     }
     if sheet.count == 0 || sheet.count > COUNT_MAX {
@@ -108,12 +111,12 @@ fn guess_document(alloc: Global, text: &[u8]) -> Result<Option<Drawn>, AllocErro
     let Some(size) = size_in(text) else {
         return Ok(None);
     };
-    let canvas = canvas_of(alloc, size.width, size.height, text)?;
+    let bytes = painted_bytes(alloc, size.width, size.height, text)?;
     let sheet = Sheet {
         kind: Drawing::Svg,
         width: size.width,
         count: size.count,
-        bytes: &canvas,
+        bytes: &bytes,
     };
     drawn_of(alloc, &sheet)
 }

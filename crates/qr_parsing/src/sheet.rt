@@ -7,7 +7,7 @@ ghost use Rattle.std.specs.Prelude.{◌≡◌, ℕ, ◌<◌, ◌≤◌, ◌+◌,
 ghost use Rattle.std.specs.List.{range_with_len};
 ghost use Rattle.qr_matrix.specs.Grid.{square};
 ghost use Rattle.qr_matrix.specs.Bytes.{byte_of};
-ghost use Rattle.qr_parsing.specs.Steps.Sheet.{HasPlaces, is_dark_byte, is_dark_on, is_sign, place_of};
+ghost use Rattle.qr_parsing.specs.Steps.Sheet.{HasPlaces, index_of, is_dark_byte, is_dark_on, is_sign};
 ghost use Rattle.qr_parsing.specs.declared.sheet.TheConstants.{WIDTH_MAX};
 
 use qr_drawing::Drawing;
@@ -24,8 +24,11 @@ pub(crate) const COUNT_MAX: usize = 16;
 /// The greatest side of a square: that of a symbol of version 40.
 pub(crate) const SIDE_MAX: usize = 177;
 
-/// The greatest width of a raster: that of the greatest squares with a margin of 255 modules on each side.
-pub(crate) const WIDTH_MAX: usize = SIDE_MAX + 2 * 255;
+/// The greatest margin of a drawing.
+pub(crate) const MARGIN_MAX: usize = 255;
+
+/// The greatest width of a raster: that of the greatest squares with the greatest margin on each side.
+pub(crate) const WIDTH_MAX: usize = SIDE_MAX + 2 * MARGIN_MAX;
 
 #[derive(Drop)]
 pub(crate) struct Sheet<'a> {
@@ -43,13 +46,13 @@ pub(crate) struct Sheet<'a> {
 
 // Returns the index of the byte that shows a module. The ASCII types have two such bytes, and it is the index of the
 // first.
-#[tactic(auto, using(crate::proofs::Named::place_facts))]
-fn place_of(kind: Drawing, width: usize, k: usize, y: usize, x: usize) -> usize
+#[tactic(auto, using(crate::proofs::Named::index_facts))]
+fn index_of(kind: Drawing, width: usize, k: usize, y: usize, x: usize) -> usize
     requires width_in { width < 1000 }
     requires k_in { k < COUNT_MAX }
     requires y_in { y < 1000 }
     requires x_in { x < 1000 }
-    ensures { result ≡ place_of kind width k y x }
+    ensures { result ≡ index_of kind width k y x }
 {
     match kind {
         Drawing::Ascii | Drawing::AsciiInverse => (k * width + y) * (2 * width + 1) + 2 * x,
@@ -58,17 +61,25 @@ fn place_of(kind: Drawing, width: usize, k: usize, y: usize, x: usize) -> usize
     }
 }
 
-// Says whether a byte of the sheet shows a dark module of row `y`. In UTF8 the module of an even row is the upper one
-// of its character.
-fn is_dark_byte(kind: Drawing, y: usize, byte: u8) -> bool
-    ensures { result ≡ is_dark_byte kind y byte }
+// Returns the two bytes that can show a dark module of row `y`. They are equal in all types but UTF8. In UTF8 the
+// module of an even row is the upper one of its character.
+#[inline(always)]
+fn signs_of(kind: Drawing, y: usize) -> (u8, u8)
+    ensures { (byte : ℕ) → is_sign result byte ≡ is_dark_byte kind y byte }
 {
     match kind {
-        Drawing::Ascii => byte == b'#',
-        Drawing::AsciiInverse => byte == b' ',
-        Drawing::Utf8 => byte == b' ' || byte == if y % 2 == 0 { 0x84 } else { 0x80 },
-        Drawing::Svg => byte == 1,
+        Drawing::Ascii => (b'#', b'#'),
+        Drawing::AsciiInverse => (b' ', b' '),
+        Drawing::Utf8 => (b' ', if y % 2 == 0 { 0x84 } else { 0x80 }),
+        Drawing::Svg => (1, 1),
     }
+}
+
+#[inline(always)]
+fn is_sign(signs: (u8, u8), byte: u8) -> bool
+    ensures { result ≡ is_sign signs byte }
+{
+    byte == signs.0 || byte == signs.1
 }
 
 // Says whether the module in row `y` and column `x` of raster `k` is dark. If the sheet ends before this module, it
@@ -80,9 +91,9 @@ fn is_dark(sheet: &Sheet, k: usize, y: usize, x: usize) -> bool
     requires x_in { x < 1000 }
     ensures { result ≡ is_dark_on sheet.now.kind sheet.now.width sheet.now.bytes.now k y x }
 {
-    let place = place_of(sheet.kind, sheet.width, k, y, x);
-    let byte = sheet.bytes.get(place).copied().unwrap_or(0);
-    is_dark_byte(sheet.kind, y, byte)
+    let index = index_of(sheet.kind, sheet.width, k, y, x);
+    let byte = sheet.bytes.get(index).copied().unwrap_or(0);
+    is_sign(signs_of(sheet.kind, y), byte)
 }
 
 /// Returns how many light modules come before the first dark one on the diagonal of the first raster, from the top
@@ -100,13 +111,6 @@ pub(crate) fn margin_of(sheet: &Sheet) -> usize
         }
     }
     sheet.width
-}
-
-#[inline(always)]
-fn is_sign(signs: (u8, u8), byte: u8) -> bool
-    ensures { result ≡ is_sign signs byte }
-{
-    byte == signs.0 || byte == signs.1
 }
 
 // Writes the modules of a row into `modules`, a byte for each. The byte of `bytes` at the index `first` shows the first
@@ -134,15 +138,20 @@ fn write_row(sheet: &Sheet, margin: usize, k: usize, y: usize, modules: &mut [u8
     ensures { (c : ℕ) → c < length modules.old → slice_index_or modules.new c 0
         ≡ byte_of (is_dark_on sheet.now.kind sheet.now.width sheet.now.bytes.now k y (margin + c)) }
 {
-    let first = place_of(sheet.kind, sheet.width, k, y, margin);
+    let bytes = sheet.bytes;
+    let first = index_of(sheet.kind, sheet.width, k, y, margin);
+    // Each call of `signs_of` names the type, and not `sheet.kind`, so that the compiled loops compare with constants.
     match sheet.kind {
-        Drawing::Ascii => write_by(sheet.bytes, first, 2, (b'#', b'#'), modules),
-        Drawing::AsciiInverse => write_by(sheet.bytes, first, 2, (b' ', b' '), modules),
-        Drawing::Utf8 => {
-            let half = if y % 2 == 0 { 0x84 } else { 0x80 };
-            write_by(sheet.bytes, first, 1, (b' ', half), modules);
-        }
-        Drawing::Svg => write_by(sheet.bytes, first, 1, (1, 1), modules),
+        Drawing::Ascii => write_by(bytes, first, 2, signs_of(Drawing::Ascii, y), modules),
+        Drawing::AsciiInverse => write_by(
+            bytes,
+            first,
+            2,
+            signs_of(Drawing::AsciiInverse, y),
+            modules,
+        ),
+        Drawing::Utf8 => write_by(bytes, first, 1, signs_of(Drawing::Utf8, y), modules),
+        Drawing::Svg => write_by(bytes, first, 1, signs_of(Drawing::Svg, y), modules),
     }
 }
 

@@ -1,11 +1,12 @@
-//! The sheets of SVG documents. The size of a document is among the numbers in its text. Its boxes are painted on a
-//! canvas, which has a byte for each module. The bytes of the canvas are those of the sheet. The path begins at the
-//! first `M`. A box is `M`, its column, its row, `h`, its number of modules, `v1h-`, the number of modules again, and
-//! `z`. Only the first three numbers of a box are read. All other bytes are checked when the drawing is made again.
+//! The sheets of SVG documents. The size of a document is among the numbers in its text. The sheet has a byte for each
+//! module. All these bytes are 0 at first, and then the boxes are painted: the bytes of their modules become 1. The
+//! path begins at the first `M`. A box is `M`, its column, its row, `h`, its number of modules, `v1h-`, the number of
+//! modules again, and `z`. Only the first three numbers of a box are read. All other bytes are checked when the drawing
+//! is made again.
 
 ghost use Rattle.std.specs.Prelude.{◌≡◌, ℕ, ◌<◌, ◌≤◌, ◌+◌, ◌*◌, ◌/◌, ◌%◌, ◌^◌, ◌==◌, ◌&&◌, ◌∷◌, ◌++◌, [], List, false, decimal, drop, nat_le, nat_lt, if◌then◌else◌, length, slice_index_or, IfOk, IfSome, MatchOption};
 ghost use Rattle.qr_parsing.specs.Steps.Sheet.{HasNoSheet, count_in, kind_in, width_in};
-ghost use Rattle.qr_parsing.specs.Steps.Svg.{IsPath, canvas_of, is_digit, is_in_boxes, numbers_in, path_in};
+ghost use Rattle.qr_parsing.specs.Steps.Svg.{IsPath, is_digit, is_in_boxes, numbers_in, painted_bytes, path_in};
 ghost use Rattle.qr_drawing.specs.declared.drawing.Drawing.TheVariants.{Svg};
 
 use crate::sheet::{COUNT_MAX, SIDE_MIN, WIDTH_MAX};
@@ -142,6 +143,7 @@ fn box_at(text: &[u8], at: usize) -> Option<(DarkBox, usize)>
         → MatchOption result (numbers ≡ []) (λ s. (high back : ℕ) × (more : List ℕ)
         × (numbers ≡ s.0.x ∷ s.0.y ∷ s.0.modules ∷ high ∷ back ∷ more) × IsPath more (drop s.1 text.now)) }
 {
+    // At a box more than seven bytes are left: the `M`, and the six that `number_after` needs.
     if at + 7 > text.len() || text[at] != b'M' {
         return None;
     }
@@ -162,7 +164,7 @@ fn box_at(text: &[u8], at: usize) -> Option<(DarkBox, usize)>
     Some((DarkBox { x, y, modules }, after_modules + back))
 }
 
-// Makes a box of `modules` modules dark, which begins at column `x` of row `y`. `bytes` has `height` rows of `width`
+// Paints a box of `modules` modules, which begins at column `x` of row `y`. `bytes` has `height` rows of `width`
 // modules, a byte for each module. Modules of the box outside these rows and columns are left out.
 fn paint(bytes: &mut [u8], width: usize, height: usize, x: usize, y: usize, modules: usize)
     requires area { length bytes.old ≡ width * height }
@@ -192,7 +194,7 @@ fn paint(bytes: &mut [u8], width: usize, height: usize, x: usize, y: usize, modu
     }
 }
 
-// Makes the modules of all boxes dark. The label of the loop is for the prover.
+// Paints all boxes. The label of the loop is for the prover.
 fn paint_all(bytes: &mut [u8], width: usize, height: usize, text: &[u8])
     requires area { length bytes.old ≡ width * height }
     requires some { 0 < width }
@@ -216,8 +218,8 @@ fn paint_all(bytes: &mut [u8], width: usize, height: usize, text: &[u8])
     }
 }
 
-/// Returns the canvas of a document: a byte for each of its modules, 1 for a dark one.
-pub(crate) fn canvas_of(
+/// Returns the painted bytes of a document, which are those of its sheet: a byte for each module, 1 for a dark one.
+pub(crate) fn painted_bytes(
     alloc: Global,
     width: usize,
     height: usize,
@@ -228,7 +230,7 @@ pub(crate) fn canvas_of(
     requires high { height ≤ NUMBER_MAX }
     ensures area { IfOk result (λ bytes. length bytes.items ≡ width * height) }
     ensures painted { (numbers : List ℕ) → IsPath numbers (path_in text.now)
-        → IfOk result (λ bytes. bytes.items ≡ canvas_of width height numbers) }
+        → IfOk result (λ bytes. bytes.items ≡ painted_bytes width height numbers) }
 {
     let mut bytes = vec![in alloc; 0u8; width * height]?;
     paint_all(&mut bytes, width, height, text);

@@ -7,9 +7,9 @@ ghost use Rattle.std.specs.Prelude.{◌≡◌, Bool, ◌<◌, if◌then◌else�
 ghost use Rattle.qr_layout.specs.Version.{side_of};
 ghost use Rattle.qr_matrix.specs.Grid.{one_of, IsSquare};
 ghost use Rattle.qr_symbol.specs.Steps.Canvas.{HasPatterns};
-ghost use Rattle.qr_symbol.specs.Steps.Placement.{masked_grid, plain_grid, region_grid};
+ghost use Rattle.qr_symbol.specs.Steps.Placement.{masked_grid, region_grid, unmasked_grid};
 
-use crate::mask::{pattern, set_masked};
+use crate::mask::{PATTERN_ROWS, pattern, set_masked};
 use crate::patterns::{draw_fixed, draw_format, region_of};
 use crate::placement::draw_codewords;
 use crate::words::reversed;
@@ -18,21 +18,21 @@ use qr_matrix::{Matrix, MatrixPair};
 use std::alloc::{AllocError, Global};
 use std::mem;
 
-// The format information that `plain` has: only the modules of bit 7 are dark. With it, exchanging rows and columns of
-// `plain` changes no colour outside the region. The exchange puts a module of bit 7 in the place of the dark module, so
-// the modules of bit 7 have to be dark too.
+// The format information that `unmasked` has: only the modules of bit 7 are dark. No level and mask has it. It is a
+// placeholder, with which exchanging rows and columns of `unmasked` changes no colour outside the region. The exchange
+// puts a module of bit 7 in the place of the dark module, so the modules of bit 7 have to be dark too.
 const SYMMETRIC_FORMAT: u32 = 1 << 7;
 
-/// The squares from which symbols are made. In `region` exactly the region is dark. `plain` is a symbol before its mask
-/// and its own format information are drawn.
+/// The squares from which symbols are made. In `region` exactly the region is dark. `unmasked` is a symbol before its
+/// mask and its own format information are drawn.
 #[derive(Drop)]
 pub(crate) struct Canvas {
     pub version: Version,
     pub level: Level,
     pub region: Matrix,
-    pub plain: Matrix,
+    pub unmasked: Matrix,
     ghost region_is: { region ≡ region_grid version },
-    ghost patterns: { HasPatterns version plain },
+    ghost patterns: { HasPatterns version unmasked },
 }
 
 impl Canvas {
@@ -43,33 +43,33 @@ impl Canvas {
         ensures level { IfOk result (λ c. c.level ≡ level) }
     {
         let region = region_of(alloc, version)?;
-        let mut plain = Matrix::new(alloc, version.side())?;
-        draw_fixed(&mut plain, version, SYMMETRIC_FORMAT);
+        let mut unmasked = Matrix::new(alloc, version.side())?;
+        draw_fixed(&mut unmasked, version, SYMMETRIC_FORMAT);
         Ok(Canvas {
             version,
             level,
             region,
-            plain,
+            unmasked,
         })
     }
 
-    // Draws the codewords of a symbol. If `plain` has those of an earlier symbol, they are replaced. The codewords are
-    // drawn into the square that `plain` has before the call, as if it were transposed. This is possible because
-    // outside the region, exchanging rows and columns changes no colour of `plain`. Afterwards `across` has the square
-    // that was drawn, and `plain` has this square with rows and columns exchanged.
+    // Draws the codewords of a symbol. If `unmasked` has those of an earlier symbol, they are replaced. The codewords
+    // are drawn into the square that `unmasked` has before the call, as if it were transposed. This is possible because
+    // outside the region, exchanging rows and columns changes no colour of `unmasked`. Afterwards `across` has the
+    // square that was drawn, and `unmasked` has this square with rows and columns exchanged.
     #[inline(never)]
     pub(crate) fn draw_data(&mut self, across: &mut Matrix, codewords: &[u8])
         requires { IsSquare (side_of self.old.version) across.old }
         ensures version { self.new.version ≡ self.old.version }
         ensures level { self.new.level ≡ self.old.level }
-        ensures plain { self.new.plain ≡ plain_grid self.old.version codewords.now }
+        ensures unmasked { self.new.unmasked ≡ unmasked_grid self.old.version codewords.now }
         ensures square { IsSquare (side_of self.old.version) across.new }
     {
         // Only for the prover.
         prove!(self.version.number() <= 40);
-        mem::swap(&mut self.plain, across);
+        mem::swap(&mut self.unmasked, across);
         draw_codewords(across, self.version, &self.region, codewords);
-        self.plain.set_transposed(across);
+        self.unmasked.set_transposed(across);
     }
 
     // Draws the symbol under `mask` into `matrix`. The format information is drawn last, because applying the mask
@@ -77,9 +77,9 @@ impl Canvas {
     pub(crate) fn draw_masked(&self, matrix: &mut Matrix, mask: u8)
         requires mask_in { mask < 8 }
         requires square { IsSquare (side_of self.now.version) matrix.old }
-        ensures { matrix.new ≡ masked_grid self.now.version self.now.level mask self.now.region self.now.plain }
+        ensures { matrix.new ≡ masked_grid self.now.version self.now.level mask self.now.region self.now.unmasked }
     {
-        set_masked(matrix, &self.plain, &self.region, mask);
+        set_masked(matrix, &self.unmasked, &self.region, mask);
         let format = u32::from(format_word(self.level, mask));
         draw_format(matrix, self.version, format);
     }
@@ -92,11 +92,11 @@ impl Canvas {
         requires masks_in { (masks.0 < 8) × (masks.1 < 8) }
         requires squares { (second : Bool) → IsSquare (side_of self.now.version) (one_of pair.old second) }
         ensures { (second : Bool) → one_of pair.new second ≡ masked_grid self.now.version self.now.level
-            (if second then masks.1 else masks.0) self.now.region self.now.plain }
+            (if second then masks.1 else masks.0) self.now.region self.now.unmasked }
     {
-        for first in 0..12 {
+        for first in 0..PATTERN_ROWS {
             let patterns = (pattern(masks.0, first), pattern(masks.1, first));
-            pair.set_rows_masked(first, &self.plain, &self.region, patterns);
+            pair.set_rows_masked(first, &self.unmasked, &self.region, patterns);
         }
         let side = self.version.side();
         let formats = (
@@ -117,10 +117,11 @@ impl Canvas {
                 (formats.0 >> bit, formats.1 >> bit),
             );
         }
-        // Row 8 has the bits in reverse order, from left to right. The first copy has bits 14 to 9 in columns 0 to 5,
-        // then a module of the timing pattern, and then bits 8 and 7. The second copy has bits 7 to 0 in the last eight
-        // columns.
-        let across = (reversed(formats.0) >> 49, reversed(formats.1) >> 49);
+        // Row 8 has the bits in reverse order, from left to right. After a word is reversed, they are its highest bits,
+        // and the `others` below them are 0. The first copy has bits 14 to 9 in columns 0 to 5, then a module of the
+        // timing pattern, and then bits 8 and 7. The second copy has bits 7 to 0 in the last eight columns.
+        let others = 64 - FORMAT_BITS;
+        let across = (reversed(formats.0) >> others, reversed(formats.1) >> others);
         pair.set_columns(8, 0, 6, across);
         pair.set_columns(8, 7, 2, (across.0 >> 6, across.1 >> 6));
         pair.set_columns(8, side - 8, 8, (across.0 >> 7, across.1 >> 7));

@@ -15,7 +15,7 @@ ghost use Rattle.qr_symbol.specs.Steps.Spans.{top_row, AreWholeRows};
 ghost use Rattle.qr_symbol.specs.Steps.Words.{Appends};
 
 use crate::spans::{Columns, Span, Spans, columns_of};
-use crate::words::{Collector, joined};
+use crate::words::{Collector, merged};
 use qr_layout::{Strip, Version, all_strips};
 use qr_matrix::Matrix;
 use std::alloc::{AllocError, Global};
@@ -38,7 +38,7 @@ fn collect_rows(bits: &mut Collector, columns: &Columns, top: u8, count: u8, upw
 {
     let right = columns.right.bits_from(top);
     let left = columns.left.bits_from(top);
-    bits.push_bits(joined(right, left, upward, count), 2 * count);
+    bits.push_bits(merged(right, left, upward, count), 2 * count);
 }
 
 // Collects the bits of a strip from its two columns.
@@ -97,6 +97,7 @@ fn collect_strip(
     }
 }
 
+// Collects all codewords of a symbol without a mask. The remainder bits are collected too, and dropped at the end.
 pub(crate) fn collect_codewords(
     alloc: Global,
     version: Version,

@@ -28,6 +28,8 @@ use std::alloc::{AllocError, Global};
 /// each of which has one codeword more (ISO/IEC 18004:2015, 7.5.1).
 #[derive(Clone, Copy)]
 pub struct BlockSizes {
+    /// The number of short blocks. `of_corrections` counts all blocks as short, so this number is the sum of two
+    /// numbers of type `u8`, and may be too large for a `u8`.
     pub short: u16,
     /// The number of codewords in a short block.
     pub short_len: u8,
@@ -94,7 +96,7 @@ impl BlockSizes {
         ensures { IfOk result (λ d. IsGathered self codewords.now d.items) }
     {
         let mut gathered = vec![in alloc; 0u8; self.start(self.count())]?;
-        deinterleave_into(gathered.as_mut_slice(), self, codewords);
+        gather_into(gathered.as_mut_slice(), self, codewords);
         Ok(gathered)
     }
 
@@ -125,8 +127,8 @@ impl BlockSizes {
                 interleaved[blocks * index + block] = codewords[start + index];
             }
             if block >= short {
-                let rank = short_len * blocks + (block - short);
-                interleaved[rank] = codewords[start + short_len];
+                let at = short_len * blocks + (block - short);
+                interleaved[at] = codewords[start + short_len];
             }
         }
     }
@@ -152,8 +154,8 @@ fn corrections(alloc: Global, blocks: Blocks, message: &[u8]) -> Result<Vec<u8>,
         corrections.extend_from_slice(left.as_slice())?;
         corrections.extend_from_slice(right.as_slice())?;
     }
-    for block in sizes.count() / 2 * 2..sizes.count() {
-        let check = divisor.correction(sizes.part(message, block));
+    if sizes.count() % 2 == 1 {
+        let check = divisor.correction(sizes.part(message, sizes.count() - 1));
         corrections.extend_from_slice(check.as_slice())?;
     }
     Ok(corrections)
@@ -190,7 +192,7 @@ pub fn interleave(
 // Undoes `scatter`. This function is not inlined. If it were inlined, LLVM would compute the index of each codeword by
 // a multiplication instead of an addition.
 #[inline(never)]
-fn deinterleave_into(message: &mut [u8], sizes: BlockSizes, codewords: &[u8])
+fn gather_into(message: &mut [u8], sizes: BlockSizes, codewords: &[u8])
     requires room { length message.old ≡ codeword_count sizes }
     requires interleaved { codeword_count sizes ≤ length codewords.now }
     ensures { IsGathered sizes codewords.now message.new }
@@ -204,19 +206,15 @@ fn deinterleave_into(message: &mut [u8], sizes: BlockSizes, codewords: &[u8])
             message[start + index] = codewords[blocks * index + block];
         }
         if block >= short {
-            let rank = short_len * blocks + (block - short);
-            message[start + short_len] = codewords[rank];
+            let at = short_len * blocks + (block - short);
+            message[start + short_len] = codewords[at];
         }
     }
 }
 
 // Returns the data codewords of a final sequence. The error correction codewords are computed from them, and compared
 // with those that `codewords` has. If these differ, the function returns `Check` instead.
-fn deinterleave_blocks(
-    alloc: Global,
-    blocks: Blocks,
-    codewords: &[u8],
-) -> Result<Vec<u8>, ReadFault>
+fn checked_message(alloc: Global, blocks: Blocks, codewords: &[u8]) -> Result<Vec<u8>, ReadFault>
     requires whole { length codewords.now
         ≡ codeword_count (data_sizes blocks) + codeword_count (correction_sizes blocks) }
     requires least { 1 ≤ blocks.ec_len }
@@ -258,5 +256,5 @@ pub fn deinterleave(
         → ⊥)) }
     ensures fault { IfErr result (λ e. (e ≡ ReadFault.Memory) ⊎ (e ≡ ReadFault.Check)) }
 {
-    deinterleave_blocks(alloc, version.blocks(level), codewords)
+    checked_message(alloc, version.blocks(level), codewords)
 }

@@ -13,6 +13,7 @@ use crate::symbol::Symbol;
 use qr_bits::{Parsed, parity};
 use std::alloc::{AllocError, Global};
 
+// Reads all symbols in order. Returns the fault of the first that cannot be read.
 fn read_all(alloc: Global, symbols: &[Symbol]) -> Result<Vec<Parsed>, ReadFault>
     ensures { MatchResult result
         (λ contents. AreReadBy IsReading (squares_of symbols.now) contents.items)
@@ -35,7 +36,7 @@ fn joined_bytes(alloc: Global, contents: &[Parsed]) -> Result<Vec<u8>, AllocErro
     Ok(bytes)
 }
 
-fn is_plain(contents: &[Parsed]) -> bool
+fn is_one_plain(contents: &[Parsed]) -> bool
     ensures { Decides result (IsPlain contents.now) }
 {
     match contents {
@@ -44,6 +45,7 @@ fn is_plain(contents: &[Parsed]) -> bool
     }
 }
 
+// Whether the content has a header with these three numbers.
 fn has_header(content: &Parsed, position: usize, last: usize, parity: u8) -> bool
     ensures { Decides result (content.now.header
         ≡ Some (record { position = position; last = last; parity = parity })) }
@@ -92,7 +94,7 @@ pub fn join(alloc: Global, contents: &[Parsed]) -> Result<Vec<u8>, ReadFault>
         ⊎ ((e ≡ ReadFault.Series) × (BelongTogether contents.now → ⊥))) }
 {
     let bytes = joined_bytes(alloc, contents)?;
-    if is_plain(contents) || are_in_series(contents, parity(&bytes)) {
+    if is_one_plain(contents) || are_in_series(contents, parity(&bytes)) {
         Ok(bytes)
     } else {
         Err(ReadFault::Series)

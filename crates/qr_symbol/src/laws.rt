@@ -58,7 +58,7 @@ pub fn masks_compute()
 /// # Errors
 ///
 /// Returns `Memory` if an allocation is refused.
-pub fn plain_and_fast_symbols_are_one(
+pub fn slow_and_fast_symbols_are_one(
     alloc: Global,
     version: Version,
     level: Level,
@@ -73,8 +73,8 @@ pub fn plain_and_fast_symbols_are_one(
     ensures fault { IfErr result (λ e. e ≡ EncodeFault.Memory) }
 {
     let fast = build(alloc, version, level, codewords)?;
-    let plain = build_masked(alloc, version, level, codewords, fast.mask)?;
-    Ok((plain, fast))
+    let slow = build_masked(alloc, version, level, codewords, fast.mask)?;
+    Ok((slow, fast))
 }
 
 /// The blocks divide the data codewords without a gap. The first block begins at the first data codeword, each other

@@ -3,8 +3,8 @@
 //! The following code writes the modules of a symbol as text, with `#` for each dark one:
 //!
 //! ```text
-//! let (first, plain) = (Version::FIRST, Interpretation::Default);
-//! let symbol = encode(alloc, input, Level::M, first, Rule::Auto, plain)?;
+//! let (first, interpretation) = (Version::FIRST, Interpretation::Default);
+//! let symbol = encode(alloc, input, Level::M, first, Rule::Auto, interpretation)?;
 //! for row in 0..symbol.matrix.side() {
 //!     for col in 0..symbol.matrix.side() {
 //!         text.push(if symbol.matrix.dark(row, col) { b'#' } else { b' ' })?;

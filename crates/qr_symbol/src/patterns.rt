@@ -82,17 +82,25 @@ fn paint_corners(matrix: &mut Matrix, version: Version, format: u32)
     ensures { IsOver (side_of version) (is_corner (side_of version)) (paint_of version format) (colour matrix.old) matrix.new }
 {
     let side = version.side();
-    let far = side - 8;
-    let last = side - 4;
+    // The right corner begins at this column, and the lower corner at this row.
+    let start = side - 8;
+    // The column of the centre in the right corner, and the row of the centre in the lower corner.
+    let centre = side - 4;
     let near = Place { row: 3, col: 3 };
-    let right = Place { row: 3, col: last };
-    let below = Place { row: last, col: 3 };
+    let right = Place {
+        row: 3,
+        col: centre,
+    };
+    let below = Place {
+        row: centre,
+        col: 3,
+    };
     paint_finder(matrix, version, Place { row: 0, col: 0 }, near);
-    paint_finder(matrix, version, Place { row: 0, col: far }, right);
-    paint_finder(matrix, version, Place { row: far, col: 0 }, below);
+    paint_finder(matrix, version, Place { row: 0, col: start }, right);
+    paint_finder(matrix, version, Place { row: start, col: 0 }, below);
     matrix.set(8, 6, true);
     matrix.set(6, 8, true);
-    matrix.set(far, 8, true);
+    matrix.set(start, 8, true);
     draw_format(matrix, version, format);
 }
 
@@ -122,7 +130,8 @@ pub(crate) fn draw_fixed(matrix: &mut Matrix, version: Version, format: u32)
     let list = alignment_centres(version);
     let centres = list.as_slice();
     fill_alignment(matrix, version, centres, true);
-    // The eight modules around each centre are light. The centre stays as it is.
+    // The eight modules around each centre are light. The centre stays dark. Its colour is read and written back,
+    // because with `true` in its place the proof would have to show that no two patterns overlap.
     for centre in centres {
         let dark = matrix.dark(centre.row, centre.col);
         fill_around(matrix, *centre, 1, false);

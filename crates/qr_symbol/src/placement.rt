@@ -89,8 +89,8 @@ pub(crate) fn draw_codewords(
         let Strip { right, upward } = strip;
         let within = columns_of(region, right);
         let mut columns = columns_of(across, right);
-        columns.right = columns.right ^ (columns.right & within.right);
-        columns.left = columns.left ^ (columns.left & within.left);
+        columns.right = columns.right & !within.right;
+        columns.left = columns.left & !within.left;
         number = if upward {
             let strip = Strip {
                 right,

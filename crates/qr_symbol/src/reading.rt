@@ -14,7 +14,7 @@ ghost use Rattle.qr_symbol.specs.Steps.Placement.{region_grid};
 use crate::collecting::collect_codewords;
 use crate::fault::ReadFault;
 use crate::interleaving::deinterleave;
-use crate::mask::set_masked;
+use crate::mask::{MASK_COUNT, set_masked};
 use crate::patterns::region_of;
 use qr_bits::{Parsed, parse};
 use qr_layout::{FORMAT_BITS, Level, Version, format_place, format_word};
@@ -44,7 +44,7 @@ fn mask_of(matrix: &Matrix, level: Level) -> Option<u8>
         ((mask : ℕ) → IsFormat matrix.now level mask → ⊥)
         (λ mask. IsFormat matrix.now level mask) }
 {
-    for mask in 0..8 {
+    for mask in 0..MASK_COUNT {
         if has_format(matrix, level, mask) {
             return Some(mask);
         }
@@ -70,7 +70,7 @@ fn format_of(matrix: &Matrix) -> Option<(Level, u8)>
 
 // Reads the codewords of a square that has no mask, or whose mask was undone. The square is transposed first. Then the
 // columns of a strip are rows, and a word of 64 bits has 64 modules of such a row.
-fn read_plain(
+fn read_without_mask(
     alloc: Global,
     version: Version,
     matrix: &Matrix,
@@ -102,7 +102,7 @@ pub fn read_unmasked(
     ensures many { IfOk result (λ cw. length cw.items ≡ total_codewords_of version) }
 {
     let region = region_of(alloc, version)?;
-    read_plain(alloc, version, matrix, &region)
+    read_without_mask(alloc, version, matrix, &region)
 }
 
 /// Reads the codewords from the region in the order of `qr_layout::walk`, with the mask undone (ISO/IEC 18004:2015,
@@ -122,10 +122,10 @@ pub fn read_codewords(
     ensures many { IfOk result (λ cw. length cw.items ≡ total_codewords_of version) }
 {
     let region = region_of(alloc, version)?;
-    let mut plain = Matrix::new(alloc, version.side())?;
-    let mask = mask.min(7);
-    set_masked(&mut plain, matrix, &region, mask);
-    read_plain(alloc, version, &plain, &region)
+    let mut unmasked = Matrix::new(alloc, version.side())?;
+    let mask = mask.min(MASK_COUNT - 1);
+    set_masked(&mut unmasked, matrix, &region, mask);
+    read_without_mask(alloc, version, &unmasked, &region)
 }
 
 // Reads the content of a square whose format information has this level and mask.

@@ -26,10 +26,11 @@ use std::alloc::Global;
 // The most bytes that a symbol can contain. So many fit version 40 at level L if they all are digits (7.4.10, Table 7).
 pub(crate) const SYMBOL_BYTES_MAX: usize = 7089;
 
-// The last version of the range 1 to 9, and that of the range 10 to 26.
-const SMALL: u8 = 9;
+// The last version of the range 1 to 9.
+const SMALL_LAST: u8 = 9;
 
-const MEDIUM: u8 = 26;
+// The last version of the range 10 to 26.
+const MEDIUM_LAST: u8 = 26;
 
 // An upper bound on the number of bytes in a symbol of versions 1 to 26. No bytes take fewer bits than digits, and
 // three digits take ten bits (7.4.3). The data codewords of version 26 at level L have 10,960 bits, which is ten bits
@@ -93,15 +94,15 @@ pub(crate) fn least_fit<'a>(
     // is compared with the capacity of the last version of a range, which is the greatest in this range. If only byte
     // mode is allowed, the bound is not computed, since it would save little time.
     let start = if input.len() > MEDIUM_BYTES {
-        27
+        MEDIUM_LAST + 1
     } else if matches!(rule, Rule::BytesOnly) {
         1
     } else {
         let bits = u64::from(least_bits(input)) + interpretation_bits(interpretation);
-        if bits > capacity_at(MEDIUM, level) {
-            27
-        } else if bits > capacity_at(SMALL, level) {
-            10
+        if bits > capacity_at(MEDIUM_LAST, level) {
+            MEDIUM_LAST + 1
+        } else if bits > capacity_at(SMALL_LAST, level) {
+            SMALL_LAST + 1
         } else {
             1
         }
@@ -111,8 +112,8 @@ pub(crate) fn least_fit<'a>(
         // The last version of the range that contains `first`. In all versions of a range, character count indicators
         // have the same widths (7.4.1, Table 3), so the segments that are cut for `first` take the same number of bits.
         let last = match first.number() {
-            1..=SMALL => SMALL,
-            10..=MEDIUM => MEDIUM,
+            1..=SMALL_LAST => SMALL_LAST,
+            10..=MEDIUM_LAST => MEDIUM_LAST,
             _ => 40,
         };
         let segmented = segments(alloc, input, first, rule, interpretation)?;

@@ -134,12 +134,12 @@ pub(crate) fn split(bits: u64, upward: bool, count: u8) -> (u64, u64)
     }
 }
 
-// Joins the bits of the right and the left column of `count` rows of a strip, in the order in which the strip is
-// filled: in each row the right bit comes first. The joined bits become the lowest bits of the result, and the last of
+// Merges the bits of the right and the left column of `count` rows of a strip, in the order in which the strip is
+// filled: in each row the right bit comes first. The merged bits become the lowest bits of the result, and the last of
 // them becomes bit 0. (`split` takes its bits from the highest bits of a word.) In `right` and `left` the lowest bit is
 // that of the topmost row.
 #[inline(always)]
-pub(crate) fn joined(right: u64, left: u64, upward: bool, count: u8) -> u64
+pub(crate) fn merged(right: u64, left: u64, upward: bool, count: u8) -> u64
     requires some { 1 ≤ count }
     requires few { count ≤ 32 }
     ensures right { (j : ℕ) → j < count
@@ -287,7 +287,7 @@ impl Collector {
             ..
         } = self;
         if is_refused {
-            // The allocation was refused when bits were appended, and those functions return no error.
+            // Memory was refused in an earlier call of `push_bit` or `push_bits`. These return no error.
             Err(AllocError)
         } else {
             Ok(whole)

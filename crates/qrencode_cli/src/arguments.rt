@@ -17,8 +17,8 @@ use std::alloc::Global;
 
 // An option: `id` is its name in the code, and `short` its letter. The help text shows `help`, a line about the option.
 #[derive(Clone, Copy)]
-struct OptionText<'a> {
-    id: &'a str,
+pub(crate) struct OptionText<'a> {
+    pub(crate) id: &'a str,
     short: char,
     help: &'a str,
 }
@@ -31,53 +31,56 @@ fn option<'a>(alloc: Global, text: OptionText<'a>) -> Arg<'a>
     Arg::new(alloc, text.id).short(text.short).help(text.help)
 }
 
-const LEVEL: OptionText<'static> = OptionText {
+pub(crate) const LEVEL: OptionText<'static> = OptionText {
     id: "level",
     short: 'l',
     help: "Level of error correction, from the lowest to the highest: L, M, Q or H [default: L]",
 };
 
-const VERSION: OptionText<'static> = OptionText {
+pub(crate) const VERSION: OptionText<'static> = OptionText {
     id: "version",
     short: 'v',
     help: "Smallest version of the symbol, 1 to 40, or 0 for any that fits; with -S the version [default: 0]",
 };
 
-const TYPE: OptionText<'static> = OptionText {
+pub(crate) const TYPE: OptionText<'static> = OptionText {
     id: "type",
     short: 't',
     help: "Type of the drawing: ASCII, ASCIIi, UTF8 or SVG",
 };
 
-const MARGIN: OptionText<'static> = OptionText {
+pub(crate) const MARGIN: OptionText<'static> = OptionText {
     id: "margin",
     short: 'm',
     help: "Margin on each side, 0 to 100 modules [default: 4]",
 };
 
-const BYTES_ONLY: OptionText<'static> = OptionText {
+pub(crate) const BYTES_ONLY: OptionText<'static> = OptionText {
     id: "bytes-only",
     short: '8',
     help: "Encode the whole input in byte mode",
 };
 
-const KANJI: OptionText<'static> = OptionText {
+pub(crate) const KANJI: OptionText<'static> = OptionText {
     id: "kanji",
     short: 'k',
     help: "Encode pairs of bytes that are Shift JIS characters in kanji mode, if that is shorter; -8 switches it off",
 };
 
-const FOLD: OptionText<'static> = OptionText {
+pub(crate) const FOLD: OptionText<'static> = OptionText {
     id: "fold",
     short: 'i',
     help: "Encode the letters a to z as capitals, but not in kanji if -k is given; -8 switches it off",
 };
 
-const STRUCTURED: OptionText<'static> = OptionText {
+pub(crate) const STRUCTURED: OptionText<'static> = OptionText {
     id: "structured",
     short: 'S',
     help: "Draw a series of up to 16 symbols if the input does not fit one; needs -v",
 };
+
+// The name of the string in the code.
+pub(crate) const STRING: &str = "string";
 
 // Returns the fault of a run whose arguments `clap` refused with `error`.
 fn refusal(alloc: Global, error: &Error) -> UsageFault
@@ -122,7 +125,7 @@ pub(crate) fn matches<'a>(alloc: Global, words: &'a [String]) -> Result<ArgMatch
         .arg(option(alloc, FOLD).action(ArgAction::SetTrue))?
         .arg(option(alloc, STRUCTURED).action(ArgAction::SetTrue))?
         .arg(
-            Arg::new(alloc, "string")
+            Arg::new(alloc, STRING)
                 .value_name("STRING")
                 .help("Input, in place of standard input"),
         )?;

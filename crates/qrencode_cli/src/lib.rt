@@ -1,5 +1,7 @@
-//! The command `qrencode`: `run` reads the arguments and the input, and draws the symbols. For its callers the crate
-//! also exports the devices of `qr_devices`, and `draw` of `qr_drawing` with its types.
+//! The command `qrencode`: `run` reads the arguments and the input, and draws the symbols. `options` only reads the
+//! arguments, and returns `Settings` or a `UsageFault`. For its callers the crate also exports the devices `Counted`
+//! and `Trial` of `qr_devices`, with the traits `Source` and `Sink` and the types `ReadCounts`, `WriteCounts`,
+//! `Trouble` and `Faults`; and `draw` of `qr_drawing`, with the types `Drawing` and `DrawFault`.
 #![tactic(auto)]
 
 mod arguments;

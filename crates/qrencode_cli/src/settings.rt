@@ -9,7 +9,9 @@ ghost use Rattle.qrencode_cli.specs.Settings.{IsUsageFault, drawing_named, flag_
 ghost use Rattle.qrencode_cli.specs.declared.settings.UsageFault.{UsageFault};
 ghost use Rattle.std.specs.Global.{Global};
 
-use crate::arguments::matches;
+use crate::arguments::{
+    BYTES_ONLY, FOLD, KANJI, LEVEL, MARGIN, STRING, STRUCTURED, TYPE, VERSION, matches,
+};
 use clap::ArgMatches;
 use qr_drawing::Drawing;
 use qr_layout::{Level, Version};
@@ -179,19 +181,19 @@ fn settings_in(alloc: Global, matches: &ArgMatches<'_>) -> Result<Settings, Usag
         (IsUsageFault (settings_of (rows_of (found_of matches.now)))) }
 {
     // Without `-l` the level is L.
-    let Some(level) = text_in(matches, "level").map_or(Some(Level::L), level_named) else {
+    let Some(level) = text_in(matches, LEVEL.id).map_or(Some(Level::L), level_named) else {
         return Err(UsageFault::Level);
     };
-    let Some(kind) = text_in(matches, "type").and_then(drawing_named) else {
+    let Some(kind) = text_in(matches, TYPE.id).and_then(drawing_named) else {
         return Err(UsageFault::Kind);
     };
     // There is no version 0, so `-v 0` means the same as no `-v`.
-    let smallest = Version::new(number_in(matches, "version", 0));
-    let structured = flag_in(matches, "structured");
+    let smallest = Version::new(number_in(matches, VERSION.id, 0));
+    let structured = flag_in(matches, STRUCTURED.id);
     if structured && smallest.is_none() {
         return Err(UsageFault::NeedsVersion);
     }
-    let string = match text_in(matches, "string") {
+    let string = match text_in(matches, STRING) {
         Some(text) => Some(String::from_str(alloc, text)?),
         None => None,
     };
@@ -199,10 +201,10 @@ fn settings_in(alloc: Global, matches: &ArgMatches<'_>) -> Result<Settings, Usag
         level,
         smallest,
         kind,
-        margin: number_in(matches, "margin", QUIET_ZONE),
-        bytes_only: flag_in(matches, "bytes-only"),
-        kanji: flag_in(matches, "kanji"),
-        fold: flag_in(matches, "fold"),
+        margin: number_in(matches, MARGIN.id, QUIET_ZONE),
+        bytes_only: flag_in(matches, BYTES_ONLY.id),
+        kanji: flag_in(matches, KANJI.id),
+        fold: flag_in(matches, FOLD.id),
         structured,
         string,
     })

@@ -11,7 +11,7 @@ ghost use Rattle.qrproved.specs.Settings.{AreSymbolSettings, interpretation_of, 
 ghost use Rattle.qrproved.specs.Encoding.{HasNoRoom, IsWritten};
 
 use crate::modules::{area, write_square};
-use crate::settings::{Settings, number_of, settings_of};
+use crate::settings::{Settings, number_of_level, settings_of};
 use crate::status::{DONE, EMPTY, FIELDS, MEMORY, ROOM, SETTINGS, TOO_LONG, encode_status};
 use qr_bits::{INPUT_MAX, may_write};
 use qr_symbol::laws::long_inputs_have_none;
@@ -159,7 +159,7 @@ pub extern "C" fn qrproved_encode(
             write_square(&made.matrix, 0, modules);
             symbol.version = made.version.number();
             symbol.side = side;
-            symbol.level = number_of(made.level);
+            symbol.level = number_of_level(made.level);
             symbol.mask = made.mask;
             DONE
         }

@@ -13,6 +13,7 @@ ghost use Rattle.qr_drawing.specs.declared.drawing.Drawing.{Drawing};
 ghost use Rattle.qrproved.specs.Settings.{interpretation_of, level_of, rule_of};
 
 use crate::encoding::QrprovedSymbol;
+use crate::interpretation::QrprovedEci;
 use crate::mending::QrprovedMended;
 use crate::parsing::QrprovedDrawn;
 use crate::reading::QrprovedContent;
@@ -81,6 +82,13 @@ pub fn series_clones(a: QrprovedSeries) -> Result<QrprovedSeries, AllocError>
 
 /// A clone of a `QrprovedContent` is equal to it.
 pub fn content_clones(a: QrprovedContent) -> Result<QrprovedContent, AllocError>
+    ensures { IfOk result (λ b. b ≡ a) }
+{
+    a.clone()
+}
+
+/// A clone of a `QrprovedEci` is equal to it.
+pub fn eci_clones(a: QrprovedEci) -> Result<QrprovedEci, AllocError>
     ensures { IfOk result (λ b. b ≡ a) }
 {
     a.clone()

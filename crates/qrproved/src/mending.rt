@@ -16,7 +16,7 @@ ghost use Rattle.qrproved.specs.Settings.{level_of};
 use crate::interpretation::{QrprovedEci, write_ecis};
 use crate::modules::area;
 use crate::reading::{content_of, version_of_side};
-use crate::settings::number_of;
+use crate::settings::number_of_level;
 use crate::status::{CHECK, DONE, FORMAT, MEMORY, ROOM, SEGMENTS, SETTINGS, SIDE, read_status};
 use qr_matrix::matrices_of_bytes;
 use qr_mending::laws::{
@@ -67,6 +67,7 @@ pub struct QrprovedMended {
     pub changed_allowed: u8,
 }
 
+// The byte that stands for a module that is not known.
 const NOT_KNOWN: u8 = 2;
 
 // Says whether each byte is at most 2. The loop goes on after a greater byte, so that the compiled code can compare
@@ -137,7 +138,7 @@ fn mended_of(len: usize, mended: &Mended) -> QrprovedMended
         parity: content.parity,
         fnc1: content.fnc1,
         application: content.application,
-        level: number_of(mended.level),
+        level: number_of_level(mended.level),
         mask: mended.mask,
         wrong_format_modules: mended.wrong_format_modules,
         changed_most: most as u8,
@@ -402,8 +403,8 @@ mod tests {
         let format = inverted(drawn, &FORMATS)?;
         let codewords = inverted(drawn, &CODEWORDS)?;
         let unparsed = another_mode(&rt)?;
-        let mut unknown = drawn;
-        unknown[440] = 3;
+        let mut no_module = drawn;
+        no_module[440] = 3;
         let rows = [
             ("no side", &drawn[..], 0u32, 8usize, SIDE),
             ("side 22", &drawn[..], 22, 8, SIDE),
@@ -411,7 +412,7 @@ mod tests {
             ("side 277", &drawn[..], 277, 8, SIDE),
             ("440 modules", &drawn[..440], 21, 8, ROOM),
             ("room for 7 bytes", &drawn[..], 21, 7, ROOM),
-            ("a byte of no module", &unknown[..], 21, 8, SETTINGS),
+            ("a byte of no module", &no_module[..], 21, 8, SETTINGS),
             (
                 "four wrong modules of each copy",
                 &format[..],

@@ -26,7 +26,7 @@ pub struct QrprovedDrawn {
     pub side: u8,
 }
 
-fn number_of(drawing: Drawing) -> u8
+fn number_of_drawing(drawing: Drawing) -> u8
     ensures small { result < 4 }
     ensures number { drawing_of result ≡ drawing }
 {
@@ -76,7 +76,7 @@ pub extern "C" fn qrproved_parse_drawing(
                 return ROOM;
             }
             write_squares(&found.squares, side, modules);
-            drawn.drawing = number_of(found.kind);
+            drawn.drawing = number_of_drawing(found.kind);
             drawn.margin = found.margin;
             drawn.count = count as u8;
             drawn.side = side;

@@ -50,7 +50,7 @@ pub(crate) fn settings_of(
         rule: rule_of(rule)?,
         interpretation: interpretation_of(interpretation)?,
     };
-    if rule == 2 && !may_allow_kanji(settings.interpretation) {
+    if settings.rule == Rule::WithKanji && !may_allow_kanji(settings.interpretation) {
         return None;
     }
     Some(settings)
@@ -94,7 +94,7 @@ fn level_of(number: u32) -> Option<Level>
 }
 
 /// Returns the number that `level_of` turns into this level.
-pub(crate) fn number_of(level: Level) -> u8
+pub(crate) fn number_of_level(level: Level) -> u8
     ensures in_range { result < 4 }
     ensures same { level_of result ≡ level }
 {

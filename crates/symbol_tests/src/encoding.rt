@@ -5,7 +5,7 @@ use crate::samples::EIGHT_DIGITS;
 use qr_bits::{INPUT_MAX, Interpretation, Rule};
 use qr_layout::{Level, Version};
 use qr_matrix::Matrix;
-use qr_symbol::laws::plain_and_fast_symbols_are_one;
+use qr_symbol::laws::slow_and_fast_symbols_are_one;
 use qr_symbol::{
     EncodeFault, build, build_masked, deinterleave, draw_symbol, encode, encode_boosted, interleave,
 };
@@ -80,8 +80,8 @@ fn highest_levels(rt: HostRuntime) -> Result<(), Fail> {
     for (name, len, lowest, version, level) in rows {
         check!(rt; len <= digits.len());
         let input = &digits[..len];
-        let plain = Interpretation::Default;
-        let symbol = encode_boosted(rt.alloc(), input, lowest, first, Rule::Auto, plain)?;
+        let interpretation = Interpretation::Default;
+        let symbol = encode_boosted(rt.alloc(), input, lowest, first, Rule::Auto, interpretation)?;
         check_eq!(rt; symbol.version.number(), version, "{name}");
         check_eq!(rt; symbol.level, level, "{name}");
     }
@@ -252,11 +252,11 @@ fn four_blocks_of_two_lengths(rt: HostRuntime) -> Result<(), Fail> {
 }
 
 // Returns row and column of the first module in which two squares differ, if there is one.
-fn first_that_differs(rt: &impl Abort, plain: &Matrix, fast: &Matrix) -> Option<(u8, u8)> {
-    check!(*rt; plain.side() == fast.side());
-    for row in 0..plain.side() {
-        for col in 0..plain.side() {
-            if plain.dark(row, col) != fast.dark(row, col) {
+fn first_that_differs(rt: &impl Abort, slow: &Matrix, fast: &Matrix) -> Option<(u8, u8)> {
+    check!(*rt; slow.side() == fast.side());
+    for row in 0..slow.side() {
+        for col in 0..slow.side() {
+            if slow.dark(row, col) != fast.dark(row, col) {
                 return Some((row, col));
             }
         }
@@ -267,7 +267,7 @@ fn first_that_differs(rt: &impl Abort, plain: &Matrix, fast: &Matrix) -> Option<
 // `build` and `build_masked` make the same symbols. Some of these versions have no remainder bits, and others three,
 // four or seven. Those from 7 on have version information.
 #[test]
-fn plain_and_fast_symbols(rt: HostRuntime) -> Result<(), Fail> {
+fn slow_and_fast_symbols(rt: HostRuntime) -> Result<(), Fail> {
     for number in [1, 2, 7, 14, 21, 40] {
         let version = Version::new(number).ok_or("no such version")?;
         let mut codewords = Vec::new(rt.alloc());
@@ -275,15 +275,15 @@ fn plain_and_fast_symbols(rt: HostRuntime) -> Result<(), Fail> {
             codewords.push((place % 251) as u8)?;
         }
         check!(rt; codewords.len() == usize::from(version.total_codewords()));
-        let (plain, fast) = plain_and_fast_symbols_are_one(
+        let (slow, fast) = slow_and_fast_symbols_are_one(
             rt.alloc(),
             version,
             Level::Q,
             &codewords,
         )?;
-        check_eq!(rt; plain.matrix.side(), version.side());
+        check_eq!(rt; slow.matrix.side(), version.side());
         check_eq!(rt;
-            first_that_differs(&rt, &plain.matrix, &fast.matrix),
+            first_that_differs(&rt, &slow.matrix, &fast.matrix),
             None,
             "version {number}"
         );

@@ -1,21 +1,17 @@
 //! Tests of damaged symbols and series.
 
 use crate::checks::{check, check_eq};
-use crate::samples::EIGHT_DIGITS;
+use crate::samples::eight_digits;
 use qr_bits::{Interpretation, Rule};
 use qr_layout::{Level, Version};
 use qr_matrix::Matrix;
 use qr_mending::{Mended, mend_series, mend_symbol, mend_symbol_with_unknown};
-use qr_symbol::{ReadFault, Symbol, build_masked, encode_series};
+use qr_symbol::{ReadFault, Symbol, encode_series};
 use std::test::Fail;
 
-// Returns the symbol of the input `01234567` at version 1 and level M (1-M) with these modules inverted.
+// Returns the symbol of `eight_digits` with these modules inverted.
 fn inverted(rt: &HostRuntime, modules: &[(u8, u8)]) -> Result<Symbol, Fail> {
-    let version = Version::FIRST;
-    if version.total_codewords() != 26 {
-        return Err("26 codewords".into());
-    }
-    let mut symbol = build_masked(rt.alloc(), version, Level::M, &EIGHT_DIGITS, 0)?;
+    let mut symbol = eight_digits(rt)?;
     for (row, col) in modules {
         if *row >= symbol.matrix.side() || *col >= symbol.matrix.side() {
             return Err("no such module".into());

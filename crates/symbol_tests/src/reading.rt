@@ -1,11 +1,11 @@
 //! Tests of `read_symbol`.
 
 use crate::checks::{check, check_eq};
-use crate::samples::{EIGHT_DIGITS, byte_symbol};
+use crate::samples::{byte_symbol, eight_digits};
 use qr_bits::{Interpretation, Item, Mode, Rule, Segment};
 use qr_layout::{Level, Version, walk};
 use qr_matrix::Matrix;
-use qr_symbol::{ReadFault, Symbol, build_masked, encode, read_symbol};
+use qr_symbol::{ReadFault, Symbol, encode, read_symbol};
 use std::process::Abort;
 use std::test::Fail;
 
@@ -27,15 +27,6 @@ fn says(rt: &HostRuntime, matrix: &Matrix, mode: Mode, bytes: &[u8]) -> Result<b
 // Returns the fault with which `read_symbol` refuses the symbol, if it does.
 fn fault(rt: &HostRuntime, matrix: &Matrix) -> Option<ReadFault> {
     read_symbol(rt.alloc(), matrix).err()
-}
-
-// Returns the symbol of the input `01234567` at version 1 and level M (1-M) with mask 0.
-fn eight_digits(rt: &HostRuntime) -> Result<Symbol, Fail> {
-    let version = Version::FIRST;
-    if version.total_codewords() != 26 {
-        return Err("26 codewords".into());
-    }
-    Ok(build_masked(rt.alloc(), version, Level::M, &EIGHT_DIGITS, 0)?)
 }
 
 // Says whether the symbol is read as the digits 01234567.

@@ -6,7 +6,7 @@ ghost use Rattle.qr_bits.specs.declared.modes.TheConstants.{INPUT_MAX};
 
 use qr_bits::{Header, INPUT_MAX, Interpretation, Mode, Segment, Segmented, codewords, covers};
 use qr_layout::{Level, Version};
-use qr_symbol::{Symbol, build, interleave};
+use qr_symbol::{Symbol, build, build_masked, interleave};
 use std::borrow::CowSlice;
 use std::test::Fail;
 
@@ -16,6 +16,15 @@ pub static EIGHT_DIGITS: [u8; 26] = [
     0x10, 0x20, 0x0C, 0x56, 0x61, 0x80, 0xEC, 0x11, 0xEC, 0x11, 0xEC, 0x11, 0xEC, 0x11, 0xEC, 0x11,
     0xA5, 0x24, 0xD4, 0xC1, 0xED, 0x36, 0xC7, 0x87, 0x2C, 0x55,
 ];
+
+/// Returns the symbol of the input `01234567` at version 1 and level M (1-M) with mask 0.
+pub fn eight_digits(rt: &HostRuntime) -> Result<Symbol, Fail> {
+    let version = Version::FIRST;
+    if version.total_codewords() != 26 {
+        return Err("26 codewords".into());
+    }
+    Ok(build_masked(rt.alloc(), version, Level::M, &EIGHT_DIGITS, 0)?)
+}
 
 /// Returns the data codewords of a header, if there is one, and a segment in byte mode.
 pub fn byte_codewords(

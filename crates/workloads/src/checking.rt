@@ -193,7 +193,8 @@ fn smudge(alloc: Global, symbol: &Symbol, random: &mut Random) -> Result<Matrix,
     Ok(unknown)
 }
 
-// Mends the symbol in its five states.
+// Mends the symbol five times: undamaged, in the three states of `Damaged`, and with the modules under a smudge not
+// known.
 fn add_all_mended(
     alloc: Global,
     symbol: &Symbol,

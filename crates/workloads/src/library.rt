@@ -19,6 +19,7 @@ const AREA_MAX: usize = 177 * 177;
 
 const MARGIN: u8 = 4;
 
+// The byte that `qrproved_mend` takes for a module that is not known.
 const NOT_KNOWN: u8 = 2;
 
 // The most bytes that version 13 holds in byte mode, at the levels L, M, Q and H.

@@ -22,12 +22,12 @@ unfolding is_alphanumeric character_value characters
 character-found b h = found (λ c. c == b) characters h
 
 -- the index of one of the 45 characters is its value
-pub character-place : (b : ℕ) → is_alphanumeric b ≡ true → position (λ c. c == b) characters ≡ Some (character_value b)
+pub index-is-value : (b : ℕ) → is_alphanumeric b ≡ true → position (λ c. c == b) characters ≡ Some (character_value b)
 unfolding is_alphanumeric character_value
-character-place b h = rw (lt-ltb _ _ (found (λ c. c == b) characters h)) refl
+index-is-value b h = rw (lt-ltb _ _ (found (λ c. c == b) characters h)) refl
 
 pub character-index : (b n : ℕ) → is_alphanumeric b ≡ true → position (λ c. c == b) characters ≡ Some n → (n ≡ character_value b) × (n ≤ 44)
-character-index b n h e = search (arith, character-place, character-found)
+character-index b n h e = search (arith, index-is-value, character-found)
 
 -- a character is the character of its value
 pub character-again : (b : ℕ) → is_alphanumeric b ≡ true → character (character_value b) ≡ b

@@ -61,10 +61,10 @@ Written old new text r = record {
 
 -- if a text was written, or the writer failed in it, and no write was interrupted before, the promise of such a call
 -- holds
-pub written : {T : Type 0} (a b : Writer) (tries : ℕ) (text : List ℕ) (r : Result T DrawFault)
-    → MatchResult r (λ _. Writes a b 0 tries text []) (λ _. Stops a b 0 text) → Written a b text r
-written a b tries text (Ok t) p = search rules
-written a b tries text (Err f) p = search rules
+pub written : {T : Type 0} (a b : Writer) (interruptions : ℕ) (text : List ℕ) (r : Result T DrawFault)
+    → MatchResult r (λ _. Writes a b 0 interruptions text []) (λ _. Stops a b 0 text) → Written a b text r
+written a b interruptions text (Ok t) p = search rules
+written a b interruptions text (Err f) p = search rules
 
 -- What one write does while bytes are sent.
 
@@ -124,9 +124,9 @@ refused-failed a b c text at len i j p short q e =
     refused a b c text at len i j (Err Failed) p short q e (λ fits. rw e (omega arith)) (λ h. rw (e, h.failed) refl)
 
 -- if the write was interrupted for the 1,000th time, the writer failed in the text
-pub refused-tried : (a b c : Writer) (text : List ℕ) (at len i j : ℕ) → j ≡ 999 → Writes a b i j (take at text) [] → len ≤ 1200
+pub refused-interrupted : (a b c : Writer) (text : List ℕ) (at len i j : ℕ) → j ≡ 999 → Writes a b i j (take at text) [] → len ≤ 1200
     → Keeps b.taken c.taken → c.counts ≡ write_counted len (Err Interrupted) b.counts → Stops a c i text
-refused-tried a b c text at len i j last p short q e =
+refused-interrupted a b c text at len i j last p short q e =
     refused a b c text at len i j (Err Interrupted) p short q e (λ fits. rw e (omega arith))
     (λ h. search arith)
 

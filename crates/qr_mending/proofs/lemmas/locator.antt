@@ -135,13 +135,13 @@ discrepancy-next f a b j p q s lf lp lq ls short =
     let lw = All-drop IsByte j s ls in
     search (arith, dot-plus, bytes-zeros, dot-zeros, drop-drop)
 
--- `next` is the sum of two polynomials: `earlier`, multiplied by `f` and x^a, and `best`, multiplied by x^b. For the new
--- equation, whose index is `i` less the degree of `best`, their sums of products are equal, so they cancel.
+-- `next` is the sum of two polynomials: `earlier`, multiplied by `f` and x^a, and `best`, multiplied by x^b. For the
+-- new equation, whose index is `i` less the degree of `best`, their sums of products are equal, so they cancel.
 pub record IsNext (i a b f : ℕ) (s : List ℕ) (search : Search) (next : Polynomial) : Type 0 where
   pub byte : f < 256
   pub degree : next.degree ≡ b + search.best.degree
   pub shift : a + (i + 1) ≡ search.best.degree + next.degree
-  pub cancels : product f search.discrepancy ≡ discrepancy_of search.best (drop (i - search.best.degree) s)
+  pub cancels : product f search.earlier_discrepancy ≡ discrepancy_of search.best (drop (i - search.best.degree) s)
   pub sum : all_of next ≡ plus (scaled f (zeros a ++ all_of search.earlier)) (zeros b ++ all_of search.best)
   pub monic : IsMonic next
 
@@ -176,7 +176,7 @@ module _ (i a b f : ℕ) (s : List ℕ) (search : Search) (next : Polynomial) (l
         | inr k ↦
             let last = h.last (a + j) (omega arith) in
             let index : b + j ≡ i - search.best.degree = omega arith in
-            cc (xor_self (product f search.discrepancy))
+            cc (xor_self (product f search.earlier_discrepancy))
       ]
 
   -- the next polynomial is the best after one syndrome more
@@ -218,7 +218,7 @@ few-bound t i search s e h within few some = elim (cases_lt i (t + search.best.d
 
 -- the polynomial 1, with which the search begins
 pub search-begins : (s : List ℕ) (p : Polynomial) → p.degree ≡ 0 → IsMonic p → all_of p ≡ 1 ∷ [] →
-    IsSearch 0 s (record { best = p; earlier = p; discrepancy = 1 })
+    IsSearch 0 s (record { best = p; earlier = p; earlier_discrepancy = 1 })
 search-begins s p degree monic terms = search (arith, All-cons, All-nil)
 
 -- ---- one syndrome more

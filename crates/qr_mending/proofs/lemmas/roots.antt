@@ -262,9 +262,9 @@ pub value-more_divided : (r k v m : ℕ) (old now : List ℕ) → 0 < k → k �
 value-more_divided r k v m old now some l same value product = search (arith, drop_more, divided-get)
 
 -- one coefficient more of the value of the quotient
-pub rest-more_divided : (r k v m : ℕ) (old : List ℕ) → 0 < k → k ≤ length old → v ≡ eval r (drop k old) →
+pub quotient-value-more_divided : (r k v m : ℕ) (old : List ℕ) → 0 < k → k ≤ length old → v ≡ eval r (drop k old) →
     m ≡ product r (eval r (quotient r (drop k old))) → bit_xor v m ≡ eval r (quotient r (drop (k - 1) old))
-rest-more_divided r k v m old some l value product =
+quotient-value-more_divided r k v m old some l value product =
     let i = k - 1 in
     let other : i + 1 ≡ k = omega arith in
     cc (product, drop_more old i 0 (omega arith))

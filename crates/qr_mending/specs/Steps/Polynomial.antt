@@ -33,14 +33,14 @@ pub record IsBest (i : ℕ) (s : List ℕ) (p : Polynomial) : Type 0 where
 -- The search for the error locator polynomial after the first `i` of the syndromes `s`. The polynomial `best` solves
 -- all equations for which these are enough. If `best` does not solve the next equation, a multiple of `earlier` will be
 -- added to it. Let d be the degree of `best`. `earlier` solves each equation whose index is below d - 1, but not the
--- equation with the index d - 1: its sum of products there is `discrepancy`, which is not 0.
+-- equation with the index d - 1: its sum of products there is `earlier_discrepancy`, which is not 0.
 pub record IsSearch (i : ℕ) (s : List ℕ) (search : Search) : Type 0 where
   pub best : IsBest i s search.best
   pub bytes : All IsByte (all_of search.earlier)
-  pub some : 1 ≤ search.discrepancy
+  pub some : 1 ≤ search.earlier_discrepancy
   pub degrees : search.best.degree + search.earlier.degree ≤ i
   pub before : (j : ℕ) → j + 1 < search.best.degree → discrepancy_of search.earlier (drop j s) ≡ 0
-  pub last : (j : ℕ) → j + 1 ≡ search.best.degree → discrepancy_of search.earlier (drop j s) ≡ search.discrepancy
+  pub last : (j : ℕ) → j + 1 ≡ search.best.degree → discrepancy_of search.earlier (drop j s) ≡ search.earlier_discrepancy
 
 -- `progress` has the first syndromes of a block, and the search for its error locator polynomial. Division of the block
 -- by the generator polynomial leaves the remainder `r`. The search has taken in the first `taken` of the syndromes, at

@@ -2,8 +2,8 @@
 use Rattle.qr_drawing.{proofs.Facts.{is_dark_at_above, is_dark_at-inside}, specs.{Drawing.HaveOneSide, Raster.{is_dark_at, raster_width}, Svg.square_at}}
 use Rattle.qr_drawing.specs.declared.drawing.Drawing.{Drawing, TheVariants.{Ascii, AsciiInverse, Utf8, Svg}}
 use Rattle.qr_matrix.{proofs.Facts.square-same, specs.{Bytes.byte_of, Grid.{Grid, colour, light, square}}}
-use Rattle.qr_parsing.specs.{Parsing.{BeginsAsSymbol, IsDrawingOf}, Steps.Sheet.{ShowsOn, is_dark_on, HasPlaces, is_dark_byte, is_sign, place_of}}
-use Rattle.std.proofs.Common.{◌≡◌, ◌≤◌, ◌<◌, ◌+◌, ◌-◌, ◌*◌, ◌∙◌, ℕ, zero, suc, true, false, List, length, sym, ap, arith, ◌%◌, ◌||◌, eqb, Bool, cond, get_or}
+use Rattle.qr_parsing.specs.{Parsing.{BeginsAsSymbol, IsDrawingOf}, Steps.Sheet.{ShowsOn, is_dark_on, HasPlaces, index_of, is_dark_byte, is_sign}}
+use Rattle.std.proofs.Common.{◌≡◌, ◌≤◌, ◌<◌, ◌+◌, ◌-◌, ◌*◌, ◌∙◌, ℕ, zero, suc, true, false, List, length, sym, ap, subst, arith, get_or}
 use Rattle.std.proofs.Math.Nat.{mul-le-mul, add-mul, mul-le-mul_right}
 use Rattle.std.{proofs.lemmas.List.{ext_get_or, get_or-append_right, get_or-take, get_or_append_left, length-take-le, Elements.All-get_or}, specs.List.All}
 use borrow.Rule.Slice.PartMut.{put_mid}
@@ -109,35 +109,36 @@ rows-more side row n xs ys byte long fits before here r c l m =
 -- in this type of drawing the bytes of a row of modules are `step` bytes apart, and `signs` are the two bytes that a
 -- dark module can have
 pub record ReadsBy (kind : Drawing) (step y : ℕ) (signs : ℕ × ℕ) : Type 0 where
-  pub steps : (w k m x : ℕ) → place_of kind w k y (m + x) ≡ place_of kind w k y m + step * x
+  pub steps : (w k m x : ℕ) → index_of kind w k y (m + x) ≡ index_of kind w k y m + step * x
   pub dark : (b : ℕ) → is_sign signs b ≡ is_dark_byte kind y b
 
-twice : (b : Bool) → (b || b) ≡ b
-twice b = grind arith
+pub ascii-reads : (kind : Drawing) (y : ℕ) (signs : ℕ × ℕ) → kind ≡ Ascii
+    → ((b : ℕ) → is_sign signs b ≡ is_dark_byte Ascii y b) → ReadsBy kind 2 y signs
+ascii-reads kind y signs e dark = subst (λ k. ReadsBy k 2 y signs) (sym e) (record { steps = search arith; dark = dark })
 
-pub ascii-reads : (kind : Drawing) (y : ℕ) → kind ≡ Ascii → ReadsBy kind 2 y (35, 35)
-ascii-reads kind y e = search arith
+pub inverse-reads : (kind : Drawing) (y : ℕ) (signs : ℕ × ℕ) → kind ≡ AsciiInverse
+    → ((b : ℕ) → is_sign signs b ≡ is_dark_byte AsciiInverse y b) → ReadsBy kind 2 y signs
+inverse-reads kind y signs e dark = subst (λ k. ReadsBy k 2 y signs) (sym e) (record { steps = search arith; dark = dark })
 
-pub inverse-reads : (kind : Drawing) (y : ℕ) → kind ≡ AsciiInverse → ReadsBy kind 2 y (32, 32)
-inverse-reads kind y e = search arith
+pub block-reads : (kind : Drawing) (y : ℕ) (signs : ℕ × ℕ) → kind ≡ Utf8
+    → ((b : ℕ) → is_sign signs b ≡ is_dark_byte Utf8 y b) → ReadsBy kind 1 y signs
+block-reads kind y signs e dark = subst (λ k. ReadsBy k 1 y signs) (sym e) (record { steps = search arith; dark = dark })
 
-pub svg-reads : (kind : Drawing) (y : ℕ) → kind ≡ Svg → ReadsBy kind 1 y (1, 1)
-svg-reads kind y e = search arith
-
-pub block-reads : (kind : Drawing) (y half : ℕ) → kind ≡ Utf8 → half ≡ cond (eqb (y % 2) 0) 0x84 0x80 → ReadsBy kind 1 y (32, half)
-block-reads kind y half e f = search arith
+pub svg-reads : (kind : Drawing) (y : ℕ) (signs : ℕ × ℕ) → kind ≡ Svg
+    → ((b : ℕ) → is_sign signs b ≡ is_dark_byte Svg y b) → ReadsBy kind 1 y signs
+svg-reads kind y signs e dark = subst (λ k. ReadsBy k 1 y signs) (sym e) (record { steps = search arith; dark = dark })
 
 -- in this module, a row of the raster k is read
-module _ (kind : Drawing) (step y : ℕ) (signs : ℕ × ℕ) (reads : ReadsBy kind step y signs) (w k m first : ℕ) (bytes : List ℕ) (is : first ≡ place_of kind w k y m) where
-  place-is : (x : ℕ) → first + step * x ≡ place_of kind w k y (m + x)
-  place-is x = ap (λ n. n + step * x) is ∙ sym (reads.steps w k m x)
+module _ (kind : Drawing) (step y : ℕ) (signs : ℕ × ℕ) (reads : ReadsBy kind step y signs) (w k m first : ℕ) (bytes : List ℕ) (is : first ≡ index_of kind w k y m) where
+  index-is : (x : ℕ) → first + step * x ≡ index_of kind w k y (m + x)
+  index-is x = ap (λ n. n + step * x) is ∙ sym (reads.steps w k m x)
 
   -- each module of the row has a byte
   pub row-inside : (count side : ℕ) → HasPlaces kind w count bytes → k < count → y < w → m + side ≤ w → (i : ℕ) → i < side → first + step * i < length bytes
-  row-inside count side whole a b c i l = let p = whole k y (m + i) a b (omega arith) in omega (arith, place-is i)
+  row-inside count side whole a b c i l = let p = whole k y (m + i) a b (omega arith) in omega (arith, index-is i)
 
   -- the modules that are read have the colours of the sheet
   pub row-dark : (side : ℕ) (modules : List ℕ) → ((c : ℕ) → c < side → get_or modules c 0 ≡ byte_of (is_sign signs (get_or bytes (first + step * c) 0)))
       → (c : ℕ) → c < side → get_or modules c 0 ≡ byte_of (is_dark_on kind w bytes k y (m + c))
   unfolding is_dark_on
-  row-dark side modules has c l = has c l ∙ ap byte_of (reads.dark (get_or bytes (first + step * c) 0) ∙ ap (λ z. is_dark_byte kind y (get_or bytes z 0)) (place-is c))
+  row-dark side modules has c l = has c l ∙ ap byte_of (reads.dark (get_or bytes (first + step * c) 0) ∙ ap (λ z. is_dark_byte kind y (get_or bytes z 0)) (index-is c))

@@ -1,5 +1,5 @@
 pub mod NumberLemmas
 pub mod PathLemmas
 pub mod BoxLemmas
-pub mod CanvasLemmas
+pub mod PaintLemmas
 pub mod DocumentLemmas

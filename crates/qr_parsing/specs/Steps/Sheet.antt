@@ -8,15 +8,16 @@ use Rattle.qr_drawing.specs.Svg.{square_at}
 use Rattle.qr_drawing.specs.declared.drawing.Drawing.{Drawing}
 use Rattle.qr_drawing.specs.declared.drawing.Drawing.TheVariants.{Ascii, AsciiInverse, Utf8, Svg}
 use Rattle.qr_parsing.specs.Parsing.{IsDrawingOf}
-use Rattle.qr_parsing.specs.Steps.{Svg.{canvas_of, numbers_in}, Text.{cells_in, first_line, has_block}}
+use Rattle.qr_parsing.specs.Steps.{Svg.{painted_bytes, numbers_in}, Text.{cells_in, first_line, has_block}}
 
--- Where a module is in the sheet of a drawing of this type: the index of the byte that shows the module in row `y` and
--- column `x` of the raster `k`. All are counted from 0, and a raster is `width` modules wide
-abbrev pub place_of : Drawing → ℕ → ℕ → ℕ → ℕ → ℕ
-place_of Ascii width k y x = (k * width + y) * (2 * width + 1) + 2 * x
-place_of AsciiInverse width k y x = (k * width + y) * (2 * width + 1) + 2 * x
-place_of Utf8 width k y x = (k * ((width + 1) / 2) + y / 2) * (width + 1) + x
-place_of Svg width k y x = (k * width + y) * width + x
+-- In the sheet of a drawing of this type, the index of the byte that shows the module in row `y` and column `x` of the
+-- raster `k`. If two bytes show the module, it is the index of the first. All are counted from 0, and a raster is
+-- `width` modules wide
+abbrev pub index_of : Drawing → ℕ → ℕ → ℕ → ℕ → ℕ
+index_of Ascii width k y x = (k * width + y) * (2 * width + 1) + 2 * x
+index_of AsciiInverse width k y x = (k * width + y) * (2 * width + 1) + 2 * x
+index_of Utf8 width k y x = (k * ((width + 1) / 2) + y / 2) * (width + 1) + x
+index_of Svg width k y x = (k * width + y) * width + x
 
 -- In the sheet of a drawing of this type, `byte` shows a dark module. The module is in row `y` of its raster. In a UTF8
 -- sheet a byte shows two modules, of which the upper one is in an even row
@@ -32,11 +33,11 @@ is_sign signs byte = byte == signs.0 || byte == signs.1
 
 -- The sheet `bytes` of a drawing of this type shows a dark module in row `y` and column `x` of the raster `k`
 unfoldable pub is_dark_on : Drawing → ℕ → List ℕ → ℕ → ℕ → ℕ → Bool
-is_dark_on kind width bytes k y x = is_dark_byte kind y (slice_index_or bytes (place_of kind width k y x) 0)
+is_dark_on kind width bytes k y x = is_dark_byte kind y (slice_index_or bytes (index_of kind width k y x) 0)
 
 -- The sheet `bytes` is long enough to have a byte for each module of its `count` rasters
 abbrev pub HasPlaces : Drawing → ℕ → ℕ → List ℕ → Type 0
-HasPlaces kind width count bytes = (k y x : ℕ) → k < count → y < width → x < width → place_of kind width k y x < length bytes
+HasPlaces kind width count bytes = (k y x : ℕ) → k < count → y < width → x < width → index_of kind width k y x < length bytes
 
 -- The sheet `bytes` shows the modules of the squares, with this margin around each. `count` is the number of squares,
 -- and `width` the width of a raster
@@ -69,7 +70,7 @@ abbrev pub bytes_in : Drawing → List ℕ → List ℕ
 bytes_in Ascii text = text
 bytes_in AsciiInverse text = text
 bytes_in Utf8 text = cells_in text
-bytes_in Svg text = canvas_of (width_in Svg text) (slice_index_or (numbers_in text) 10 0) (drop 16 (numbers_in text))
+bytes_in Svg text = painted_bytes (width_in Svg text) (slice_index_or (numbers_in text) 10 0) (drop 16 (numbers_in text))
 
 -- The number of rasters, if the text is a drawing of this type
 abbrev pub count_in : Drawing → List ℕ → ℕ

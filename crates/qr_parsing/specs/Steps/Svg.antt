@@ -1,4 +1,4 @@
--- The numbers in an SVG document, the boxes that they give, and the canvas on which these boxes are painted.
+-- The numbers in an SVG document, the boxes that they give, and the bytes on which these boxes are painted.
 use Rattle.std.specs.Prelude.{◌≡◌, ℕ, ◌+◌, ◌*◌, ◌/◌, ◌%◌, ◌==◌, ◌-◌, ◌≤◌, Bool, true, false, ◌&&◌, ◌||◌, nat_le, nat_lt, min, if◌then◌else◌, List, [], ◌∷◌, ◌++◌, map}
 use Rattle.std.specs.List.{range_with_len}
 use Rattle.qr_drawing.specs.Svg.{box_path}
@@ -27,10 +27,11 @@ abbrev pub is_in_boxes : List ℕ → ℕ → ℕ → Bool
 is_in_boxes (x ∷ y ∷ modules ∷ high ∷ back ∷ numbers) r c = (y == r && (nat_le x c && nat_lt c (x + modules))) || is_in_boxes numbers r c
 is_in_boxes numbers r c = false
 
--- The canvas: a byte for each module of an SVG document, row by row. The byte is 1 if the module is in a box, and
--- otherwise 0. `numbers` has five numbers for each box (`is_in_boxes`), and the document is `width` by `height` modules
-abbrev pub canvas_of : ℕ → ℕ → List ℕ → List ℕ
-canvas_of width height numbers = map (λ i. if is_in_boxes numbers (i / width) (i % width) then 1 else 0) (range_with_len 0 (width * height))
+-- The painted bytes of an SVG document, which are the bytes of its sheet: a byte for each module, row by row. The byte
+-- is 1 if the module is in a box, and otherwise 0. `numbers` has five numbers for each box (`is_in_boxes`), and the
+-- document is `width` by `height` modules
+abbrev pub painted_bytes : ℕ → ℕ → List ℕ → List ℕ
+painted_bytes width height numbers = map (λ i. if is_in_boxes numbers (i / width) (i % width) then 1 else 0) (range_with_len 0 (width * height))
 
 -- The decimal number with which a text begins, and the rest of the text. The byte that ends the number is in neither.
 -- If the number began before the text, `number` is the value of the digits that it has there, and otherwise it is 0

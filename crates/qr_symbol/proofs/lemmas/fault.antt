@@ -6,7 +6,6 @@ use Rattle.qr_symbol.specs.{VersionChoice.{FitsVersion, HasNoVersion}, declared.
 use Rattle.std.proofs.Common.{◌≡◌, ◌≢◌, ◌<◌, ◌≤◌, ◌↔◌, ◌⊎◌, inl, inr, ℕ, List, [], length, Result, Ok, Err, Vec, Global, sym, ap, subst, arith}
 use Rattle.std.specs.Prelude.{IfOk, IfErr, MatchResult}
 use Rattle.qr_symbol.specs.declared.fault.EncodeFault.TheVariants as fault
-use Rattle.qr_symbol.specs.declared.fault.ReadFault.TheVariants as unread
 
 -- the result is the fault e exactly if it is not lack of memory and the fact holds
 abbrev pub Refused : {X E : Type 0} → Result X E → (e memory : E) → Type 0 → Type 0

@@ -81,25 +81,25 @@ pub record AreDrawn (v : ℕ) (cw : List ℕ) (x : Strip) (first k n : ℕ) (bef
       → IsRowDrawn v cw x first j (has before.right (row_of (side_of v) x j)) (has before.left (row_of (side_of v) x j)) (has after.right (row_of (side_of v) x j)) (has after.left (row_of (side_of v) x j))
   pub kept : (row : ℕ) → ((j : ℕ) → k ≤ j → j < k + n → row_of (side_of v) x j ≡ row → ⊥) → (has after.right row ≡ has before.right row) × (has after.left row ≡ has before.left row)
 
--- The colour of the module in row `r` and column `c` after two steps, which begin with the square `plain`. First the
+-- The colour of the module in row `r` and column `c` after two steps, which begin with the square `unmasked`. First the
 -- mask is applied to the modules that are dark in `region`. Then the format information, the number `format`, is drawn.
 unfoldable pub masked_colour : ℕ → ℕ → ℕ → Grid → Grid → ℕ → ℕ → Bool
-masked_colour v format mask region plain r c = format_or format (role_of v r c) (inverted (colour region r c && inverts mask r c) (colour plain r c))
+masked_colour v format mask region unmasked r c = format_or format (role_of v r c) (inverted (colour region r c && inverts mask r c) (colour unmasked r c))
 
--- The square that two steps make of the square `plain`. First the mask `mask` is applied to the modules that are dark
--- in `region`. Then the format information of level `l` and this mask is drawn.
+-- The square that two steps make of the square `unmasked`. First the mask `mask` is applied to the modules that are
+-- dark in `region`. Then the format information of level `l` and this mask is drawn.
 abbrev pub masked_grid : ℕ → Level → ℕ → Grid → Grid → Grid
-masked_grid v l mask region plain = square (side_of v) (masked_colour v (format_word_of l mask) mask region plain)
+masked_grid v l mask region unmasked = square (side_of v) (masked_colour v (format_word_of l mask) mask region unmasked)
 
 -- A square of version `v` in which exactly the modules of the region are dark.
 abbrev pub region_grid : ℕ → Grid
 region_grid v = square (side_of v) (is_in_region v)
 
 -- The symbol that contains the codewords `cw`, before a mask is applied. Of its format information only bit 7 is dark.
-abbrev pub plain_grid : ℕ → List ℕ → Grid
-plain_grid v cw = square (side_of v) (placed_colour v cw (paint_of v symmetric_format))
+abbrev pub unmasked_grid : ℕ → List ℕ → Grid
+unmasked_grid v cw = square (side_of v) (placed_colour v cw (paint_of v symmetric_format))
 
--- The penalty of the square that `masked_grid` makes of the square `plain`: the mask `mask` is applied to the modules
--- that are dark in `region`, and then the format information of level `l` and this mask is drawn.
+-- The penalty of the square that `masked_grid` makes of the square `unmasked`: the mask `mask` is applied to the
+-- modules that are dark in `region`, and then the format information of level `l` and this mask is drawn.
 abbrev pub masked_penalty : ℕ → Level → Grid → Grid → ℕ → ℕ
-masked_penalty v l region plain mask = penalty_of (side_of v) (colour (masked_grid v l mask region plain))
+masked_penalty v l region unmasked mask = penalty_of (side_of v) (colour (masked_grid v l mask region unmasked))

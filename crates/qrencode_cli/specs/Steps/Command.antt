@@ -87,8 +87,9 @@ pub record Prepares (words : List Text) (old new : Reader) (result : Result Draw
   pub read_fault : old.counts ≡ no_reads → IsErrOf result Read ↔ IsTrue (is_read_fault new.counts)
   pub within : old.counts ≡ no_reads → IsReadWithin new.counts
 
--- If the step succeeded, the whole drawing was written, and the writer was flushed. Otherwise the result is a fault of
--- the writer, and a prefix of the drawing was written, or all of it. No write offered more than `WRITE_MAX` bytes
+-- The last step of a run writes the drawing and flushes the writer. If this step succeeded, the whole drawing was
+-- written, and the writer was flushed. Otherwise the result is a fault of the writer, and a prefix of the drawing was
+-- written, or all of it. No write offered more than `WRITE_MAX` bytes
 pub record Draws (old new : Writer) (drawing : List ℕ) (result : Result (Unit {0}) Fault) : Type 0 where
   pub ok : OnOk result (DrawnWhole true old new drawing)
   pub err : IfErr result (λ f. (f ≡ Write) × DrawnInPart old new drawing)

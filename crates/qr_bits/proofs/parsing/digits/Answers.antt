@@ -1,8 +1,8 @@
 use Rattle.{qr_bits.proofs.lemmas.parsing.PayloadLemmas.{digits-step, group-read, fails}, std.proofs.Common.{◌-◌, [], ◌∷◌, arith, rules}}
 use Rattle.qr_bits.proofs.parsing.digits.Goals as goal
 
-pub returns-then-group-ge-THREE_DIGITS : goal.returns-then-group-ge-THREE_DIGITS
-returns-then-group-ge-THREE_DIGITS c =
+pub returns-then-group-ge-THREE_DIGITS_LIMIT : goal.returns-then-group-ge-THREE_DIGITS_LIMIT
+returns-then-group-ge-THREE_DIGITS_LIMIT c =
     search (rules, fails, digits-step c.loop-left.left (c.loop-left.left - 3) c.loop-left.reader (omega (arith, c.loop-left-test.true)))
 
 pub loop-left-preserved : goal.loop-left-preserved

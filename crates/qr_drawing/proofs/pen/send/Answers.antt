@@ -1,4 +1,4 @@
-use Rattle.qr_drawing.proofs.lemmas.pen.{writes-none, sends-more, sends-again, refused-zero, refused-failed, refused-tried}
+use Rattle.qr_drawing.proofs.lemmas.pen.{writes-none, sends-more, sends-again, refused-zero, refused-failed, refused-interrupted}
 use Rattle.std.proofs.{Common.{rules, ◌≡◌, ◌<◌, ◌≤◌, ◌+◌, ◌-◌, ℕ, List, min, length, take, drop, refl, arith}, lemmas.List.{length-drop, length-take}}
 use Rattle.qr_drawing.proofs.pen.send.Goals as goal
 
@@ -12,8 +12,8 @@ within : (at taken n all : ℕ) → taken ≤ n → at + n ≤ all → at + take
 within at taken n all le fits = omega arith
 
 -- one more interrupted write may be tried again
-again : (tries : ℕ) → tries < 1000 → (tries ≡ 999 → ⊥) → tries + 1 < 1000
-again tries lt ne = omega arith
+again : (interruptions : ℕ) → interruptions < 1000 → (interruptions ≡ 999 → ⊥) → interruptions + 1 < 1000
+again interruptions lt ne = omega arith
 
 pub offers-init : goal.offers-init
 offers-init g c = search (rules, writes-none)
@@ -34,7 +34,7 @@ offers-preserved-in-Ok g c =
 
 pub offers-preserved : goal.offers-preserved
 offers-preserved g c =
-    let few = again c.offers.tries c.offers.invariant.few c.if-tries-eq-INTERRUPTIONS_MAX.false in
+    let few = again c.offers.interruptions c.offers.invariant.few c.if-interruptions-eq-INTERRUPTIONS_MAX.false in
     record {
       within = c.offers.invariant.within;
       few = few;
@@ -42,10 +42,10 @@ offers-preserved g c =
           c.in-Err-Interrupted.ensures.bytes (rw c.in-Err-Interrupted.field-0-is at c.in-Err-Interrupted.ensures.counted);
     }
 
-pub returns-then-tries-eq-INTERRUPTIONS_MAX-clause-writes :
-    goal.returns-then-tries-eq-INTERRUPTIONS_MAX-clause-writes
-returns-then-tries-eq-INTERRUPTIONS_MAX-clause-writes g c =
-    refused-tried _ _ _ _ _ _ _ _ c.if-tries-eq-INTERRUPTIONS_MAX.true c.offers.invariant.writes (offered c.args.bytes.now c.offers.at c.min-len.result c.offers-test.true c.min-len.ensures).1
+pub returns-then-interruptions-eq-INTERRUPTIONS_MAX-clause-writes :
+    goal.returns-then-interruptions-eq-INTERRUPTIONS_MAX-clause-writes
+returns-then-interruptions-eq-INTERRUPTIONS_MAX-clause-writes g c =
+    refused-interrupted _ _ _ _ _ _ _ _ c.if-interruptions-eq-INTERRUPTIONS_MAX.true c.offers.invariant.writes (offered c.args.bytes.now c.offers.at c.min-len.result c.offers-test.true c.min-len.ensures).1
     c.in-Err-Interrupted.ensures.bytes (rw c.in-Err-Interrupted.field-0-is at c.in-Err-Interrupted.ensures.counted)
 
 pub returns-in-Err-Failed-clause-writes : goal.returns-in-Err-Failed-clause-writes

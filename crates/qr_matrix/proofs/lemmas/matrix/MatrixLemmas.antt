@@ -55,11 +55,11 @@ line-inside s row rows new words h w i r c k = search arith
 pub line-write : (s row : ℕ) (rows new : List (List ℕ)) (g : Grid) (words : List ℕ) (f : ℕ → Bool) → square s (dark_in rows) ≡ g → ((r c : ℕ) → dark_in new r c ≡ cond (eqb r row) (has words c) (dark_in rows r c)) → ((c : ℕ) → c < s → has words c ≡ f c) → square s (dark_in new) ≡ with_row g row f
 line-write s row rows new g words f v h e = search (arith, square-same, colour-square)
 
--- a bit of the plain row is inverted where w and r are both set
+-- a bit of the unmasked row is inverted where w and r are both set
 pub masked-bit : (d p w r x : Bool) → d ≡ not (is_same p x) → x ≡ (w && r) → d ≡ cond (w && r) (not p) p
 masked-bit d p w r x e f = grind (arith, nat_tests)
 
--- a bit that is set neither in the plain row nor in `within` is not set in the masked row
+-- a bit that is set neither in the unmasked row nor in `within` is not set in the masked row
 pub masked-past : (d p w r x : Bool) → d ≡ not (is_same p x) → x ≡ (w && r) → p ≡ false → w ≡ false → d ≡ false
 masked-past d p w r x e f g h = cc
 

@@ -22,7 +22,7 @@ loop-row-preserved g c =
     let l = c.loop-row in
     let i = l.invariant in
     let r = l.row in
-    let here = c.joined-joins in let upright = c.next_row-upright in
+    let here = c.same_as_right-same in let upright = c.next_row-upright in
     let both = c.if-row-from.down in
     let down : (b : Bool) (k : ℕ) → bit both.0 b k ≡ joins_down s (d b) k r = λ b k. elim c.if-row-from.branch [
       | then-row-from w ↦ ap (λ z. bit z.0 b k) w.down-is ∙ joins-down-bit s (λ i. d b i k) k r _ _ _ _ _ (omega (arith, c.side-side.ensures.value, w.if-row-from.true)) (w.and_not.ensures b k) (c.below_in-columns.ensures b k ∙ ap (λ z. ltb k z) c.side-side.ensures.value) (g.met.S.Row.Rows.bitxor_law _ _ _ w.bitxor.ensures b k) (w.row_in.ensures.colours b k) (w.row_in-then-row-from.ensures.colours b k)

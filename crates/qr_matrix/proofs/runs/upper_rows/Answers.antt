@@ -39,7 +39,7 @@ loop-step-preserved g c =
     let l = c.loop-step in
     let n = l.step in
     let r = 2 * n in
-    let second = c.joined-second in let third = c.joined-third in
+    let second = c.same_as_right-second in let third = c.same_as_right-third in
     let xor = g.met.S.Row.Rows.bitxor_law in
     let down : (b : Bool) (k : ℕ) → bit c.and_not-down.result b k ≡ joins_down s (d b) k r = λ b k.
     joins-down-bit s (λ i. d b i k) k r _ _ _ _ _ (omega (arith, c.requires.half_in, c.loop-step-test.true)) (c.and_not-down.ensures b k) (c.requires.columns b k) (xor _ _ _ c.bitxor.ensures b k) (c.row_in.ensures.colours b k) (c.row_in-middle.ensures.colours b k) in
@@ -60,7 +60,7 @@ loop-step-preserved g c =
     let upper = λ (b : Bool). counted-next s (d b) r _ _ (across b) (set_count (bit upright.result.0 b)) (set_count (bit c.bitand-upper.result b)) _ _ (i.counted b) (points b) (share b) (four b) (set_count-most (bit c.costing.result b)) (set_count-most (bit upright.result.0 b)) (set_count-most (bit c.bitand-upper.result b)) refl refl in
     record {
       first_is = λ b k. subst (λ z. bit third.result b k ≡ joins s (d b z) k) (two_after n) (third.ensures b k);
-      above = λ b k. subst (λ z. IsAbove (joins_down s (d b) k) z (bit lower.result.1.joined b k) (bit lower.result.1.threes b k) (bit lower.result.1.earlier_threes b k) (bit lower.result.1.fives b k) (bit lower.result.1.earlier_fives b k)) (two_more n)
+      above = λ b k. subst (λ z. IsAbove (joins_down s (d b) k) z (bit lower.result.1.same b k) (bit lower.result.1.threes b k) (bit lower.result.1.earlier_threes b k) (bit lower.result.1.fives b k) (bit lower.result.1.earlier_fives b k)) (two_more n)
           (lower.ensures.above b k (r + 1) (joins_down s (d b) k) (between b k) (further b k));
       counted = λ b. subst (λ z. IsCountedTo s (d b) z (2 * (2 * number c.add_to-in_fours.result b + set_count (bit c.added-rest-in-loop-step.result.0 b)) + set_count (bit c.added-digit.result.0 b)) (2 * number c.add_to-pairs.result b + set_count (bit c.added-rest.result.0 b))) (two_more n)
           (counted-next s (d b) (r + 1) _ _ (across2 b) (set_count (bit lower.result.0 b)) (set_count (bit c.bitand-in-loop-step-2.result b)) _ _ (upper b) (points2 b) (share2 b) (four2 b) (set_count-most (bit c.costing-in-loop-step.result b)) (set_count-most (bit lower.result.0 b)) (set_count-most (bit c.bitand-in-loop-step-2.result b))

@@ -5,7 +5,7 @@ use Rattle.std.specs.Prelude.{codes, decimal}
 use Rattle.qr_matrix.specs.Grid.{Grid}
 use Rattle.qr_drawing.specs.{Raster.{is_dark_at, raster_width}, Svg.{background, closing, declaration, foreground, numbered, opening, square_at, stack_path, svg_document}}
 use Rattle.qr_drawing.specs.declared.drawing.Drawing.TheVariants.{Svg}
-use Rattle.qr_parsing.specs.{Parsing.IsDrawingOf, Steps.Sheet.{ShowsOn, bytes_in, count_in, is_dark_byte, is_dark_on, kind_in, width_in}, Steps.Svg.{IsPath, canvas_of, is_in_boxes, numbers_after, numbers_in, path_in}}
+use Rattle.qr_parsing.specs.{Parsing.IsDrawingOf, Steps.Sheet.{ShowsOn, bytes_in, count_in, is_dark_byte, is_dark_on, kind_in, width_in}, Steps.Svg.{IsPath, is_in_boxes, numbers_after, numbers_in, painted_bytes, path_in}}
 use Rattle.qr_parsing.proofs.lemmas.{sheet.{one-width, raster-wide, shows-by, small}, svg.{BoxLemmas.{all_numbers, boxes-dark, stack-is-path, stack-read}, NumberLemmas.number-read, PathLemmas.{decimal-passed, path-from}}, text.PlaceLemmas.place-in}
 
 -- the numbers before the boxes
@@ -69,18 +69,18 @@ module _ (margin : ℕ) (squares : List Grid) (text : List ℕ) (h : IsDrawingOf
       ∙ document-read wide high (stack_path margin squares) (all_numbers margin squares) (omega arith) (omega arith)
       (λ rest. stack-read margin squares rest (λ k lt. let e = one-width margin k squares h.one_side lt in omega arith) few)
 
-  canvas : List ℕ
-  canvas = canvas_of wide high (all_numbers margin squares)
+  painted : List ℕ
+  painted = painted_bytes wide high (all_numbers margin squares)
 
   -- all rasters are as wide
   same : (k : ℕ) → k < length squares → raster_width margin (square_at squares k) ≡ wide
   unfolding wide
   same k lt = one-width margin k squares h.one_side lt
 
-  -- the byte of a module on the canvas is 1 if it is dark, and 0 if it is light
+  -- the painted byte of a module is 1 if it is dark, and 0 if it is light
   at : (k y x : ℕ) → k < length squares → y < wide → x < wide
-      → get_or canvas ((k * wide + y) * wide + x) 0 ≡ cond (is_dark_at margin (square_at squares k) y x) 1 0
-  unfolding canvas high
+      → get_or painted ((k * wide + y) * wide + x) 0 ≡ cond (is_dark_at margin (square_at squares k) y x) 1 0
+  unfolding painted high
   at k y x a b c =
       let w = wide in
       let n = length squares in
@@ -93,8 +93,8 @@ module _ (margin : ℕ) (squares : List Grid) (text : List ℕ) (h : IsDrawingOf
       get_or-map-range_with_len (λ i. cond (is_in_boxes nums (i / w) (i % w)) 1 0) 0 (w * (w * n)) i i 0 within (omega arith)
       ∙ ((λ t. cond (is_in_boxes nums (div-mul-add (k * w + y) w x c t) (mod-mul-add (k * w + y) w x c t)) 1 0) ∙ ap (λ d. cond d 1 0) dark)
 
-  -- the canvas shows the squares with this margin
-  shows : ShowsOn Svg wide (length squares) canvas margin squares
+  -- the painted bytes show the squares with this margin
+  shows : ShowsOn Svg wide (length squares) painted margin squares
   unfolding is_dark_on wide
   shows = record {
     width_is = refl;
@@ -118,12 +118,12 @@ module _ (margin : ℕ) (squares : List Grid) (text : List ℕ) (h : IsDrawingOf
       let some : 0 < wide = omega arith in
       sym (mul-div_cancel_left (length squares) some) ∙ (λ i. height-is i / width-is i)
 
-  bytes-are : canvas ≡ bytes_in Svg text
-  unfolding canvas head_numbers
-  bytes-are = let nums : all_numbers margin squares ≡ drop 16 (numbers_in text) = sym (ap (drop 16) numbers) in λ i. canvas_of (width-is i) (height-is i) (nums i)
+  bytes-are : painted ≡ bytes_in Svg text
+  unfolding painted head_numbers
+  bytes-are = let nums : all_numbers margin squares ≡ drop 16 (numbers_in text) = sym (ap (drop 16) numbers) in λ i. painted_bytes (width-is i) (height-is i) (nums i)
 
   pub svg-sheet : ShowsOn Svg (width_in Svg text) (count_in Svg text) (bytes_in Svg text) margin squares
-  svg-sheet = shows-by Svg wide (width_in Svg text) (length squares) (count_in Svg text) canvas (bytes_in Svg text) margin squares width-is count-is bytes-are shows
+  svg-sheet = shows-by Svg wide (width_in Svg text) (length squares) (count_in Svg text) painted (bytes_in Svg text) margin squares width-is count-is bytes-are shows
 
   -- the path of the document has the numbers from the index 16 on
   pub svg-path : IsPath (drop 16 (numbers_in text)) (path_in text)

@@ -5,7 +5,7 @@ use Rattle.std.specs.List.{flat_map, position_or_len}
 use Rattle.qr_matrix.specs.Grid.{Grid}
 use Rattle.qr_drawing.specs.{Raster.{is_dark_at, raster_width, texts_below}, Svg.square_at, Text.ascii_module, declared.drawing.Drawing.Drawing}
 use Rattle.qr_drawing.specs.declared.drawing.Drawing.TheVariants.{Ascii, AsciiInverse}
-use Rattle.qr_parsing.specs.{Parsing.IsDrawingOf, Steps.Sheet.{ShowsOn, bytes_in, count_in, is_dark_byte, is_dark_on, kind_in, place_of, width_in}, Steps.Text.first_line}
+use Rattle.qr_parsing.specs.{Parsing.IsDrawingOf, Steps.Sheet.{ShowsOn, bytes_in, count_in, index_of, is_dark_byte, is_dark_on, kind_in, width_in}, Steps.Text.first_line}
 use Rattle.qr_parsing.proofs.lemmas.sheet.{raster-wide, separator-light, shows-by}
 use Rattle.qr_parsing.proofs.lemmas.text.PlaceLemmas.{cell-at, cells-length, cells-newline, cells-without, cells_text, position-none, squares-text}
 
@@ -19,7 +19,7 @@ module-without sign hash space b j lt = grind arith
 
 -- a type of drawing whose text shows a module by `#` exactly if `hash` is true of its colour
 pub record IsAscii (kind : Drawing) (hash : Bool → Bool) : Type 0 where
-  pub place : (w k y x : ℕ) → place_of kind w k y x ≡ (k * w + y) * (2 * w + 1) + 2 * x
+  pub place : (w k y x : ℕ) → index_of kind w k y x ≡ (k * w + y) * (2 * w + 1) + 2 * x
   pub width : (text : List ℕ) → width_in kind text ≡ first_line text / 2
   pub count : (text : List ℕ) → count_in kind text ≡ length text / (width_in kind text * (2 * width_in kind text + 1))
   pub bytes : (text : List ℕ) → bytes_in kind text ≡ text

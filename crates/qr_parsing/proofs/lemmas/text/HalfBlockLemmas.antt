@@ -5,7 +5,7 @@ use Rattle.std.specs.List.{filter, position_or_len}
 use Rattle.qr_matrix.specs.Grid.{Grid}
 use Rattle.qr_drawing.specs.{Raster.{is_dark_at, raster_width, texts_below}, Svg.square_at, Text.half_blocks, declared.drawing.Drawing.TheVariants.Utf8}
 use Rattle.qr_drawing.proofs.Facts.{no-texts, texts_below-length}
-use Rattle.qr_parsing.specs.{Parsing.IsDrawingOf, Steps.Sheet.{ShowsOn, bytes_in, count_in, is_dark_byte, is_dark_on, kind_in, place_of, width_in}, Steps.Text.{cells_in, first_line, is_cell}}
+use Rattle.qr_parsing.specs.{Parsing.IsDrawingOf, Steps.Sheet.{ShowsOn, bytes_in, count_in, index_of, is_dark_byte, is_dark_on, kind_in, width_in}, Steps.Text.{cells_in, first_line, is_cell}}
 use Rattle.qr_parsing.proofs.lemmas.sheet.{raster-wide, separator-light, shows-by}
 use Rattle.qr_parsing.proofs.lemmas.text.PlaceLemmas.{cell-at, cells-filter, cells-first, cells-length, cells-newline, cells_text, position-below, squares-text}
 
@@ -90,7 +90,7 @@ module _ (margin : ℕ) (squares : List Grid) (text : List ℕ) (h : IsDrawingOf
 
   -- the byte in which a module is read is the one that is kept of its character
   at : (k y x : ℕ) → k < length squares → y < wide → x < wide
-      → get_or whole (place_of Utf8 wide k y x) 0 ≡ get_or (last k (y / 2) x) 0 0
+      → get_or whole (index_of Utf8 wide k y x) 0 ≡ get_or (last k (y / 2) x) 0 0
   unfolding whole
   at k y x a b c =
       let w = wide in

@@ -1,8 +1,8 @@
 use Rattle.{qr_parsing.{proofs.lemmas.parsing.{can-be-drawn, guessed}, specs.Steps.Sheet.is_dark_on}, std.proofs.Common.{rules, ◌+◌, ◌-◌, ◌*◌, arith}}
 use Rattle.qr_parsing.proofs.parsing.drawn_of.Goals as goal
 
-pub returns-then-margin-gt255 : goal.returns-then-margin-gt255
-returns-then-margin-gt255 c text is kind margin squares h =
+pub returns-then-margin-gt-MARGIN_MAX : goal.returns-then-margin-gt-MARGIN_MAX
+returns-then-margin-gt-MARGIN_MAX c text is kind margin squares h =
     let s = c.args.sheet.now in
     search (rules, guessed s.kind s.width s.count s.bytes.now c.margin_of-margin.result text is c.margin_of-margin.ensures.light c.margin_of-margin.ensures.dark kind margin squares h)
 

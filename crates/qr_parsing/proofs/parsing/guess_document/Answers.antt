@@ -1,5 +1,5 @@
 use Rattle.std.proofs.Common.{rules, ◌≡◌, ◌/◌, ◌∙◌, length, ap, sym, arith}
-use Rattle.qr_parsing.proofs.lemmas.{svg.{DocumentLemmas.svg-path, CanvasLemmas.canvas-inside}, parsing.{kind-shown, none-wide}}
+use Rattle.qr_parsing.proofs.lemmas.{svg.{DocumentLemmas.svg-path, PaintLemmas.bytes-inside}, parsing.{kind-shown, none-wide}}
 use Rattle.qr_parsing.proofs.parsing.guess_document.Goals as goal
 
 pub returns-in_default : goal.returns-in_default
@@ -11,7 +11,7 @@ invariant_of-sheet-clause-whole c = λ k y x a b l.
     let w = c.in-Some.size.width in
     let h = c.in-Some.size.height in
     let count : c.in-Some.size.count ≡ h / w = s.1 ∙ (λ i. sym s.2 i / sym s.0 i) in
-    omega (arith, canvas-inside w h c.in-Some.size.count k y x (omega arith) count a b l, ap length c.deref.ensures.value ∙ c.in_ok-canvas.ensures.area)
+    omega (arith, bytes-inside w h c.in-Some.size.count k y x (omega arith) count a b l, ap length c.deref.ensures.value ∙ c.in_ok-bytes.ensures.area)
 
 pub returns : goal.returns
 returns c = search (rules, kind-shown, svg-path)

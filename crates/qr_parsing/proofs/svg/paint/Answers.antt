@@ -1,5 +1,5 @@
 use Rattle.std.proofs.{Common.{rules, ◌≡◌, ◌<◌, ◌+◌, ◌*◌, ◌∙◌, length, set, arith}, lemmas.List.length-set}
-use Rattle.qr_parsing.proofs.lemmas.{text.PlaceLemmas.place-in, svg.CanvasLemmas.{painted, painted-two}}
+use Rattle.qr_parsing.proofs.lemmas.{text.PlaceLemmas.place-in, svg.PaintLemmas.{painted, painted-two}}
 use Rattle.qr_parsing.proofs.svg.paint.Goals as goal
 
 pub loop-col-init : goal.loop-col-init

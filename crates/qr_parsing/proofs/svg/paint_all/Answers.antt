@@ -1,5 +1,5 @@
 use Rattle.std.proofs.{Common.{rules, ◌≡◌, ◌/◌, ◌%◌, ◌∙◌, drop, get_or, sym, ap, arith}, lemmas.List.Sums.prefix_len-le-length}
-use Rattle.qr_parsing.{specs.Steps.Svg.{is_in_boxes, path_in}, proofs.lemmas.svg.{CanvasLemmas.painted-box, PathLemmas.path-start}}
+use Rattle.qr_parsing.{specs.Steps.Svg.{is_in_boxes, path_in}, proofs.lemmas.svg.{PaintLemmas.painted-box, PathLemmas.path-start}}
 use Rattle.qr_parsing.proofs.svg.paint_all.Goals as goal
 
 pub boxes-init : goal.boxes-init

@@ -1,7 +1,7 @@
 use Rattle.{qr_parsing.specs.Steps.Svg.{IsPath, is_in_boxes, path_in}, std.proofs.Common.{◌≡◌, ℕ, ◌<◌, ◌≤◌, ◌-◌, ◌/◌, ◌%◌, cond, List, drop, length, get_or}}
 use Rattle.qr_parsing.proofs.svg.paint_all.Given as goal
 
--- if the boxes that are left are painted too, the canvas has all boxes
+-- if the boxes that are left are painted too, all boxes are painted
 abbrev pub invariant-boxes : goal.invariant-boxes
 invariant-boxes l = record {
   within : l.at ≤ length l.text;

@@ -1,5 +1,4 @@
 use Rattle.{qr_bits.proofs.Facts.covered-short, std.proofs.{Common.rules, lemmas.Result.err_from_is_err_and}}
-use Rattle.qr_symbol.specs.declared.fault.EncodeFault.TheVariants as fault
 use Rattle.qr_symbol.proofs.encoding.data_codewords.Goals as goal
 
 pub codewords-requires-clause-short : goal.codewords-requires-clause-short

@@ -1,5 +1,6 @@
 use Rattle.std.proofs.Common.{◌+◌, ◌*◌, ap, subst, arith}
 use Rattle.qr_symbol.{specs.Interleaving.{block_count, IsChecks}, proofs.lemmas.interleaving.CheckLemmas.push-checks}
+use Rattle.qr_symbol.proofs.interleaving.corrections.Goals.{then-count-eq1+in_ok-extend_from_slice-3, else-count-eq1}
 use Rattle.qr_symbol.proofs.interleaving.corrections.Goals as goal
 
 pub loop-pair-preserved : goal.loop-pair-preserved
@@ -12,14 +13,14 @@ loop-pair-preserved c =
     one c.in_ok-extend_from_slice-2.ensures.items in
     subst (λ k. IsChecks c.args.blocks c.args.message.now k c.extend_from_slice-in-loop-pair.new.self.items) (omega arith) two
 
-pub loop-block-init : goal.loop-block-init
-loop-block-init c = subst (λ k. IsChecks c.args.blocks c.args.message.now k c.loop-pair.corrections.items) (omega arith) c.loop-pair.invariant
-
-pub loop-block-preserved : goal.loop-block-preserved
-loop-block-preserved c = push-checks _ _ _ _ _ _ _ c.of_data-sizes.ensures (omega arith)
-    (rw (c.new-divisor.ensures, c.part.ensures.value, c.from-ec_len.ensures, ← c.as_slice-in-loop-block.ensures.value) at c.correction-check.ensures.definition)
-    c.loop-block.invariant c.in_ok-extend_from_slice-3.ensures.items
-
 pub returns : goal.returns
-returns c = subst (λ k. IsChecks c.args.blocks c.args.message.now k c.loop-block.corrections.items)
-    (omega (arith, ap block_count c.of_data-sizes.ensures)) c.loop-block.invariant
+returns c = elim c.if-count-eq1.branch [
+  | then-count-eq1+in_ok-extend_from_slice-3 w ↦
+      let before = subst (λ k. IsChecks c.args.blocks c.args.message.now k c.loop-pair.corrections.items) (omega arith) c.loop-pair.invariant in
+      let all = push-checks _ _ _ _ _ _ _ c.of_data-sizes.ensures (omega arith)
+      (rw (c.new-divisor.ensures, w.part.ensures.value, c.from-ec_len.ensures, ← w.as_slice-then-count-eq1.ensures.value) at w.correction-check.ensures.definition)
+      before w.in_ok-extend_from_slice-3.ensures.items in
+      rw w.corrections-is (subst (λ k. IsChecks c.args.blocks c.args.message.now k w.extend_from_slice-then-count-eq1.new.self.items) (omega (arith, ap block_count c.of_data-sizes.ensures)) all)
+  | else-count-eq1 w ↦
+      rw w.corrections-is (subst (λ k. IsChecks c.args.blocks c.args.message.now k c.loop-pair.corrections.items) (omega (arith, ap block_count c.of_data-sizes.ensures)) c.loop-pair.invariant)
+]

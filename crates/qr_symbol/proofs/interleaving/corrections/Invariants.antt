@@ -3,6 +3,3 @@ use Rattle.qr_symbol.proofs.interleaving.corrections.Given as goal
 
 abbrev pub invariant-loop-pair : goal.invariant-loop-pair
 invariant-loop-pair l = IsChecks l.fn.blocks l.message (2 * l.pair) l.corrections.items
-
-abbrev pub invariant-loop-block : goal.invariant-loop-block
-invariant-loop-block l = IsChecks l.fn.blocks l.message l.block l.corrections.items

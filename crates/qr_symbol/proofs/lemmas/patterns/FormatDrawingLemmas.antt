@@ -78,9 +78,9 @@ abbrev pub FormatDown : ℕ → ℕ → ℕ → Grid → Grid → Type 0
 FormatDown v format n g0 g = (r c : ℕ) → r < side_of v → c < side_of v
     → (r ≢ 8 → colour g r c ≡ format_bits_or n format (role_of v r c) (colour g0 r c)) × (format_or format (role_of v r c) (colour g r c) ≡ format_or format (role_of v r c) (colour g0 r c))
 
--- the square `plain` under a mask, without the format information
+-- the square `unmasked` under a mask, without the format information
 abbrev pub masked_square : ℕ → ℕ → Grid → Grid → Grid
-masked_square v mask region plain = square (side_of v) (λ r c. inverted (colour region r c && inverts mask r c) (colour plain r c))
+masked_square v mask region unmasked = square (side_of v) (λ r c. inverted (colour region r c && inverts mask r c) (colour unmasked r c))
 
 -- at first no bit is drawn
 pub down-start : (v format : ℕ) (g : Grid) → FormatDown v format 0 g g

@@ -1,8 +1,8 @@
 -- The rows of a strip and their indices, its two columns, and rows that are drawn at once.
 use Rattle.{qr_bits.specs.Bits.codeword_bit, qr_layout.specs.{Region.is_in_region, Version.side_of, declared.strips.Strip.Strip}}
-use Rattle.{qr_matrix.specs.{BitRow.{has, has_bit}, Grid.is_same}, qr_symbol.specs.Steps.Placement.{number_after, number_at, AreDrawn, AreLightRows, AreWhole}}
+use Rattle.{qr_matrix.specs.BitRow.{has, has_bit}, qr_symbol.specs.Steps.Placement.{number_after, number_at, AreDrawn, AreLightRows, AreWhole}}
 use Rattle.qr_symbol.specs.{Steps.{Spans.{row_of, top_row}, Words.{AreNext, rank_in}}, declared.spans.Columns.Columns}
-use Rattle.std.proofs.Common.{◌≡◌, ℕ, zero, suc, ◌+◌, ◌-◌, ◌*◌, ◌<◌, ◌≤◌, Bool, true, cond, eqb, ◌&&◌, List, inl, inr, add-one, arith, false, not, leb, ltb, ◌||◌, sym, ◌∙◌, ap}
+use Rattle.std.proofs.Common.{◌≡◌, ℕ, zero, suc, ◌+◌, ◌-◌, ◌*◌, ◌<◌, ◌≤◌, Bool, true, cond, eqb, ◌&&◌, List, inl, inr, add-one, arith, false, leb, ltb, ◌||◌, sym, ◌∙◌, ap}
 use Rattle.std.proofs.lemmas.Bool.{cases_lt, Decides.nat_tests}
 
 -- a row of the strip is a row of the symbol, and has its own index as the row of that index
@@ -62,10 +62,6 @@ pub row-drawn : {v : ℕ} {cw : List ℕ} {x : Strip} {first k : ℕ} {old new :
     ((i : ℕ) → has new.left i ≡ cond (u && eqb i row) (has_bit bits (63 - one)) (has old.left i)) →
     AreDrawn v cw x first k 1 old new
 row-drawn {x = x} {k = k} row n taken one bits t u r p q m o l1 l2 next right left = search (arith, nat_tests)
-
--- a bit that is unset where another bit is set
-pub cleared : (p q : Bool) → not (is_same p (p && q)) ≡ (p && not q)
-cleared p q = grind (arith, nat_tests)
 
 -- ---- rows that are drawn at once
 

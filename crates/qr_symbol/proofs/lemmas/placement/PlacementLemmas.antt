@@ -5,7 +5,7 @@ use Rattle.qr_layout.specs.{Order.{IsOrder, in_region_of, index_of}, Region.is_i
 use Rattle.qr_layout.specs.declared.{level.Level.Level, region.Place.Place, strips.Strip.Strip}
 use Rattle.qr_matrix.{proofs.Facts.{square-same, colour-square, colour-transposed}, specs.Grid.{Grid, square, colour, painted, transposed, IsSquare}}
 use Rattle.qr_symbol.{proofs.lemmas.placement.ColumnLemmas.row-small, specs.Steps.Patterns.{fixed_colour, format_or}}
-use Rattle.qr_symbol.specs.Steps.Placement.{placed_colour, number_after, number_at, IsRowDrawn, masked_colour, masked_grid, region_grid, plain_grid}
+use Rattle.qr_symbol.specs.Steps.Placement.{placed_colour, number_after, number_at, IsRowDrawn, masked_colour, masked_grid, region_grid, unmasked_grid}
 use Rattle.qr_symbol.specs.{Steps.Spans.row_of, Symbol.{colour_of, grid_of}}
 use Rattle.std.proofs.Common.{◌≡◌, ℕ, zero, suc, ◌+◌, ◌-◌, ◌⊎◌, ◌<◌, ◌≤◌, Bool, true, false, cond, List, [], ◌∷◌, ◌++◌, length, length-append, refl, sym, ◌∙◌, ap, inl, inr, subst, append_assoc, append-nil, arith}
 use Rattle.std.proofs.lemmas.Bool.{cases_eq, false≢true}
@@ -99,9 +99,9 @@ in-square v front later x o = search (arith, order-mem, Mem-mid, row-in, col-in)
 -- ---- a symbol that is drawn again with a mask
 
 -- with mask and format information, the result is the symbol of its codewords under this mask
-pub masked-all : (v : ℕ) (l : Level) (mask : ℕ) (cw : List ℕ) (region plain : Grid) → 1 ≤ v → region ≡ region_grid v → plain ≡ plain_grid v cw → masked_grid v l mask region plain ≡ grid_of v l mask cw
+pub masked-all : (v : ℕ) (l : Level) (mask : ℕ) (cw : List ℕ) (region unmasked : Grid) → 1 ≤ v → region ≡ region_grid v → unmasked ≡ unmasked_grid v cw → masked_grid v l mask region unmasked ≡ grid_of v l mask cw
 unfolding masked_colour colour_of format_or fixed_colour
-masked-all v l mask cw region plain k e f = search (arith, square-same, colour-square, region-role, role-region, inside, outside)
+masked-all v l mask cw region unmasked k e f = search (arith, square-same, colour-square, region-role, role-region, inside, outside)
 
 -- ---- strips whose modules are drawn
 

@@ -66,19 +66,19 @@ read-same v g h cw e w = record {
 }
 
 -- the codewords of the square without its mask pattern are those of the square
-pub read-masked : (v mask n : ℕ) (g region plain : Grid) (cw : List ℕ) → 1 ≤ v → v ≤ 40 → region ≡
-    region_grid v → ((r c : ℕ) → inverts n r c ≡ inverts mask r c) → plain ≡ square (side_of v) (λ r c.
-    inverted (colour region r c && inverts n r c) (colour g r c)) → IsReadUnmasked v plain cw → IsRead v mask g cw
-read-masked v mask n g region plain cw p q is same e w =
+pub read-masked : (v mask n : ℕ) (g region undone : Grid) (cw : List ℕ) → 1 ≤ v → v ≤ 40 → region ≡
+    region_grid v → ((r c : ℕ) → inverts n r c ≡ inverts mask r c) → undone ≡ square (side_of v) (λ r c.
+    inverted (colour region r c && inverts n r c) (colour g r c)) → IsReadUnmasked v undone cw → IsRead v mask g cw
+read-masked v mask n g region undone cw p q is same e w =
     let t = 8 * total_codewords_of v in let f = unmasked mask g in
     let ms = w.places in let many = order-length v ms p q w.order in
     let none : 0 ≡ t - length ms = omega arith in
-    let one : (r c : ℕ) → r < side_of v → c < side_of v → is_in_region v r c ≡ true → colour plain r c ≡ f (at r c) = search (arith, colour-square) in
+    let one : (r c : ℕ) → r < side_of v → c < side_of v → is_in_region v r c ≡ true → colour undone r c ≡ f (at r c) = search (arith, colour-square) in
     record {
       bytes = w.bytes;
       places = ms;
       order = w.order;
-      bits = w.bits ∙ (order-same v (λ m. colour plain m.row m.col) f t ms w.order one ∙ (cc (append-nil (map f (take t ms)))));
+      bits = w.bits ∙ (order-same v (λ m. colour undone m.row m.col) f t ms w.order one ∙ (cc (append-nil (map f (take t ms)))));
     }
 
 -- if the codewords are the final sequence of no message, the square is not read

@@ -126,4 +126,4 @@ long-refused x l b how v i j long = record {
 -- without kanji mode, an input that has no series needs more than 16 parts
 pub none-shorter : (x : List ℕ) (l : Level) (b : Rule) (how : Interpretation) (v : ℕ) → 1 ≤ v → v ≤ 40
     → MayWrite how x → may_use b Kanji ≡ false → HasNoSeries v l b how x → NeedsParts v l b how x 17
-none-shorter x l b how v i j may plain none qs cut = search (arith, needs-parts, parts-there v l b how x i j)
+none-shorter x l b how v i j may no_kanji none qs cut = search (arith, needs-parts, parts-there v l b how x i j)

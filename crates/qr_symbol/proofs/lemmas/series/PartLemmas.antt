@@ -130,28 +130,28 @@ behind-all k xs ys i = search (arith, drop-append-add)
 
 -- a rest of the bytes fits wherever all of the bytes fit
 rest-fits : (how : Interpretation) (v : ℕ) (b : Rule) (k : ℕ) (xs : List ℕ) (n : ℕ) → may_use b Kanji ≡ false → HasFit how v b xs n → HasFit how v b (drop k xs) n
-rest-fits how v b k xs n plain fit =
+rest-fits how v b k xs n no_kanji fit =
     let whole : xs ≡ take k xs ++ (drop k xs ++ []) = rw (append-nil _) (sym (take-append-drop k xs)) in
-    piece-fits how v b _ _ [] n plain (subst (λ (ys : List ℕ). HasFit how v b ys n) whole fit)
+    piece-fits how v b _ _ [] n no_kanji (subst (λ (ys : List ℕ). HasFit how v b ys n) whole fit)
 
 -- a rest of the bytes can be cut into at most as many parts that fit as all of the bytes
 rest-parts : (v : ℕ) (l : Level) (b : Rule) (how : Interpretation) (k : ℕ) (ps : List (List ℕ)) → may_use b Kanji ≡ false → All (λ p. HasFit how v b p (room_of v l how)) ps
     → (qs : List (List ℕ)) × FitParts v l b how (drop k (concat ps)) qs × (length qs ≤ length ps)
-rest-parts v l b how k [] plain h = ([], (drop-nil k, h), omega arith)
-rest-parts v l b how k (p ∷ ps) plain h =
+rest-parts v l b how k [] no_kanji h = ([], (drop-nil k, h), omega arith)
+rest-parts v l b how k (p ∷ ps) no_kanji h =
     let fits = λ (q : List ℕ). HasFit how v b q (room_of v l how) in
     let behind = All-tail fits p ps h in elim (cases_lt k (length p)) [
-      | inl i ↦ (drop k p ∷ ps, (drop-append-le k p _ (omega arith), All-cons fits _ ps (rest-fits how v b k p _ plain (All-head fits p ps h)) behind), omega arith)
-      | inr i ↦ search (arith, behind-all, rest-parts v l b how (k - length p) ps plain behind)
+      | inl i ↦ (drop k p ∷ ps, (drop-append-le k p _ (omega arith), All-cons fits _ ps (rest-fits how v b k p _ no_kanji (All-head fits p ps h)) behind), omega arith)
+      | inr i ↦ search (arith, behind-all, rest-parts v l b how (k - length p) ps no_kanji behind)
     ]
 
 -- if the rest after the longest prefix needs k parts, the bytes need k + 1
 pub needs-more : (v : ℕ) (l : Level) (b : Rule) (how : Interpretation) (x : List ℕ) (n k : ℕ) → may_use b Kanji ≡ false → 0 < length x → IsLongestFit how v b x (room_of v l how) n → NeedsParts v l b how (drop n x) k → NeedsParts v l b how x (k + 1)
-needs-more v l b how x n k plain some fit needs [] cut = absurd (omega (arith, ap length cut.0))
-needs-more v l b how x n k plain some fit needs (p ∷ ps) cut =
+needs-more v l b how x n k no_kanji some fit needs [] cut = absurd (omega (arith, ap length cut.0))
+needs-more v l b how x n k no_kanji some fit needs (p ∷ ps) cut =
     let fits = λ (q : List ℕ). HasFit how v b q (room_of v l how) in
     let within : length p ≤ length x = omega (arith, ap length cut.0, length-append p (concat ps)) in
-    let r = rest-parts v l b how _ ps plain (All-tail fits p ps cut.1) in
+    let r = rest-parts v l b how _ ps no_kanji (All-tail fits p ps cut.1) in
     let left : drop n x ≡ concat r.0 = ap (λ (ys : List ℕ). drop n ys) cut.0 ∙ (behind-all n p _ (fit.longest (length p) within (subst fits (sym (rw cut.0 (take-append_seam p _))) (All-head fits p ps cut.1))) ∙ r.1.0) in
     omega (arith, r.2)
 
@@ -172,9 +172,9 @@ needs-some v l b how x some (p ∷ ps) cut = omega arith
 -- without kanji mode, bytes need as many parts as their longest prefixes make
 pub needs-parts : (v : ℕ) (l : Level) (b : Rule) (how : Interpretation) (x : List ℕ) (ps : List (List ℕ)) → may_use b Kanji ≡ false → AreParts v l b how x ps → NeedsParts v l b how x (length ps)
 unfolding AreParts
-needs-parts v l b how x [] plain h qs cut = omega arith
-needs-parts v l b how x (p ∷ ps) plain h qs cut =
-    omega (arith, needs-more v l b how x h.0 (length ps) plain (omega arith) h.2 (needs-parts v l b how (drop h.0 x) ps plain h.4) qs cut)
+needs-parts v l b how x [] no_kanji h qs cut = omega arith
+needs-parts v l b how x (p ∷ ps) no_kanji h qs cut =
+    omega (arith, needs-more v l b how x h.0 (length ps) no_kanji (omega arith) h.2 (needs-parts v l b how (drop h.0 x) ps no_kanji h.4) qs cut)
 
 -- the parts of bytes are parts that fit
 pub parts-fit : (v : ℕ) (l : Level) (b : Rule) (how : Interpretation) (x : List ℕ) (ps : List (List ℕ)) → AreParts v l b how x ps → FitParts v l b how x ps

@@ -38,8 +38,8 @@ series-few x l b how v ss h = grind (arith, symbols-many)
 
 -- without kanji mode, bytes need as many parts as their series has symbols
 pub series-shortest : (x : List ℕ) (l : Level) (b : Rule) (how : Interpretation) (v : ℕ) (ss : List Symbol) → MayWrite how x → may_use b Kanji ≡ false → 0 < length x → IsSeries v l b how x ss → NeedsParts v l b how x (length ss)
-series-shortest x l b how v ss may plain some (inl h) = subst (λ (ts : List Symbol). NeedsParts v l b how x (length ts)) (sym h.alone) (needs-some v l b how x some)
-series-shortest x l b how v ss may plain some (inr h) = search (arith, symbols-many, needs-parts)
+series-shortest x l b how v ss may no_kanji some (inl h) = subst (λ (ts : List Symbol). NeedsParts v l b how x (length ts)) (sym h.alone) (needs-some v l b how x some)
+series-shortest x l b how v ss may no_kanji some (inr h) = search (arith, symbols-many, needs-parts)
 
 -- the symbols of a series have the side of their version
 pub series-side : (x : List ℕ) (l : Level) (b : Rule) (how : Interpretation) (v : ℕ) (ss : List Symbol) → IsSeries v l b how x ss → All (λ g. g.side ≡ side_of v) (squares_of ss)

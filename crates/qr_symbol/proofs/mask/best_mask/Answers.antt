@@ -23,7 +23,7 @@ penalty g = penalty_of g.side (colour g)
 pub loop-half-preserved : goal.loop-half-preserved
 loop-half-preserved c =
     let k = c.args.canvas.now in let h = c.loop-half.half in
-    let f = masked_penalty k.version k.level k.region k.plain in let p = c.penalties-penalties in
+    let f = masked_penalty k.version k.level k.region k.unmasked in let p = c.penalties-penalties in
     let one = next-best f (2 * h) _ _ p.result.0 c.if-penalties-least.best c.if-penalties-least.least (p.ensures.first ∙ ap penalty (c.draw_both_masked.ensures false)) (omega (arith, p.type_inv)) c.loop-half.invariant.best (elim c.if-penalties-least.branch [
       | then-penalties-least w ↦ inl (w.if-penalties-least.true, w.best-is, w.least-is)
       | else-penalties-least w ↦ inr (w.if-penalties-least.false, w.best-is, w.least-is)

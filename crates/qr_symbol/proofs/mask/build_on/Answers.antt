@@ -7,7 +7,7 @@ draw_data-requires c = search (rules, square-is)
 
 pub returns-clause-mask : goal.returns-clause-mask
 returns-clause-mask c = let d = c.draw_data in
-    canvas-mask _ _ _ d.new.self _ (omega arith) d.ensures.version d.ensures.level d.ensures.plain c.in_ok-mask.ensures
+    canvas-mask _ _ _ d.new.self _ (omega arith) d.ensures.version d.ensures.level d.ensures.unmasked c.in_ok-mask.ensures
 
 pub returns-clause-matrix : goal.returns-clause-matrix
 returns-clause-matrix c = search (rules, canvas-drawn)

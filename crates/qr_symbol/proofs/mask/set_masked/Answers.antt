@@ -13,6 +13,6 @@ set_bit_row-requires c = search (rules, masked-past)
 
 pub returns : goal.returns
 returns c =
-    let f = λ (r k : ℕ). inverted (colour c.args.region.now r k && inverts c.args.mask r k) (colour c.args.plain.now r k) in
+    let f = λ (r k : ℕ). inverted (colour c.args.region.now r k && inverts c.args.mask r k) (colour c.args.source.now r k) in
     let s = c.args.matrix.now.side in
     c.loop-row.invariant.so_far ∙ (ap (λ (k : ℕ). filled s f (colour c.args.matrix.now) k 0) (omega (arith, c.loop-row.invariant.last)) ∙ fill-all s f (colour c.args.matrix.now))

@@ -5,5 +5,5 @@ abbrev pub invariant-loop-row : goal.invariant-loop-row
 invariant-loop-row l = record {
   last : l.row-end ≡ l.fn.matrix.side;
   side : l.matrix.side ≡ l.fn.matrix.side;
-  so_far : l.matrix ≡ filled l.fn.matrix.side (λ r c. inverted (colour l.region r c && inverts l.mask r c) (colour l.plain r c)) (colour l.fn.matrix) l.row 0;
+  so_far : l.matrix ≡ filled l.fn.matrix.side (λ r c. inverted (colour l.region r c && inverts l.mask r c) (colour l.source r c)) (colour l.fn.matrix) l.row 0;
 }

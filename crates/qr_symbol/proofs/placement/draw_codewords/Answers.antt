@@ -1,6 +1,6 @@
 use Rattle.qr_layout.{proofs.Facts.Inside, specs.{Order.{IsOrder, in_region_of}, Strips.places_of, Version.side_of, declared.strips.Strip.Strip}}
 use Rattle.qr_matrix.specs.{BitRow.has, Grid.{Grid, transposed, with_row}}
-use Rattle.qr_symbol.proofs.lemmas.placement.{AcrossLemmas.{region-across, strip-drawn}, PlacementLemmas.places-push, ColumnLemmas.cleared}
+use Rattle.qr_symbol.proofs.lemmas.placement.{AcrossLemmas.{region-across, strip-drawn}, PlacementLemmas.places-push}
 use Rattle.qr_symbol.proofs.placement.draw_codewords.Goals.{then-upward, else-upward, After-columns_of-columns}
 use Rattle.qr_symbol.specs.{Steps.Placement.{number_at, AreDrawn, IsRegion}, declared.spans.Columns.Columns}
 use Rattle.qr_symbol.proofs.lemmas.placement.PlacementLemmas.{placed-start, placed-strip, placed-small, placed-end, square-transposed}
@@ -48,7 +48,7 @@ loop-strip-preserved c =
     let before = (goal.at.loop-strip-preserved c).After-columns_of-columns in
     let in-square = inside before in let region = is-region before in
     let g = c.loop-strip.across in let taken = c.columns_of-columns in
-    let old : Columns = record { right = c.bitxor-columns.result; left = c.bitxor-columns-in-loop-strip.result } in
+    let old : Columns = record { right = c.bitand-columns.result; left = c.bitand-columns-in-loop-strip.result } in
     let is-drawn = λ (next : ℕ) (new : Columns) (up : Bool). (next ≡ number_at v (record { right = x.right; upward = up }) n s) × AreDrawn v cw (record { right = x.right; upward = up }) n 0 s old new in
     let drawn : (c.if-upward.number ≡ number_at v x n s) × AreDrawn v cw x n 0 s old c.if-upward.columns = elim c.if-upward.branch [
       | then-upward w ↦ (let e = w.draw_columns-number.ensures in rw (w.columns-is, w.number-is) (subst (is-drawn w.draw_columns-number.result w.draw_columns-number.new.columns) (sym w.if-upward.true) (e.number, e.drawn)))
@@ -57,8 +57,8 @@ loop-strip-preserved c =
     let strip = strip-drawn v cw x n c.if-upward.number g c.set_bit_row-in-loop-strip.new.self old c.if-upward.columns i.square in-square.0 in-square.1
     (c.set_bit_row-in-loop-strip.ensures ∙ ap (λ (z : Grid). with_row z (x.right - 1) (has c.if-upward.columns.left)) c.set_bit_row.ensures)
     (λ row l. rw (← (region row l).0, ← (region row l).1, ← taken.ensures.right row, ← taken.ensures.left row) (
-      cc (c.bitxor-columns.ensures row, c.bitand.ensures row, cleared (has taken.result.right row) (has c.columns_of-within.result.right row)),
-      cc (c.bitxor-columns-in-loop-strip.ensures row, c.bitand-in-loop-strip.ensures row, cleared (has taken.result.left row) (has c.columns_of-within.result.left row)),
+      cc (c.bitand-columns.ensures row, c.not.ensures row (omega arith)),
+      cc (c.bitand-columns-in-loop-strip.ensures row, c.not-in-loop-strip.ensures row (omega arith)),
     ))
     drawn.0 drawn.1 in
     record {

@@ -16,10 +16,10 @@ returns-clause-read c =
     let n = c.min-mask.result in let g = c.args.matrix.now in
     let region = c.in_ok-region.region in
     let drawn = c.set_masked.ensures ∙ ap (λ s. square s (λ (i k : ℕ). inverted (colour region i k && inverts n i k) (colour g i k)))
-    (ap (λ (g : Grid). g.side) c.in_ok-plain.ensures ∙ c.side.ensures.value) in
-    IfOk-weaker c.read_plain.result _ (λ cw. IsRead c.args.version c.args.mask g cw.items)
+    (ap (λ (g : Grid). g.side) c.in_ok-unmasked.ensures ∙ c.side.ensures.value) in
+    IfOk-weaker c.read_without_mask.result _ (λ cw. IsRead c.args.version c.args.mask g cw.items)
     (λ cw h. read-masked _ _ n g region c.set_masked.new.matrix cw.items (omega arith) (omega arith) c.in_ok-region.ensures
-    (search (rules, seven-on)) drawn h) c.read_plain.ensures.read
+    (search (rules, seven-on)) drawn h) c.read_without_mask.ensures.read
 
 pub returns-in_err-region : goal.returns-in_err-region
 returns-in_err-region c = search (rules, IfOk-from_err)

@@ -34,10 +34,10 @@ told v l b how x r least most written long is =
       series = series;
       joined = IfOk-weaker r _ _ (λ ss h. series-joined _ _ _ _ _ ss.items least most written h) series;
       interpreted = IfOk-weaker r _ _ (λ ss h. series-interpreted _ _ _ _ _ ss.items least most written h) series;
-      shortest = IfOk-weaker r _ _ (λ ss h plain. series-shortest _ _ _ _ _ ss.items written plain (pos_of_ne-zero long) h) series;
+      shortest = IfOk-weaker r _ _ (λ ss h no_kanji. series-shortest _ _ _ _ _ ss.items written no_kanji (pos_of_ne-zero long) h) series;
       empty = (λ e. absurd (empty e), λ e. absurd (long (ap length e)));
       too_many = many;
-      no_shorter = λ e plain. none-shorter _ _ _ _ _ least most written plain (many.0 e).1;
+      no_shorter = λ e no_kanji. none-shorter _ _ _ _ _ least most written no_kanji (many.0 e).1;
       fault = MatchResult-weaker r is (λ ss _. tt) (λ e w. elim w [ inl m ↦ inr (inr m) | inr h ↦ inr (inl h.0) ]);
     }
 

@@ -81,7 +81,7 @@ returns-else-modules-area-clause-done c _ =
     let m = c.in-Ok.made in
     let x = c.args.input.now in
     let v = c.number-symbol.result in
-    let k = c.number_of-symbol.result in
+    let k = c.number_of_level-symbol.result in
     let rule = rule_of c.args.rule in
     let how = interpretation_of c.args.interpretation in
     let read = subst (λ (s : Settings). IsReadBack m.version s.rule s.interpretation x m.matrix) c.in-Some.ensures.1 c.in-Ok.ensures.read in
@@ -89,17 +89,17 @@ returns-else-modules-area-clause-done c _ =
     record {
       settings = allowed (goal.at.returns-else-modules-area-clause-done c).Else-not-may_write;
       square = m.matrix;
-      level_in = c.number_of-symbol.ensures.in_range;
+      level_in = c.number_of_level-symbol.ensures.in_range;
       made = λ plain.
           let is = subst (λ (s : Settings). (m.level ≡ s.level) × IsSymbol s.version s.level s.rule s.interpretation x m.version m.mask m.matrix)
           c.in-Some.ensures.1 (c.in-Ok.ensures.made (rw plain refl)) in (
-            number-one k c.args.level c.number_of-symbol.ensures.in_range c.in-Some.ensures.0.level_in (c.number_of-symbol.ensures.same ∙ is.0),
+            number-one k c.args.level c.number_of_level-symbol.ensures.in_range c.in-Some.ensures.0.level_in (c.number_of_level-symbol.ensures.same ∙ is.0),
             subst (λ (v : ℕ). IsSymbol c.args.version (level_of c.args.level) rule how x v m.mask m.matrix) version is.1,
           );
       boosted = λ boost.
           let is = subst (λ (s : Settings). IsBoostedSymbol s.version s.level s.rule s.interpretation x m.version m.level m.mask m.matrix)
           c.in-Some.ensures.1 (c.in-Ok.ensures.boosted (rw boost refl)) in
-          subst (λ (l : Level). IsBoostedSymbol c.args.version (level_of c.args.level) rule how x v l m.mask m.matrix) (sym c.number_of-symbol.ensures.same)
+          subst (λ (l : Level). IsBoostedSymbol c.args.version (level_of c.args.level) rule how x v l m.mask m.matrix) (sym c.number_of_level-symbol.ensures.same)
           (subst (λ (v : ℕ). IsBoostedSymbol c.args.version (level_of c.args.level) rule how x v m.level m.mask m.matrix) version is);
       read = subst (λ (v : ℕ). IsReadBack v rule how x m.matrix) version read;
       side = c.side-side.ensures.value;

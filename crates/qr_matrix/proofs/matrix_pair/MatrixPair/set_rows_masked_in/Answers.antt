@@ -37,7 +37,7 @@ loop-row-preserved c =
     let bits = λ (s : Bool) (k : ℕ). both c.of-in-loop-row.result c.bit_row-bits.result s c.of-in-loop-row.ensures.first c.of-in-loop-row.ensures.second k in
     let region = λ (s : Bool) (k : ℕ). both c.of.result c.bit_row-region.result s c.of.ensures.first c.of.ensures.second k in
     let line : (s : Bool) (r k : ℕ) → dark_in (lanes (set rows row p) s) r k ≡ cond (eqb r row) (has (lane p s) k) (dark_in (lanes rows s) r k) = search (rules, line-set, lanes-long, map-set) in
-    let f = λ (s : Bool) (r k : ℕ). cond (colour c.args.within.now r k && has_bit (cond s c.args.patterns.1 c.args.patterns.0) (k % 6)) (not (colour c.args.plain.now r k)) (colour c.args.plain.now r k) in
+    let f = λ (s : Bool) (r k : ℕ). cond (colour c.args.within.now r k && has_bit (cond s c.args.patterns.1 c.args.patterns.0) (k % 6)) (not (colour c.args.unmasked.now r k)) (colour c.args.unmasked.now r k) in
     record {
       turn = omega (arith, i.turn);
       same = i.same;
@@ -49,7 +49,7 @@ loop-row-preserved c =
           (c.bitand-inverted.ensures s k ∙ (λ j. (region s k ∙ c.bit_row-region.ensures.colours k) j && pattern j)) ∙ ap (λ z. f s z k) (sym t)));
       past = λ s. line-inside n row (lanes rows s) (lanes (set rows row p) s) (lane p s) (line s)
           (λ k l. unset k (64 * c.args.words) _ _ _ (c.put_words.ensures s k)
-          (masked-past _ _ _ _ _ (c.bitxor.ensures s k) (c.bitand-inverted.ensures s k) (bits s k ∙ c.bit_row-bits.ensures.past k (omega (arith, c.requires.plain_side))) (region s k ∙ c.bit_row-region.ensures.past k (omega (arith, c.requires.within_side))))
+          (masked-past _ _ _ _ _ (c.bitxor.ensures s k) (c.bitand-inverted.ensures s k) (bits s k ∙ c.bit_row-bits.ensures.past k (omega (arith, c.requires.unmasked_side))) (region s k ∙ c.bit_row-region.ensures.past k (omega (arith, c.requires.within_side))))
           (row-past n row row (lanes rows s) (lane c.index_mut.result.now s) refl (omega (arith, lanes-long rows s)) (i.past s) (lane-read rows row c.index_mut.result.now s here c.index_mut.ensures.value) k l))
           (i.past s);
     }
@@ -61,5 +61,5 @@ returns c = λ s.
     let first = c.self.inside.rows.items in
     let n = c.self.inside.side in
     let e = side-of n first c.args.self.now c.self.view_is false in
-    let f = λ (r k : ℕ). cond (colour c.args.within.now r k && has_bit (cond s c.args.patterns.1 c.args.patterns.0) (k % 6)) (not (colour c.args.plain.now r k)) (colour c.args.plain.now r k) in
+    let f = λ (r k : ℕ). cond (colour c.args.within.now r k && has_bit (cond s c.args.patterns.1 c.args.patterns.0) (k % 6)) (not (colour c.args.unmasked.now r k)) (colour c.args.unmasked.now r k) in
     one-view c.loop-row.self-inside.side rows s ∙ (ap (λ z. square z (dark_in (lanes rows s))) (i.same ∙ e) ∙ square-same _ _ _ (search (rules, colour-square, square-of, nat_tests)))

@@ -11,7 +11,7 @@ invariant-loop-row l =
       same : l.self-inside.side ≡ first.side;
       long : length rows ≡ first.side;
       so_far : (s : Bool) (r c : ℕ) → c < first.side → dark_in (lanes rows s) r c ≡ cond (is-passed l.first l.row r)
-          (cond (colour l.within r c && has_bit (cond s l.fn.patterns.1 l.fn.patterns.0) (c % 6)) (not (colour l.plain r c)) (colour l.plain r c)) (dark_in (lanes first.rows.items s) r c);
+          (cond (colour l.within r c && has_bit (cond s l.fn.patterns.1 l.fn.patterns.0) (c % 6)) (not (colour l.unmasked r c)) (colour l.unmasked r c)) (dark_in (lanes first.rows.items s) r c);
       past : (s : Bool) (r c : ℕ) → first.side ≤ c → dark_in (lanes rows s) r c ≡ false;
     }
 

@@ -9,11 +9,11 @@ returns-clause-removal c = search (arith, refill-same, power-lt, powers-apart)
 pub returns-clause-error : goal.returns-clause-error
 returns-clause-error c = λ first errors left.
     let old = c.args.self.now.locator.items in
-    let new = c.divide_out-rest.new.locator.items in
+    let new = c.divide_out-value_at_root.new.locator.items in
     let all = left.errors in
     let long : length errors ≡ c.args.location = omega arith in
     let rest = located-divided old new errors (omega arith) (located-rest old errors first all.located)
-    (rw (c.power_of-root.ensures, ← long) at c.divide_out-rest.ensures.others) in
+    (rw (c.power_of-root.ensures, ← long) at c.divide_out-value_at_root.ensures.others) in
     let sum = error-sum new c.args.self.now.syndromes.items errors first (rw c.as_slice.ensures.value at c.dot.ensures.bytes)
     all.located.bytes rest all.values (omega arith) in
     search (rules, factor-one, All-head)
@@ -21,7 +21,7 @@ returns-clause-error c = λ first errors left.
 pub returns-clause-left : goal.returns-clause-left
 returns-clause-left c = λ first errors left.
     let old = c.args.self.now.locator.items in
-    let new = c.divide_out-rest.new.locator.items in
+    let new = c.divide_out-value_at_root.new.locator.items in
     let all = left.errors in
     let long : length errors ≡ c.args.location = omega arith in
     let cut = c.truncate.new.self.items in
@@ -32,7 +32,7 @@ returns-clause-left c = λ first errors left.
       errors = record {
         count = long;
         located = located-divided old new errors (omega arith) (located-rest old errors first all.located)
-            (rw (c.power_of-root.ensures, ← long) at c.divide_out-rest.ensures.others);
+            (rw (c.power_of-root.ensures, ← long) at c.divide_out-value_at_root.ensures.others);
         values = search (rules, refill-same, get_or-take, xor_comm, xor-cancel);
       };
       none = search (rules, none-later);

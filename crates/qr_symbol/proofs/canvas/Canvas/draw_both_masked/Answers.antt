@@ -19,9 +19,9 @@ none-set k y z = search rules
 pub loop-first-init : goal.loop-first-init
 loop-first-init c =
     let k = c.args.self.now in
-    let e : side_of k.version ≡ k.plain.side = search rules in record {
+    let e : side_of k.version ≡ k.unmasked.side = search rules in record {
       so_far = λ s.
-          let f = λ (r j : ℕ). inverted (colour k.region r j && inverts (cond s c.args.masks.1 c.args.masks.0) r j) (colour k.plain r j) in
+          let f = λ (r j : ℕ). inverted (colour k.region r j && inverts (cond s c.args.masks.1 c.args.masks.0) r j) (colour k.unmasked r j) in
           subst (λ n. IsSquare n (one_of c.args.pair.now s)) e (c.requires.squares s) ∙ square-same _ _ _ (λ r j l m. none-set (r % 12) (f r j) (colour (one_of c.args.pair.now s) r j));
     }
 
@@ -31,11 +31,11 @@ set_rows_masked-requires c = search (rules, square-is, c.args.self.now, sym (ap 
 pub loop-first-preserved : goal.loop-first-preserved
 loop-first-preserved c =
     let i = c.loop-first.invariant in let first = c.loop-first.first in
-    let g = c.args.self.now in let n = g.plain.side in
+    let g = c.args.self.now in let n = g.unmasked.side in
     record {
       so_far = λ s.
-          let f = λ (r k : ℕ). inverted (colour g.region r k && inverts (cond s c.args.masks.1 c.args.masks.0) r k) (colour g.plain r k) in
-          let x = λ (r k : ℕ). inverted (colour g.region r k && has_bit (cond s c.pattern-in-loop-first.result c.pattern.result) (k % 6)) (colour g.plain r k) in
+          let f = λ (r k : ℕ). inverted (colour g.region r k && inverts (cond s c.args.masks.1 c.args.masks.0) r k) (colour g.unmasked r k) in
+          let x = λ (r k : ℕ). inverted (colour g.region r k && has_bit (cond s c.pattern-in-loop-first.result c.pattern.result) (k % 6)) (colour g.unmasked r k) in
           let old = λ (r k : ℕ). colour (one_of c.args.pair.now s) r k in
           let before = λ (r k : ℕ). cond (ltb (r % 12) first) (f r k) (old r k) in
           let new = λ (r k : ℕ). cond (eqb (r % 12) first) (x r k) (colour (one_of c.loop-first.pair s) r k) in
@@ -45,9 +45,9 @@ loop-first-preserved c =
 pub loop-bit-init : goal.loop-bit-init
 loop-bit-init c =
     let k = c.args.self.now in
-    let e : k.plain.side ≡ side_of k.version = search rules in
-    let masked : (s : Bool) → one_of c.loop-first.pair s ≡ masked_square k.version (cond s c.args.masks.1 c.args.masks.0) k.region k.plain = λ s.
-    let f = λ (r j : ℕ). inverted (colour k.region r j && inverts (cond s c.args.masks.1 c.args.masks.0) r j) (colour k.plain r j) in
+    let e : k.unmasked.side ≡ side_of k.version = search rules in
+    let masked : (s : Bool) → one_of c.loop-first.pair s ≡ masked_square k.version (cond s c.args.masks.1 c.args.masks.0) k.region k.unmasked = λ s.
+    let f = λ (r j : ℕ). inverted (colour k.region r j && inverts (cond s c.args.masks.1 c.args.masks.0) r j) (colour k.unmasked r j) in
     let drawn = λ (r j : ℕ). cond (ltb (r % 12) c.loop-first.first) (f r j) (colour (one_of c.args.pair.now s) r j) in
     c.loop-first.invariant.so_far s ∙ (ap (λ n. square n drawn) e ∙ square-same (side_of k.version) drawn f (search rules)) in
     search (rules, square-is, down-start)
@@ -99,7 +99,7 @@ returns c = λ s.
     let f = cond s c.from-2.result c.from.result in
     let a = c.reversed.result / 2 ^ 49 in let b = c.reversed-2.result / 2 ^ 49 in
     let bits = λ (j : ℕ) (l : j < 15). either s _ _ _ _ j c.reversed.ensures c.reversed-2.ensures l in
-    let m = masked_square v (cond s c.args.masks.1 c.args.masks.0) k.region k.plain in
+    let m = masked_square v (cond s c.args.masks.1 c.args.masks.0) k.region k.unmasked in
     let down : FormatDown v f 15 m (one_of c.loop-bit.pair s) = search rules in
     let w = words k.level c.args.masks.0 c.args.masks.1 c.from.result c.from-2.result s (c.from.ensures ∙ c.format_word.ensures) (c.from-2.ensures ∙ c.format_word-2.ensures) in
     both-parts v f m (one_of c.loop-bit.pair s) (one_of c.set_columns-4.new.self s) down
@@ -110,8 +110,8 @@ returns c = λ s.
       third = λ j l. shifted s b a 7 f (7 - j) j (bits (j + 7) (omega arith) ∙ ap (has_bit f) (seven j));
     })
     (c.set_columns-2.ensures s) (c.set_columns-3.ensures s) (c.set_columns-4.ensures s))
-    ∙ square-same (side_of v) _ (masked_colour v (format_word_of k.level (cond s c.args.masks.1 c.args.masks.0)) (cond s c.args.masks.1 c.args.masks.0) k.region k.plain) (λ r j l n.
-    ap (λ z. format_or z (role_of v r j) (colour m r j)) w ∙ ap (format_or _ (role_of v r j)) (colour-square (side_of v) (λ r j. inverted (colour k.region r j && inverts (cond s c.args.masks.1 c.args.masks.0) r j) (colour k.plain r j)) r j l n))
+    ∙ square-same (side_of v) _ (masked_colour v (format_word_of k.level (cond s c.args.masks.1 c.args.masks.0)) (cond s c.args.masks.1 c.args.masks.0) k.region k.unmasked) (λ r j l n.
+    ap (λ z. format_or z (role_of v r j) (colour m r j)) w ∙ ap (format_or _ (role_of v r j)) (colour-square (side_of v) (λ r j. inverted (colour k.region r j && inverts (cond s c.args.masks.1 c.args.masks.0) r j) (colour k.unmasked r j)) r j l n))
   where
     eight : (k : ℕ) → 14 - (k + 6) ≡ 8 - k
     eight k = omega arith

@@ -10,8 +10,8 @@ invariant_of-self c =
           (patterns-drawn v cw _ _ (omega arith) patterns (c.set_transposed.ensures ∙ c.draw_codewords.ensures.placed));
     }
 
-pub returns-clause-plain : goal.returns-clause-plain
-returns-clause-plain c =
+pub returns-clause-unmasked : goal.returns-clause-unmasked
+returns-clause-unmasked c =
     let v = c.args.self.now.version in
     let patterns = subst (HasPatterns v) (sym c.swap.ensures.y_after) c.args.self.now.patterns in
     patterns-drawn v _ _ _ (omega arith) patterns (c.set_transposed.ensures ∙ c.draw_codewords.ensures.placed)

@@ -1,5 +1,5 @@
 use Rattle.{qr_matrix.proofs.Facts.has_bit-shr, std.proofs.Common.{rules, ◌≡◌, ◌+◌, ◌-◌, ◌*◌, arith}}
-use Rattle.qr_symbol.proofs.words.joined.Goals as goal
+use Rattle.qr_symbol.proofs.words.merged.Goals as goal
 
 pub returns-else-upward : goal.returns-else-upward
 returns-else-upward c = record {

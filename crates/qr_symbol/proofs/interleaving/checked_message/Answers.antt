@@ -1,7 +1,7 @@
 use Rattle.std.proofs.Common.{◌≡◌, inr, refl, sym, ◌∙◌, subst, drop, arith}
 use Rattle.std.proofs.lemmas.{Bool.{iff_false, Decides.Decides-eqb}, List.take_rest, Slice.Eq.slice_eq-Decides}
 use Rattle.qr_symbol.{proofs.lemmas.interleaving.MessageLemmas.{message-read, none-fits}, specs.Interleaving.{codeword_count, correction_sizes, data_sizes, IsGathered}}
-use Rattle.qr_symbol.proofs.interleaving.deinterleave_blocks.Goals as goal
+use Rattle.qr_symbol.proofs.interleaving.checked_message.Goals as goal
 
 pub returns-then-eq : goal.returns-then-eq
 returns-then-eq c =

@@ -1,5 +1,5 @@
 use Rattle.{qr_matrix.{proofs.lemmas.runs.RowLemmas.joins-bit, specs.Grid.is_same}, std.proofs.Common.{◌+◌, not, ap, ◌∙◌, arith}}
-use Rattle.qr_matrix.proofs.runs.joined.Goals as goal
+use Rattle.qr_matrix.proofs.runs.same_as_right.Goals as goal
 
 pub returns : goal.returns
 returns g c = λ b k.

@@ -1,8 +1,8 @@
--- The canvas of an SVG document while it is painted.
+-- The bytes of the sheet of an SVG document while its boxes are painted.
 use Rattle.std.proofs.Common.{◌≡◌, ◌≤◌, ◌<◌, ◌≢◌, ◌+◌, ◌*◌, ◌/◌, ◌%◌, ◌∙◌, ◌++◌, ◌&&◌, ◌||◌, leb, ltb, ℕ, Bool, true, false, cond, eqb, List, ◌∷◌, length, drop, take, get_or, set, replicate, refl, sym, ap, arith, inl, inr}
 use Rattle.std.proofs.{lemmas.{Bool.{cases_lt, Decides.nat_tests}, Nat.{div-mul-add, mod-mul-add}}, Math.Seq.take-append_seam}
 use Rattle.std.proofs.lemmas.List.{length-set, get_or-set_same, get_or-set_other, FromFn.fill_by_all, get_or-replicate, length-replicate}
-use Rattle.qr_parsing.{specs.Steps.Svg.{canvas_of, is_in_boxes}, proofs.lemmas.text.PlaceLemmas.place-in}
+use Rattle.qr_parsing.{specs.Steps.Svg.{is_in_boxes, painted_bytes}, proofs.lemmas.text.PlaceLemmas.place-in}
 
 -- one column more makes no difference to whether another place is in the box
 same-test : (w y x col i : ℕ) → 0 < w → i ≢ y * w + col → (eqb (i / w) y && (leb x (i % w) && ltb (i % w) (col + 1))) ≡ (eqb (i / w) y && (leb x (i % w) && ltb (i % w) col))
@@ -56,18 +56,18 @@ painted-box x y n high back more r c old byte new all e f = e ∙ (swap ∙ sym 
     swap : cond ((eqb y r && (leb x c && ltb c (x + n))) || is_in_boxes more r c) 1 byte ≡ cond (is_in_boxes more r c) 1 (cond (eqb r y && (leb x c && ltb c (x + n))) 1 byte)
     swap = rw turned (either (eqb r y && (leb x c && ltb c (x + n))) (is_in_boxes more r c))
 
--- if each byte is painted as the boxes say, the bytes are the canvas of the definition
-pub canvas-is : (w h n : ℕ) (bytes new numbers : List ℕ) → bytes ≡ replicate (w * h) 0 → n ≡ w * h → length new ≡ w * h
+-- if each byte is painted as the boxes say, the bytes are the painted bytes of the definition
+pub painted-all : (w h n : ℕ) (bytes new numbers : List ℕ) → bytes ≡ replicate (w * h) 0 → n ≡ w * h → length new ≡ w * h
     → ((i : ℕ) → i < length bytes → get_or new i 0 ≡ cond (is_in_boxes numbers (i / w) (i % w)) 1 (get_or bytes i 0))
-    → take n (new ++ drop (length new) bytes) ≡ canvas_of w h numbers
-canvas-is w h n bytes new numbers e f g painted =
+    → take n (new ++ drop (length new) bytes) ≡ painted_bytes w h numbers
+painted-all w h n bytes new numbers e f g painted =
     let k : n ≡ length new = f ∙ sym g in
     ap (λ z. take z (new ++ drop (length new) bytes)) k ∙ (take-append_seam new (drop (length new) bytes)
     ∙ fill_by_all (λ i. cond (is_in_boxes numbers (i / w) (i % w)) 1 0) new (w * h) 0 g (search (arith, length-replicate, get_or-replicate, painted)))
 
--- the byte of each module of a whole raster is on the canvas
-pub canvas-inside : (w high count k y x : ℕ) → 8 ≤ w → count ≡ high / w → k < count → y < w → x < w → (k * w + y) * w + x < w * high
-canvas-inside w high count k y x wide e a b c =
+-- the byte of each module of a whole raster is among the painted bytes
+pub bytes-inside : (w high count k y x : ℕ) → 8 ≤ w → count ≡ high / w → k < count → y < w → x < w → (k * w + y) * w + x < w * high
+bytes-inside w high count k y x wide e a b c =
     let all : count * w ≤ high = omega (arith, ap (λ n. n * w) e) in
     let line = place-in count w k y a b in
     omega (arith, place-in high w (k * w + y) x (omega arith) c)

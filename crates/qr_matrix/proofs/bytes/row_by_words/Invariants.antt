@@ -1,5 +1,5 @@
 use Rattle.{qr_matrix.specs.{BitRow.has, Bytes.byte_of}, std.proofs.Common.{◌≡◌, ℕ, ◌+◌, ◌*◌, ◌<◌, slice_index_or}}
-use Rattle.qr_matrix.proofs.bytes.plain_row_of.Given as goal
+use Rattle.qr_matrix.proofs.bytes.row_by_words.Given as goal
 
 -- the words before the current one have been read
 abbrev pub invariant-loop-number : goal.invariant-loop-number
