@@ -15,7 +15,7 @@
 ## make npm            the package for JavaScript, in out/npm
 ## make page           the web page, in out/web
 ## make dist           archives and packages of all of them, in out/dist
-## make test           runs the tests without proof (20 minutes after make all lib)
+## make test           runs the tests, and proves only what they are built of (20 minutes after make all lib)
 ## make check          the gate (60 to 80 minutes)
 ## make check-each     tries each wrong body by itself
 ## make bench          counts instructions and memory
@@ -181,20 +181,25 @@ endif
 	    -Wl,--whole-archive libqrproved.a -Wl,--no-whole-archive
 	cd "$(LIBRARY_OUT)" && rm -f proved.a heap.pic.o joined.o && mv flags.new flags
 
-# Installs what `make lib` built.
+# Installs what `make lib` built. The loader prefers the library of HWCAPS, so one that an earlier call installed there goes away
+# if this call installs none.
+has_flags = test "$$(cat '$(1)/flags' 2>/dev/null)" = '$(2)'
+OLD_HWCAPS_COPY = $(if $(CROSS),,"$(LIBRARIES)/glibc-hwcaps/x86-64-v2/$(SONAME)")
 install-lib:
-	@test -e "$(LIBRARY_OUT)/$(SONAME)" $(if $(HWCAPS),-a -e "$(HWCAPS_OUT)/$(SONAME)") || \
-	    { echo "install-lib: the library is not built: run make lib" >&2; exit 1; }
+	@$(call has_flags,$(LIBRARY_OUT),$(LIBRARY_FLAGS)) $(if $(HWCAPS),&& $(call has_flags,$(HWCAPS_OUT),--cpu $(HWCAPS))) || \
+	    { echo "install-lib: the library is not built for $(KIND): run make lib, with the same CPU and TARGET" >&2; exit 1; }
 	install -D -m 644 "$(LIBRARY_OUT)/libqrproved.a" "$(LIBRARIES)/libqrproved.a"
 	install -D -m 644 "$(LIBRARY_OUT)/$(SONAME)" "$(LIBRARIES)/$(SONAME)"
 	$(if $(STRIP),$(OBJCOPY) --strip-debug "$(LIBRARIES)/libqrproved.a")
 	$(if $(STRIP),$(OBJCOPY) --strip-unneeded "$(LIBRARIES)/$(SONAME)")
 	$(if $(HWCAPS),install -D -m 644 "$(HWCAPS_OUT)/$(SONAME)" "$(HWCAPS_FOLDER)/$(SONAME)")
 	$(if $(HWCAPS),$(if $(STRIP),$(OBJCOPY) --strip-unneeded "$(HWCAPS_FOLDER)/$(SONAME)"))
+	$(if $(HWCAPS)$(CROSS),,rm -f $(OLD_HWCAPS_COPY))
 	ln -sf $(SONAME) "$(LIBRARIES)/libqrproved.so"
 	install -D -m 644 include/qrproved.h "$(INCLUDES)/qrproved.h"
 	mkdir -p "$(LIBRARIES)/pkgconfig"
 	$(MAKE) -s --no-print-directory print-pc >"$(LIBRARIES)/pkgconfig/qrproved.pc"
+	chmod 644 "$(LIBRARIES)/pkgconfig/qrproved.pc"
 	@$(if $(DESTDIR),,PATH="$$PATH:/usr/sbin:/sbin"; ldconfig 2>/dev/null; \
 	    ldconfig -p 2>/dev/null | grep -q "=> $(LIBDIR)/$(SONAME)$$" || echo "install-lib: programs find $(LIBDIR)/$(SONAME) after" \
 	    "ldconfig, run by root, if the folder is one of its own, or if they are linked with -Wl$(comma)-rpath$(comma)$(LIBDIR)")
@@ -210,7 +215,12 @@ print-pc:
 
 uninstall-lib:
 	rm -f "$(LIBRARIES)/libqrproved.a" "$(LIBRARIES)/$(SONAME)" "$(LIBRARIES)/libqrproved.so"
-	rm -f "$(INCLUDES)/qrproved.h" "$(LIBRARIES)/pkgconfig/qrproved.pc" $(if $(HWCAPS),"$(HWCAPS_FOLDER)/$(SONAME)")
+	rm -f "$(INCLUDES)/qrproved.h" "$(LIBRARIES)/pkgconfig/qrproved.pc" $(OLD_HWCAPS_COPY)
+
+# What takes the library comes after `make lib`, if one call of make does both.
+ifneq ($(filter lib,$(MAKECMDGOALS)),)
+wheel install-lib: | lib
+endif
 
 # A wheel with the shared library that `make lib` built.
 wheel:

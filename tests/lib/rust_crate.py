@@ -9,7 +9,9 @@ from growths import TOP
 from libraries import check, counts
 
 TYPES = {"u8": "uint8_t", "c_uchar": "uint8_t", "u32": "uint32_t", "usize": "size_t"}
-CASES = 5  # where there is cargo
+CASES = 6  # where there is cargo
+# The caller's environment, but for what says where the library is. A backtrace would be more than is kept of an error.
+CALLER = {**{name: it for name, it in os.environ.items() if not name.startswith("QRPROVED_")}, "CARGO_NET_OFFLINE": "true", "RUST_BACKTRACE": "0"}
 
 
 def snake(name):
@@ -26,29 +28,31 @@ def in_c(name, rust):
 
 
 def declared():
-    """Returns the calls and the structs of the crate, as C declares them."""
+    """Returns the calls, the structs and the constants of the crate, as C declares them."""
     with open(f"{TOP}/rust/qrproved/src/c.rs", encoding="utf-8") as it:
         text = re.sub(r"//[^\n]*", "", it.read())
     setting = re.search(r"pub type Setting = (\w+);", text).group(1)
     text = re.sub(r"\bSetting\b", setting, text)
-    calls = {name: (TYPES[result], [in_c(*row.split(": ")) for row in re.findall(r"(\w+: [^,]+),", listed)])
+    calls = {name: (TYPES[result], [in_c(*row.split(": ")) for row in re.findall(r"(\w+: [^,]+),", listed)] or ["void"])
              for name, listed, result in re.findall(r"pub fn (\w+)\((.*?)\) -> (\w+);", text, re.DOTALL)}
     structs = {f"qrproved_{snake(name)}": [in_c(*row) for row in re.findall(r"pub (\w+): (\w+),", listed)]
                for name, listed in re.findall(r"#\[repr\(C\)\].*?pub struct (\w+) \{(.*?)\}", text, re.DOTALL)}
-    return calls, structs
+    constants = {name: number.replace("_", "") for name, number in re.findall(r"pub const (\w+): \w+ = ([\d_]+);", text)}
+    return calls, structs, constants
 
 
 def of_rust_header(header):
-    """Compares the crate's declarations with those of the header. The crate does not declare qrproved_version."""
-    calls, structs = declared()
-    check("rust: the calls are the header's", calls, {name: it for name, it in header[0].items() if name != "qrproved_version"})
+    """Compares the crate's declarations with those of the header. The crate does not have all constants."""
+    calls, structs, constants = declared()
+    check("rust: the calls are the header's", calls, header[0])
     check("rust: the structs are the header's", structs, header[1])
+    check("rust: the constants are the header's", constants, {name: header[2].get(name) for name in constants})
 
 
 def tested(room, env):
     """Returns why the tests of a copy of the crate fail, or what ended well."""
     ran = subprocess.run(["cargo", "test", "--offline", "--quiet"], cwd=f"{room}/crate", capture_output=True, text=True, timeout=600,
-                         env={**os.environ, "CARGO_TARGET_DIR": f"{room}/target", "CARGO_NET_OFFLINE": "true", **env})
+                         env={**CALLER, "CARGO_TARGET_DIR": f"{room}/target", **env})
     results = re.findall(r"test result: (\w+)\. (\d+) passed; (\d+) failed", ran.stdout)
     if ran.returncode:
         return f"{ran.stdout[-600:]} {ran.stderr[-1500:]}"
@@ -69,7 +73,7 @@ def of_rust(shared, room):
     said = tested(room, none)
     check("rust: without a library the build fails", "the library is not found" in said if isinstance(said, str) else said)
     if not shutil.which("pkg-config"):
-        counts["skipped"] += 3
+        counts["skipped"] += 4
         print("not tried: the crate for Cargo by pkg-config: there is no pkg-config")
         return
     made = subprocess.run(["make", "-s", "-C", TOP, "install-lib", f"PREFIX={prefix}"], capture_output=True, text=True)
@@ -77,6 +81,18 @@ def of_rust(shared, room):
     found = {"PKG_CONFIG_PATH": f"{prefix}/lib/pkgconfig"}
     check("rust: the tests pass with the library that pkg-config finds", tested(room, found), (3, True))
     check("rust: a program with the README's build script finds the library", of_program(room, found), "21\n")
+    renumber(room)
+    said = of_program(room, found)
+    check("rust: a crate of another version refuses the library", "and the crate qrproved needs 0.1.0" in said or said)
+
+
+def renumber(room):
+    """Lets a copy of the crate need the library of version 0.1.0."""
+    path = f"{room}/crate/src/c.rs"
+    with open(path, encoding="utf-8") as it:
+        text = re.sub(r"(VERSION_NUMBER: u32 =) \d+;", r"\1 100;", it.read())
+    with open(path, "w", encoding="utf-8") as it:
+        it.write(text)
 
 
 def of_program(room, env):
@@ -87,10 +103,10 @@ def of_program(room, env):
              "build.rs": f"fn main() {{\n{script}}}\n",
              "src/main.rs": 'use qrproved::{encode, Level, Options, Version};\nfn main() {\n    println!("{}", encode(b"A", Version::MIN, Level::L,'
                             ' &Options::default()).unwrap().side());\n}\n'}
-    os.makedirs(f"{room}/label/src")
+    os.makedirs(f"{room}/label/src", exist_ok=True)
     for name, text in files.items():
         with open(f"{room}/label/{name}", "w", encoding="utf-8") as it:
             it.write(text)
     ran = subprocess.run(["cargo", "run", "--offline", "--quiet"], cwd=f"{room}/label", capture_output=True, text=True, timeout=600,
-                         env={**os.environ, "CARGO_TARGET_DIR": f"{room}/target", "CARGO_NET_OFFLINE": "true", **env})
+                         env={**CALLER, "CARGO_TARGET_DIR": f"{room}/target", **env})
     return ran.stdout if ran.returncode == 0 else ran.stderr[-600:]
