@@ -52,8 +52,8 @@ pub fn settings(alloc: Global) -> Result<Answer, AllocError> {
     Ok(answer.given(are(&list, &words)))
 }
 
-// Runs the command. If no memory is refused, it should return `status`, write a drawing that begins with `prefix`, and
-// write a line to standard error that contains `part`.
+// Runs the command. If no memory is refused, it should return `status`, the bytes on standard output should begin with
+// `prefix`, and those on standard error should contain `part`.
 fn ran(
     alloc: Global,
     words: &[&str],

@@ -29,7 +29,7 @@ fn symbol(alloc: Global) -> Result<Symbol, Fail>
     Ok(build_masked(alloc, version, Level::M, &CODEWORDS, 0)?)
 }
 
-// Draws the symbol that `symbol` returns.
+// Draws the symbol of `01234567` at 1-M with mask 0.
 fn one(alloc: Global, kind: Drawing, margin: u8) -> Result<Trial, Fail> {
     let symbols = [symbol(alloc)?];
     let mut out = Trial::writer(alloc, 8000, Faults::NONE)?;
@@ -204,8 +204,8 @@ fn by_words(rt: HostRuntime) -> Result<(), Fail> {
 }
 
 // For each number `call` the writer takes at most 100 bytes in a write, and fails from the write with this number on,
-// counted from 0. With the last number the drawing needs fewer writes, so drawing succeeds. In each case the writer has
-// accepted a prefix of the drawing.
+// counted from 0. For the last number, 79, drawing succeeds, because the drawing needs fewer writes. For each number
+// the writer has accepted a prefix of the drawing.
 #[test]
 fn writers_fail_in_turn(rt: HostRuntime) -> Result<(), Fail> {
     let symbols = [symbol(rt.alloc())?];
@@ -279,13 +279,14 @@ fn sizes_of_writes(alloc: Global, kind: Drawing, margin: u8) -> Result<Vec<usize
 }
 
 // A drawing is made in parts. Before each part the pen, which has 1,200 bytes, is written if the part might not fit
-// into it. A line of text has three parts. The first is the left margin. The second is the columns of the symbol, in
-// groups of four. The third is the columns that are left, at most three, with the right margin and the newline. A cell
-// has two bytes in ASCII, and at most three in UTF-8. An SVG document has a part of at most 300 bytes, then one of at
-// most 32 for each dark run, and then one of 11.
+// into it. A line of text has three parts. The first part is the left margin. The second part is the columns of the
+// symbol in groups of four, but the pen needs room for all columns. The third part is the columns that the groups leave
+// over, at most three, with the right margin and the newline. A cell has two bytes in ASCII, and at most three in
+// UTF-8. In an SVG document the pen needs room for 300 bytes before the first part, for 32 bytes before the part of
+// each dark run, and for 11 bytes before the last part.
 //
-// A script computed the sizes from these rules. If the pen were written before a part that would just fit, or if the 32
-// were 31 or 33, the script would compute other sizes at some of these margins.
+// A script computed the sizes from these rules. If the pen were written before a part that would just fit, or if it
+// needed room for 31 or 33 bytes before a dark run, the script would compute other sizes at some of these margins.
 #[test]
 fn sizes_of_single_writes(rt: HostRuntime) -> Result<(), Fail> {
     let ascii = [

@@ -88,7 +88,7 @@ fn texts_of_parse_faults(rt: HostRuntime) -> Result<(), Fail> {
     Ok(())
 }
 
-// A message is the line on standard error without the program's name and the newline.
+// The text of a fault is its line on standard error without the program's name and the newline.
 #[test]
 fn messages_are_the_texts_of_lines(rt: HostRuntime) -> Result<(), Fail> {
     let digits = vec![in rt.alloc(); b'7'; 7090]?;

@@ -1,5 +1,5 @@
 //! An example of a crate of your own that uses `qr_symbol`. It makes labels. A label is a text: a drawing of a symbol,
-//! and below it the words that the symbol contains. The contract of `label` determines every character of it.
+//! and below it the words that the symbol contains. The contract of `label` determines every character of the label.
 #![tactic(auto)]
 
 ghost use Rattle.std.specs.Prelude.{◌≡◌, ◌≢◌, ◌<◌, ◌≤◌, ◌↔◌, ◌⊎◌, ◌++◌, [], length, Err, IfErr, IfOk, IsOk};

@@ -240,8 +240,8 @@ fn means(
     Ok(parsed.bytes.as_slice() == bytes && found.eq(ecis.iter().copied()))
 }
 
-// The rows are examples of the standard (Greek letters, and FNC1 in second position), or were worked out by hand from
-// its tables.
+// The codewords of the Greek letters and those with FNC1 in second position are examples of the standard. The codewords
+// of the fields were worked out by hand from its tables.
 #[test]
 fn interpretations(rt: HostRuntime) -> Result<(), Fail> {
     let greek = [0x70, 0x94, 0x05, 0xA1, 0xA2, 0xA3, 0xA4, 0xA5, 0x00];

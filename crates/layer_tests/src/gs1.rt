@@ -99,8 +99,8 @@ fn fit(rt: &HostRuntime, input: &[u8], interpretation: Interpretation) -> Result
     )?)
 }
 
-// At version 1 and level H a structured append header leaves 52 bits for the segments. FNC1 takes 4 of these bits, and
-// leaves 48. ECI 26 takes 12 and leaves 40, and ECI 999,999 takes 28 and leaves 24.
+// At version 1 and level H a structured append header leaves 52 bits for the segments. Of these 52 bits, FNC1 takes 4
+// and leaves 48, the header of ECI 26 takes 12 and leaves 40, and the header of ECI 999,999 takes 28 and leaves 24.
 #[test]
 fn prefixes_at_1_h(rt: HostRuntime) -> Result<(), Fail> {
     check_eq!(rt;

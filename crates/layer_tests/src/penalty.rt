@@ -30,8 +30,8 @@ fn is_dark(pattern: Pattern, row: u8, col: u8) -> bool {
 
 #[test]
 fn penalties(rt: HostRuntime) -> Result<(), Fail> {
-    // A row takes one, two or three words of 64 bits. Some runs, and one ratio 1:1:3:1:1, go from one word into the
-    // next.
+    // A row takes one, two or three words of 64 bits. Some runs, and the modules in the ratio 1:1:3:1:1 of one window,
+    // go from one word into the next.
     let rows = [
         ("all light", 21u8, Pattern::Light, 2098),
         ("a chequered square", 21, Pattern::Chequered, 0),

@@ -204,8 +204,9 @@ fn kanji(rt: HostRuntime) -> Result<(), Fail> {
     Ok(())
 }
 
-// The numbers were worked out by hand. Three digits take at least 10 bits, two other bytes up to `Z` at least 11, and
-// two bytes greater than `Z` at least 13. The sum is rounded down.
+// The numbers were worked out by hand. Three digits take at least 10 bits, two other bytes up to `Z` at least 11 bits,
+// and two bytes greater than `Z` at least 13 bits. Each digit adds a third of its 10 bits, and each other byte half of
+// its 11 or 13 bits. The sum is rounded down.
 #[test]
 fn least_bits_of_inputs(rt: HostRuntime) -> Result<(), Fail> {
     let rows = [

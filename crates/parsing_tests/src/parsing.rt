@@ -212,7 +212,8 @@ fn no_drawings(rt: HostRuntime) -> Result<(), Fail> {
         b"<0 0 0 0 0 0 0 0 0 687 10993 0 0 0 0 0 ",
         b"                                          \n",
         b"\xE2\x96\x84\n",
-        // From each of the last two texts a square is read whose drawing is longer than the text.
+        // `parse_drawing` reads a square from each of these last two texts, but the drawing of the square is longer
+        // than the text.
         b" \x84\x84\x84\x84\x84 \xE2\x88\n \x88   \x88 \x80\n \x88\x84\x84\x84\x88 \x80\n\x84\x84\x84\x84\x84\x84\x84\x88\n",
         b"<0 0 0 0 0 0 0 0 0 8 8 M0 0h7v1h-7zM0 1h1v1h-1z",
     ];

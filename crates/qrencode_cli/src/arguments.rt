@@ -23,7 +23,7 @@ pub(crate) struct OptionText<'a> {
     help: &'a str,
 }
 
-// Declares an option. What its value is, if it takes one, is added in `matches`.
+// Declares the name, the letter and the help of an option. `matches` adds what the option's value is, if it takes one.
 fn option<'a>(alloc: Global, text: OptionText<'a>) -> Arg<'a>
     ensures rule { rule_of result ≡ record (new_rule text.entry.id.now) { short = Some text.entry.short } }
     ensures local { result.global ≡ false }
@@ -79,7 +79,7 @@ pub(crate) const STRUCTURED: OptionText<'static> = OptionText {
     help: "Draw a series of up to 16 symbols if the input does not fit one; needs -v",
 };
 
-// The name of the string in the code.
+// The name in the code of the argument STRING, the input in place of standard input.
 pub(crate) const STRING: &str = "string";
 
 // Returns the fault of a run whose arguments `clap` refused with `error`.

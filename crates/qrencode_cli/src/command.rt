@@ -1,6 +1,6 @@
-//! A run of the command. It reads its settings from the arguments, gets its input, makes all symbols, and writes their
-//! drawing. If one of these steps fails, it writes the line of the fault. The first three steps make a drawing job: the
-//! symbols and how they are drawn.
+//! A run of the command has four steps: it reads its settings from the arguments, gets its input, makes all symbols,
+//! and writes their drawing. The first three steps make a drawing job: the symbols and how they are drawn. If a step
+//! fails, the run writes the line of the fault.
 //!
 //! The input is read to its end, or to `INPUT_MAX` bytes, which are more than 16 symbols can hold.
 
@@ -23,8 +23,8 @@ use std::borrow::CowSlice;
 // The most bytes that one read asks for.
 const CHUNK: usize = 4096;
 
-/// Returns the bytes that it has read. Interrupted reads are tried again, at most `INTERRUPTIONS_MAX` times in all. The
-/// label of the loop is for the prover.
+/// Reads `input` to its end or to `INPUT_MAX` bytes, and returns the bytes. Interrupted reads are tried again, at most
+/// `INTERRUPTIONS_MAX` times in all. The label of the loop is for the prover.
 pub(crate) fn read_input<R: Source>(alloc: Global, input: &mut R) -> Result<Vec<u8>, Fault>
     ensures { MatchResult result (λ bytes. HasRead (R.device input.old) (R.device input.new) bytes.items)
         (StopsReading (R.device input.old) (R.device input.new)) }
@@ -82,9 +82,9 @@ fn job_of(alloc: Global, input: &[u8], settings: &Settings) -> Result<DrawingJob
     })
 }
 
-// Does what `run` does, but returns the fault, whose line `run` then writes. If the input is a string among the
-// arguments, it is cut after `INPUT_MAX` bytes. No symbol or series holds so many bytes. A flush that fails is a write
-// fault.
+// Reads the settings and the input, makes the symbols, and writes their drawing. If one of these steps fails, it
+// returns the fault, and `run` writes the line of this fault. If the input is a string among the arguments, it is cut
+// after `INPUT_MAX` bytes. No symbol or series holds so many bytes. A flush that fails is a write fault.
 fn run_to_result<R: Source, W: Sink>(
     alloc: Global,
     words: &[String],

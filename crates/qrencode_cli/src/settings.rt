@@ -164,7 +164,7 @@ fn flag_in(matches: &ArgMatches<'_>, id: &str) -> bool
     text_in(matches, id) == Some("true")
 }
 
-// Returns the number of the option `id`, or `otherwise` if it is not given.
+// Returns the number that is given with the option `id`, or `otherwise` if the option is not given.
 fn number_in(matches: &ArgMatches<'_>, id: &str, otherwise: u8) -> u8
     ensures { result ≡ number_or otherwise (one_of id.now (rows_of (found_of matches.now))) }
 {

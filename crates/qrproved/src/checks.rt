@@ -1,7 +1,7 @@
-//! The macros `check!` and `check_eq!` for tests. They do what `assert!` and `assert_eq!` of the standard library do, but
-//! each is a call of one function. So the prover sees once, and not at each use, that the text is written and the process
-//! ends. The code after a `check!` may rely on its condition. After a `check_eq!` it may not rely on the two values being
-//! equal. If it has to, write a `check!` with `==`.
+//! The macros `check!` and `check_eq!` for tests. They do what `assert!` and `assert_eq!` of the standard library do,
+//! but each is a call of one function. So the prover sees once, and not at each use, how a check that fails writes its
+//! text and ends the process. The code after a `check!` may rely on its condition. After a `check_eq!` it may not rely
+//! on the two values being equal. If it has to, write a `check!` with `==`.
 
 ghost use Rattle.std.specs.Prelude.{◌≡◌, true};
 

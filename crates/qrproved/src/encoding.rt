@@ -197,7 +197,7 @@ mod tests {
         0b111111101110101010111,
     ];
 
-    // The number of the default interpretation, by which a symbol says nothing of what its bytes mean.
+    // The number of the default interpretation, with which a symbol says nothing of what its bytes mean.
     const DEFAULT: u32 = 1_000_000;
 
     fn nothing() -> QrprovedSymbol {
@@ -273,7 +273,7 @@ mod tests {
             check_eq!(rt; status, DONE, "{name}");
             check_eq!(rt; (symbol.version, symbol.mask), (least, mask), "{name}");
         }
-        // Each input with its level, its rule and the least version that it fits (Table 7).
+        // Each row has an input, its level, its rule and the least version that it fits (Table 7).
         let rows = [
             ("41 digits at L", &digits[..41], 0u32, 0u32, 1u8),
             ("42 digits at L", &digits[..], 0, 0, 2),
@@ -382,7 +382,8 @@ mod tests {
         Ok(())
     }
 
-    // Each input with the level that is asked for, and the version and the level that it gets (Table 7).
+    // Each row has an input, the lowest level that is allowed, and the version and the level that the symbol gets
+    // (Table 7).
     #[test]
     fn boost(rt: HostRuntime) -> Result<(), Fail> {
         let digits = [b'7'; 42];
@@ -417,8 +418,8 @@ mod tests {
         Ok(())
     }
 
-    // An ECI header takes 12, 20 or 28 bits, and FNC1 for GS1 data takes 4. Version 1 has room for 152 bits at level L.
-    // In byte mode 17 bytes take 148 of them, 16 take 140 and 15 take 132. In numeric mode 41 digits take 151.
+    // An ECI header takes 12, 20 or 28 bits, and FNC1 for GS1 data takes 4. At level L version 1 has a capacity of 152
+    // bits. In byte mode 17 bytes take 148 of them, 16 take 140 and 15 take 132. In numeric mode 41 digits take 151.
     #[test]
     fn interpretations_take_room(rt: HostRuntime) -> Result<(), Fail> {
         let letters = [b'a'; 18];

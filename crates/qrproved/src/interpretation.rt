@@ -36,7 +36,7 @@ pub(crate) fn write_ecis(changes: &[EciChange], out: &mut [QrprovedEci])
     }
 }
 
-/// Returns 0 and 0 without FNC1, 1 and 0 for FNC1 in first position, and 2 and the application indicator for FNC1 in
+/// Returns (0, 0) without FNC1, (1, 0) for FNC1 in first position, and 2 with the application indicator for FNC1 in
 /// second position.
 pub(crate) fn fnc1_numbers(fnc1: Option<Fnc1>) -> (u8, u8)
     ensures { TellsFnc1 fnc1 result.0 result.1 }

@@ -1,11 +1,13 @@
-//! A library for C, and for each language that can call C functions. Its functions are named calls here, and are
-//! declared in `include/qrproved.h`. They encode an input as a symbol or a series, read symbols, mend damaged ones,
-//! draw squares of modules, and parse drawings. A call writes modules, bytes, ECI headers and texts to buffers of the
-//! caller, and numbers to a struct or a variable of the caller. It keeps no memory, so there is nothing to free.
+//! A library for C, and for each language that can call C functions. In the comments of this crate a call is one of the
+//! library's functions, which `include/qrproved.h` declares. The calls encode an input as a symbol or a series, read
+//! symbols, mend damaged ones, draw squares of modules, and parse drawings. A call writes modules, bytes, ECI headers
+//! and texts to buffers of the caller, and numbers to a struct or a variable of the caller. It keeps no memory, so
+//! there is nothing to free.
 //!
-//! The promises hold if the caller fulfils the conditions under 'What the caller owes' in `docs/LIBRARY.md`. If a
-//! buffer is longer than the result, the bytes after the result stay as they are. On each status but 0 the buffer and
-//! the struct are unchanged. There is one exception: if a buffer is too short, `qrproved_draw` still sets `written`.
+//! The contracts of the calls hold if the caller fulfils the conditions under 'What the caller owes' in
+//! `docs/LIBRARY.md`. If a buffer is longer than the result, the bytes after the result stay as they are. On each
+//! status but 0 the buffers, structs and variables of the caller are unchanged. There is one exception: if a buffer is
+//! too short, `qrproved_draw` still sets `written`.
 //!
 //! If a call cannot do what it is asked for, it returns the status of the first cause that applies, in the order in
 //! which its comment lists the causes. If memory is refused, it returns `MEMORY`. The comment also names the causes

@@ -147,9 +147,9 @@ fn mended_of(len: usize, mended: &Mended) -> QrprovedMended
 }
 
 /// Reads the damaged symbol that `modules` begins with, and corrects its errors (ISO/IEC 18004:2015, 7.5.1, 7.9.1 and
-/// 12). The symbol has `side` rows, and its modules stand in the order in which `qrproved_encode` writes them. A module
-/// is 0 if it is light, 1 if it is dark, and 2 if it is not known. Two codewords with modules that are not known take
-/// as much error correction as one misread codeword. The bytes that the symbol contains are written to `bytes`, and its
+/// 12). The symbol has `side` rows, and its modules stand row by row, as `qrproved_encode` writes them. A module is 0
+/// if it is light, 1 if it is dark, and 2 if it is not known. Two codewords with modules that are not known take as
+/// much error correction as one misread codeword. The bytes that the symbol contains are written to `bytes`, and its
 /// ECI headers to `ecis`. If `ecis` is too short for all headers, only the first ones are written.
 ///
 /// On status 0 the square is a symbol with damage that can be mended. `bytes` and `ecis` begin with the bytes and the
@@ -273,7 +273,7 @@ mod tests {
         (8, 17),
     ];
 
-    // At 1-M four of the 26 codewords may be misread.
+    // At 1-M up to four misread codewords of the 26 can be corrected.
     #[test]
     fn eight_digits_are_mended(rt: HostRuntime) -> Result<(), Fail> {
         let drawn = eight_digits(&rt)?;

@@ -15,8 +15,8 @@ pub(crate) fn area(side: u8) -> usize
     usize::from(side) * usize::from(side)
 }
 
-// Calls `qr_matrix::write_square`. This function is not inlined. If it were, its variables would be on the stack during
-// the whole call of its caller, also while the caller encodes.
+// Calls `qr_matrix::write_square`, and is never inlined itself. If it were inlined into its caller, its variables would
+// be on the stack during the whole call of this caller, also while the caller encodes.
 #[inline(never)]
 pub(crate) fn write_square(matrix: &Matrix, start: usize, bytes: &mut [u8])
     requires { start + matrix.now.side * matrix.now.side ≤ length bytes.old }

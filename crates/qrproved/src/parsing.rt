@@ -40,10 +40,10 @@ fn number_of_drawing(drawing: Drawing) -> u8
 
 /// Parses the drawing `text`, and writes the modules of its squares to `modules`, one square after the other and row by
 /// row: 1 for a dark module, and 0 for a light one. The call accepts the drawings of 1 to 16 squares with a margin of 0
-/// to 255 modules, and no other text. All squares have one side, which is 8 to 177, and each begins as every symbol
-/// does: the module in row 0 and column 0 is dark, and the one in row 0 and column 7 is light. So the call accepts
-/// every drawing of symbols that `qrproved_draw` or the command makes. `qrproved_read` finds out whether such a square
-/// is a symbol.
+/// to 255 modules, and no other text. All squares have the same side, which is 8 to 177, and each begins as every
+/// symbol does: the module in row 0 and column 0 is dark, and the one in row 0 and column 7 is light. So the call
+/// accepts every drawing of symbols that `qrproved_draw` or the command makes. `qrproved_read` finds out whether such a
+/// square is a symbol.
 ///
 /// On status 0 the squares are in `modules`, and `drawn` has their number, their side, the type and the margin. `text`
 /// is the drawing of these squares with this type and this margin, and of no others.

@@ -79,7 +79,7 @@ pub(crate) fn content_of(len: usize, version: Version, parsed: &Parsed) -> Qrpro
 }
 
 /// Reads the symbol that `modules` begins with, and corrects no error (ISO/IEC 18004:2015, 12). The symbol has `side`
-/// rows, and its modules stand in the order in which `qrproved_encode` writes them. A module is light if it is 0, and
+/// rows, and its modules stand row by row, as `qrproved_encode` writes them. A module is light if it is 0, and
 /// otherwise dark. The bytes that the symbol contains are written to `bytes`, and its ECI headers to `ecis`. If `ecis`
 /// is too short for all headers, only the first ones are written.
 ///

@@ -27,18 +27,22 @@ pub struct QrprovedSeries {
 /// Encodes `input` as a series of symbols of the version `version`, or as one plain symbol if it fits one (ISO/IEC
 /// 18004:2015, 8). The modules are written to `modules`, one symbol after the other. The byte of `modules` with the
 /// index `(number * side + row) * side + column` is 1 if the module in this row and column of symbol `number` is dark,
-/// and 0 if it is light. Symbols, rows and columns are counted from 0. `level`, `rule` and `interpretation` mean what
-/// they mean in `qrproved_encode`. Each symbol states the interpretation.
+/// and 0 if it is light. Symbols, rows and columns are counted from 0. `level` is 0 to 3 for L, M, Q and H. `rule` is 0
+/// for all modes but kanji mode, 1 for byte mode alone, and 2 for all modes. `interpretation` is 0 to 999,999 for the
+/// ECI with this number, 1,000,000 for no interpretation, and 1,000,001 for GS1 data. In GS1 data the byte 1D
+/// (hexadecimal) separates fields. Each symbol states the interpretation.
 ///
 /// On status 0 the buffer begins with exactly the modules of the symbols, and `series` has their number and side.
-/// Reading and joining the symbols yields the input, and each symbol is read with the interpretation. Without kanji
-/// mode, no series of this version has fewer symbols.
+/// Reading and joining the symbols yields the input, and each symbol is read with the interpretation. If kanji mode is
+/// not allowed, no series of the input in this version and level has fewer symbols.
 ///
 /// # Errors
 ///
-/// The first of these that applies: `SETTINGS`, `EMPTY` and `FIELDS` as in `qrproved_encode`, `TOO_MANY` (the input
-/// takes more than 16 symbols) and `ROOM` (`modules` is too short). `MEMORY` if memory is refused. `SETTINGS`, `EMPTY`,
-/// `FIELDS`, and `TOO_MANY` for an input of more than 113,425 bytes are found before memory is requested.
+/// The first of these that applies: `SETTINGS` (a number is out of range, or `rule` is 2 with an ECI other than 20,
+/// which is Shift JIS), `EMPTY` (`input` has no byte), `FIELDS` (in GS1 data a byte 1D comes directly before another or
+/// before `%`), `TOO_MANY` (the input takes more than 16 symbols) and `ROOM` (`modules` is too short). `MEMORY` if
+/// memory is refused. `SETTINGS`, `EMPTY`, `FIELDS`, and `TOO_MANY` for an input of more than 113,425 bytes are found
+/// before memory is requested.
 #[unsafe(no_mangle)]
 pub extern "C" fn qrproved_encode_series(
     alloc: Global,

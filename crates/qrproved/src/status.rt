@@ -60,8 +60,8 @@ pub(crate) fn encode_status(fault: EncodeFault) -> u8
     }
 }
 
-// The fault `Series` never occurs here: only a function that reads several symbols at once returns it, and no call uses
-// that function.
+// The fault `Series` never occurs here. Only `join`, `read_series` and `mend_series`, the functions for whole series,
+// return it, and no call uses them.
 pub(crate) fn read_status(fault: ReadFault) -> u8
     ensures { result ≡ read_status fault }
 {

@@ -264,8 +264,8 @@ fn first_that_differs(rt: &impl Abort, slow: &Matrix, fast: &Matrix) -> Option<(
     None
 }
 
-// `build` and `build_masked` make the same symbols. Some of these versions have no remainder bits, and others three,
-// four or seven. Those from 7 on have version information.
+// `build` and `build_masked` make the same symbols. Some of the tested versions have no remainder bits, and others have
+// three, four or seven. Those from version 7 on have version information.
 #[test]
 fn slow_and_fast_symbols(rt: HostRuntime) -> Result<(), Fail> {
     for number in [1, 2, 7, 14, 21, 40] {

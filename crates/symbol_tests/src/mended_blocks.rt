@@ -46,9 +46,10 @@ fn block_of_eight_digits_damaged(rt: HostRuntime) {
     }
 }
 
-// Mends the same block after other damage: the codewords in `unread` are marked as erased, and those in `misread` are
-// misread. Returns how many misread codewords were corrected, or `None` if the block cannot be mended. The block can be
-// mended if the number of erased codewords and twice the number of misread ones add up to at most `spare`.
+// Mends the block of the input `01234567` at version 1 and level M: the codewords in `unread` are marked as erased, and
+// those in `misread` are misread. Returns how many misread codewords were corrected, or `None` if the block cannot be
+// mended. The block can be mended if the number of erased codewords and twice the number of misread ones add up to at
+// most `spare`.
 fn mended_with_erasures(
     rt: &impl Abort,
     spare: usize,

@@ -9,7 +9,7 @@ use qr_mending::{Mended, mend_series, mend_symbol, mend_symbol_with_unknown};
 use qr_symbol::{ReadFault, Symbol, encode_series};
 use std::test::Fail;
 
-// Returns the symbol of `eight_digits` with these modules inverted.
+// Returns the symbol of `01234567` at version 1 and level M with these modules inverted.
 fn inverted(rt: &HostRuntime, modules: &[(u8, u8)]) -> Result<Symbol, Fail> {
     let mut symbol = eight_digits(rt)?;
     for (row, col) in modules {
@@ -26,7 +26,8 @@ fn inverted(rt: &HostRuntime, modules: &[(u8, u8)]) -> Result<Symbol, Fail> {
 // and the number of wrong modules in the whole square.
 type Wrong = (usize, u8, u32);
 
-// Returns what was wrong in a symbol that was mended, which has to contain `01234567`.
+// Returns what was wrong in a symbol that was mended, or the fault if it was not. The mended symbol has to contain
+// `01234567`.
 fn wrong_in(mended: Result<Mended, ReadFault>) -> Result<Result<Wrong, ReadFault>, Fail> {
     match mended {
         Err(fault) => Ok(Err(fault)),
@@ -40,7 +41,7 @@ fn wrong_in(mended: Result<Mended, ReadFault>) -> Result<Result<Wrong, ReadFault
     }
 }
 
-// Mends the symbol that `inverted` returns.
+// Inverts these modules of the symbol of `01234567`, mends it, and returns what was wrong in it.
 fn mend_inverted(rt: &HostRuntime, modules: &[(u8, u8)]) -> Result<Result<Wrong, ReadFault>, Fail> {
     let symbol = inverted(rt, modules)?;
     wrong_in(mend_symbol(rt.alloc(), &symbol.matrix))
@@ -105,7 +106,8 @@ static CODEWORDS: [(u8, u8); 9] = [
     (12, 16),
 ];
 
-// Does the same as `mend_inverted`, but the first `unread` of the modules are marked as not known.
+// Inverts these modules of the symbol of `01234567`, marks the first `unread` of them as not known, mends the symbol,
+// and returns what was wrong in it.
 fn mend_inverted_without(
     rt: &HostRuntime,
     modules: &[(u8, u8)],

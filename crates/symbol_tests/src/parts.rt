@@ -107,7 +107,8 @@ fn numbers_of_symbols_at_1_h(rt: HostRuntime) -> Result<(), Fail> {
     Ok(())
 }
 
-// The longest inputs that 16 symbols of version 1 and level H can hold. All symbols are full.
+// The longest input in byte mode and the longest input of digits that 16 symbols of version 1 and level H can hold. All
+// symbols are full.
 #[test]
 fn sixteen_full_parts_at_1_h(rt: HostRuntime) -> Result<(), Fail> {
     let (letters, digits) = ([b'a'; 80], [b'7'; 176]);

@@ -72,8 +72,8 @@ fn eight_digits_with_a_module_inverted(rt: HostRuntime) -> Result<(), Fail> {
     Ok(())
 }
 
-// Each module of a symbol of version 1 is inverted by itself. 15 modules are the first copy of the format information,
-// 208 belong to codewords, and all others are ignored.
+// One after the other, each module of a symbol of version 1 is inverted alone. 15 modules are the first copy of the
+// format information, 208 belong to codewords, and all others are ignored.
 #[test]
 fn each_module_inverted(rt: HostRuntime) -> Result<(), Fail> {
     let mut symbol = eight_digits(&rt)?;

@@ -26,7 +26,7 @@ pub fn eight_digits(rt: &HostRuntime) -> Result<Symbol, Fail> {
     Ok(build_masked(rt.alloc(), version, Level::M, &EIGHT_DIGITS, 0)?)
 }
 
-/// Returns the data codewords of a header, if there is one, and a segment in byte mode.
+/// Returns the data codewords of a header, if there is one, and of one segment in byte mode.
 pub fn byte_codewords(
     rt: &HostRuntime,
     bytes: &[u8],
@@ -58,7 +58,8 @@ pub fn byte_codewords(
     )?)
 }
 
-/// Returns the symbol with the data codewords that `byte_codewords` returns, and with the mask of least penalty.
+/// Returns the symbol of version 1 with a header, if there is one, and one segment in byte mode. It has the mask of
+/// least penalty.
 pub fn byte_symbol(
     rt: &HostRuntime,
     bytes: &[u8],

@@ -138,7 +138,8 @@ struct Damaged {
 }
 
 // Damages the first codewords of the final sequence. Interleaving takes one codeword of each block in turn. So if there
-// are n blocks, the first n codewords are one of each block, and so are the next n, as long as no block has ended.
+// are n blocks, the first n codewords are one codeword of each block. The same is true of the next n codewords, as long
+// as no block has run out of data codewords.
 fn damage(alloc: Global, symbol: &Symbol, random: &mut Random) -> Result<Damaged, AllocError> {
     let sizes = symbol.version.blocks(symbol.level);
     let blocks = usize::from(sizes.short) + usize::from(sizes.long);
@@ -218,7 +219,7 @@ fn add_all_mended(
     Ok(())
 }
 
-/// Mends symbols of versions 2 to 13, and every sixteenth time one of version 40 at level H. Each symbol is mended in
+/// Mends symbols of versions 2 to 15, and every sixteenth time one of version 40 at level H. Each symbol is mended in
 /// five states: sound, with one wrong codeword in each block, with as many wrong codewords as can be mended, with a
 /// smudge, and with one wrong codeword more than can be mended.
 pub fn mend(alloc: Global, count: u64, seed: u64, digest: &mut Digest) -> Result<(), AllocError> {

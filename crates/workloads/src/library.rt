@@ -48,7 +48,7 @@ fn small_symbol(
     symbol_of(alloc, &text, LEVELS[level], Version::FIRST)
 }
 
-// Makes a symbol of a version from 20 to 40 that is full.
+// Makes a full symbol of a version from 20 to 40.
 fn large_symbol(
     alloc: Global,
     turn: u64,
@@ -73,8 +73,8 @@ fn large_symbol(
 struct Change {
     // The bits that are inverted; 0 if the codeword stays as it is.
     bits: u8,
-    // The codewords of a block that change are drawn by lot. The rank is 1 for the first that was drawn, 2 for the
-    // second, and so on, and 0 for a codeword that was not drawn.
+    // This is 1 for the first codeword of a block that was chosen at random, 2 for the second, and so on, and 0 for a
+    // codeword that was not chosen. Only the chosen codewords change.
     rank: u8,
 }
 
@@ -113,7 +113,7 @@ fn changes(
         let is_long = block >= usize::from(sizes.short);
         let len = usize::from(sizes.short_len) + usize::from(is_long) + usize::from(sizes.ec_len);
         let mut rank = 1u8;
-        // If a codeword was drawn before, another is drawn in its place. 1,000 tries are far more than are needed.
+        // If a codeword was chosen before, another is chosen in its place. 1,000 tries are far more than are needed.
         for _ in 0..1000 {
             if rank > bound {
                 break;
@@ -133,8 +133,8 @@ fn changes(
 #[derive(Drop)]
 struct Buffers {
     sound: Vec<u8>,
-    // The next three have wrong codewords in each block: one, half as many as can be mended, and as many as can be
-    // mended.
+    // The next three buffers have wrong codewords in each block: one, half as many as can be mended, and as many as can
+    // be mended.
     one: Vec<u8>,
     half: Vec<u8>,
     bound: Vec<u8>,
@@ -309,7 +309,7 @@ fn add_damaged(
     add_mending(alloc, &buffers.smudged, side, digest)
 }
 
-// Writes the symbol as bytes, and does with them what the job does with each symbol.
+// Writes the symbol as bytes, draws and reads it, damages copies of it, and mends these copies.
 fn add_symbol(
     alloc: Global,
     symbol: &Symbol,

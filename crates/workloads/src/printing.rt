@@ -1,5 +1,5 @@
-//! The jobs of the command: labels, large symbols, series, and inputs that are awkward. For each input
-//! `qrencode_cli::run` is called with devices in memory.
+//! The jobs of the command: labels, large symbols, series, and awkward inputs, such as kanji pairs between letters or
+//! an input with one byte too many for a version. For each input `qrencode_cli::run` is called with devices in memory.
 
 ghost use Rattle.std.specs.Prelude.{◌<◌};
 
@@ -21,7 +21,7 @@ static BYTES: [(usize, usize); 4] = [(792, 2953), (624, 2331), (442, 1663), (338
 // The most digits that versions 19 and 40 hold, at the same levels.
 static DIGITS: [(usize, usize); 4] = [(1903, 7089), (1500, 5596), (1063, 3993), (813, 3057)];
 
-// One byte more than version 9 or version 26 holds in byte mode, at the same levels.
+// One byte more than version 9 or version 26 holds in byte mode, at the levels L, M, Q and H.
 static TOO_MANY: [(usize, usize); 4] = [(231, 1368), (181, 1060), (131, 752), (99, 594)];
 
 const LABEL_ROOM: usize = 120_000;
@@ -30,7 +30,7 @@ const SYMBOL_ROOM: usize = 400_000;
 
 const SERIES_ROOM: usize = 4_000_000;
 
-// Returns the arguments of the command, after its name.
+// Returns the command's name, and then `words`.
 fn arguments(alloc: Global, words: &[&str]) -> Result<Vec<String>, AllocError> {
     let mut list = Vec::with_capacity(alloc, words.len() + 1)?;
     list.push(String::from_str(alloc, "qrencode")?)?;
@@ -79,7 +79,8 @@ pub fn labels(alloc: Global, count: u64, seed: u64, digest: &mut Digest) -> Resu
     Ok(())
 }
 
-// Makes a text of one of five kinds, so long that it takes a version from 18 to 40.
+// Makes a text so long that it takes a version from 18 to 40. `kind` is 0 for words, 1 for JSON records, 2 for Base64,
+// 3 for digits, and 4 for runs of digits, of capitals and of small letters.
 fn large_text(
     alloc: Global,
     random: &mut Random,
@@ -118,7 +119,8 @@ pub fn large(alloc: Global, count: u64, seed: u64, digest: &mut Digest) -> Resul
     Ok(())
 }
 
-// The text of one series, of 1 to 44 kB for version 40, of 500 to 1,600 bytes for versions 5 to 10, or in Shift JIS.
+// Makes the text of one series: JSON records or runs of 1 to 44 kB for version 40, words of 500 to 1,600 bytes for
+// versions 5 to 10, or kanji pairs in Shift JIS for version 7 or 40.
 fn series_text(alloc: Global, kind: u64, random: &mut Random) -> Result<Text, AllocError> {
     let mut text = Text::new(alloc);
     let (least, most) = match kind {
@@ -186,7 +188,9 @@ pub fn series(alloc: Global, count: u64, seed: u64, digest: &mut Digest) -> Resu
     Ok(())
 }
 
-// An awkward text of one of five kinds.
+// Makes a text of one of five kinds: JSON records of 60,000 bytes or more, a few runs, many runs, kanji pairs, or
+// Base64 that is one byte too long for version 9 or 26. Each run of digits, of capitals or of small letters is so short
+// that a segment of its own saves few bits or none.
 fn awkward_text(
     alloc: Global,
     turn: u64,
@@ -251,9 +255,9 @@ fn add_awkward(
     }
 }
 
-/// Takes awkward inputs. Some consist of runs for which a segment of their own saves few bits or none. Some have kanji
-/// pairs that begin after an odd number of bytes. Some have one byte more than version 9 or 26 holds, some are series
-/// of version 1, and some would take more than 16 symbols.
+/// Takes awkward inputs of these five kinds. Some consist of runs for which a segment of their own saves few bits or
+/// none. Some have kanji pairs that begin after an odd number of bytes. Some have one byte more than version 9 or 26
+/// holds, some are drawn as series of version 1, and some would take more than 16 symbols.
 pub fn awkward(
     alloc: Global,
     count: u64,

@@ -37,7 +37,7 @@ impl Random {
         least + self.below(most - least)
     }
 
-    /// Does for bytes what `between` does.
+    /// Returns a byte from `least` on and below `most`, or `least` if there is no such byte.
     pub fn byte_between(&mut self, least: u8, most: u8) -> u8 {
         if most <= least {
             return least;
@@ -45,7 +45,7 @@ impl Random {
         least + self.below(usize::from(most - least)) as u8
     }
 
-    /// Returns an item of `items`, or 0 if there is none.
+    /// Returns one of the bytes in `items`, or 0 if `items` is empty.
     pub fn byte_of(&mut self, items: &[u8]) -> u8 {
         if items.is_empty() {
             return 0;
