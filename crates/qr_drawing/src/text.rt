@@ -4,7 +4,7 @@
 //!
 //! Most modules are read eight at a time, and most cells are appended four at a time, by one or two copies from a
 //! table. In names, `eight` means eight neighbouring modules of a row, `quad` four and `pair` two. These modules are
-//! the bits of a number. Bit 0 is the leftmost module, and a bit that is 1 is dark.
+//! the bits of a number. Bit 0 is the leftmost module, and a bit that is 1 stands for a dark module.
 //!
 //! A raster has fewer than 1,000 rows (`drawing.rt` says why). So the number of a line, counted from 0, is below 1,000.
 //! The first row of modules that a line shows has a number below 2,000.

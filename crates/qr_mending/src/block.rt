@@ -1,9 +1,10 @@
 //! Mends damaged blocks (ISO/IEC 18004:2015, 7.5.1 and Annex B). The codewords of a block are the coefficients of a
 //! polynomial, that of the highest power first. If the block is undamaged, the generator polynomial divides this
-//! polynomial. Codewords whose polynomial it divides are called a block of the code. The syndromes of a damaged block
-//! are the values of its polynomial at 2^0, 2^1 and so on, as many as there are error correction codewords. If the
-//! polynomial of a damaged block is divided by the generator polynomial, the remainder has the same syndromes and fewer
-//! coefficients. So the syndromes are computed from the remainder, and only as many of them as are needed.
+//! polynomial. Codewords are called a block of the code if the generator polynomial divides their polynomial. The
+//! syndromes of a damaged block are the values of its polynomial at 2^0, 2^1 and so on, as many as there are error
+//! correction codewords. If the polynomial of a damaged block is divided by the generator polynomial, the remainder has
+//! the same syndromes and fewer coefficients. So the syndromes are computed from the remainder, and only as many of
+//! them as are needed.
 //!
 //! A candidate for the mended block is computed from the syndromes. It is taken only if it is a block of the code, and
 //! differs in few enough codewords from what was read.
@@ -23,8 +24,8 @@ use crate::locator::Progress;
 use arrayvec::ArrayVec;
 use qr_field::Divisor;
 
-// The loop runs from the last index to the first, since the definition `differences` takes the first items off the
-// lists: what it says of the later items is known first.
+// The loop runs from the last index to the first, because the definition `differences` is recursive, and computes its
+// value for two lists from that for their tails.
 fn count_differences(xs: &[u8], ys: &[u8]) -> usize
     requires { length xs.now ≡ length ys.now }
     ensures { result ≡ differences xs.now ys.now }
@@ -39,7 +40,7 @@ fn count_differences(xs: &[u8], ys: &[u8]) -> usize
 }
 
 // Returns whether the codewords are a block of the code: whether the last of them are the error correction codewords
-// that belong to those before.
+// that belong to the codewords before them.
 pub(crate) fn is_block(divisor: &Divisor, codewords: &[u8]) -> bool
     requires { divisor.now ≤ length codewords.now }
     ensures { Decides result (IsBlock divisor.now codewords.now) }

@@ -69,7 +69,8 @@ fn candidate(remainder: &[u8], spare: usize, erased: &[bool], damaged: &[u8]) ->
 }
 
 // Counts the codewords that are not erased, and differ from those of the mended block. The loop runs from the last
-// index to the first, as in `count_differences`.
+// index to the first, because the definition `errors` is recursive, and computes its value for two lists from that for
+// their tails.
 #[tactic(auto, using(crate::proofs::Named::erasure_facts))]
 fn count_misread(codewords: &[u8], erased: &[bool], mended: &[u8]) -> usize
     requires marks { length erased.now ≡ length codewords.now }

@@ -55,7 +55,7 @@ fn is_bit_set(word: u16, i: u8) -> bool
     word >> i & 1 == 1
 }
 
-// How many of the bits of a copy are 1.
+// How many of the 15 lowest bits of `word` are 1.
 fn count_bits(word: u16) -> u8
     ensures value { result ≡ count_below FORMAT_BITS (has_bit word) }
     ensures most { result ≤ FORMAT_BITS }

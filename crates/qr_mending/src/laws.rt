@@ -56,8 +56,8 @@ pub fn blocks_mended_with_erasures_are_one()
         → IsMendedWithErasures n spare read b → IsMendedWithErasures n spare read c → b ≡ c }
 {}
 
-/// If no codeword is erased, mending by at most `spare` error correction codewords has the same results as mending of
-/// at most half as many misread codewords, rounded down.
+/// If no codeword is erased, mending that uses up at most `spare` error correction codewords has the same results as
+/// mending that corrects at most `spare` / 2 misread codewords. The quotient is rounded down.
 pub fn blocks_without_erasures_are_mended_alike()
     ensures { (n spare k : ℕ) (damaged mended : List ℕ)
         → IsMendedWithErasures n spare (read_of damaged (replicate k false)) mended ↔ IsMended n (spare / 2) damaged mended }
@@ -96,8 +96,9 @@ pub fn near_format_is_one()
 
 /// In the cost of a copy, a module that was not read counts once, and a misread one twice. In the number of wrong
 /// modules each of them counts once. `format_cost` and `wrong_format_modules` add up the numbers of both copies. The
-/// example is a light square of 21 rows that is compared with the format information of level M and mask 0. One module
-/// of its first copy was not read. A level and a mask are near to a copy at a cost of 6, and not at 7.
+/// example in the clause `costs` is a light square of 21 rows that is compared with the format information of level M
+/// and mask 0. One module of its first copy was not read. A level and a mask are near to a copy at a cost of 6, and not
+/// at 7.
 pub fn format_costs_compute()
     ensures near { (unknown g : Grid) (copy : FormatCopy) (l : Level) (mask : ℕ) → mask < 8
         → copy_cost unknown copy g l mask ≡ 6 → IsNearFormat unknown copy g l mask }
@@ -113,23 +114,23 @@ pub fn format_costs_compute()
         ∷ record { row = 20; col = 8 } ∷ [] }
 {}
 
-/// With a given version and level, the codewords of a damaged symbol are mended to at most one message, and each block
-/// has at most one number of misread codewords.
+/// With a given version and level, the codewords of a damaged symbol are mended to at most one message. For each block,
+/// the number of its misread codewords has at most one possible value.
 pub fn mended_messages_are_one(version: Version, level: Level)
     ensures { (unknown : Grid) (cw m n x y : List ℕ) → IsMendedIn unknown version level cw m x
         → IsMendedIn unknown version level cw n y
         → (m ≡ n) × (x ≡ y) }
 {}
 
-/// A damaged symbol, whether or not all its modules were read, is read as at most one content, with one version, level
-/// and mask, and one number of misread codewords for each block.
+/// Reading a damaged symbol has at most one result, whether or not all modules of the symbol were read. The result is a
+/// version, a level, a mask, a content, and for each block the number of its misread codewords.
 pub fn mended_readings_are_one()
     ensures { (unknown : Grid) (g : Grid) (v w : ℕ) (l k : Level) (m n : ℕ) (p q : Content) (x y : List ℕ)
         → IsMendedReading unknown g v l m p x → IsMendedReading unknown g w k n q y
         → (v ≡ w) × (l ≡ k) × (m ≡ n) × (p ≡ q) × (x ≡ y) }
 {}
 
-/// A damaged symbol has at most one number of wrong modules.
+/// The number of wrong modules of a damaged symbol has at most one possible value.
 pub fn wrong_modules_are_one()
     ensures { (unknown : Grid) (g : Grid) (v w : ℕ) (l k : Level) (m n : ℕ) (x y : List ℕ) (a b : ℕ)
         → HasWrongModules unknown g v l m x a → HasWrongModules unknown g w k n y b → a ≡ b }
@@ -195,8 +196,9 @@ pub fn symbols_lie_apart(version: Version)
 {}
 
 /// There are two cases in which a damaged symbol has to be read with a certain level and mask (`HasFormat`). In the
-/// first, both copies together cost at most 13 with this pair. In the second, the pair is near to one copy, whatever
-/// the other copy shows, and no other pair that is near to a copy mends the symbol.
+/// first case, both copies together cost at most 13 with this pair of level and mask. In the second case, the pair is
+/// near to one copy, whatever the other copy shows, and with no other pair that is near to a copy can all blocks be
+/// mended.
 pub fn formats_are_found()
     ensures sure { (unknown : Grid) (v : ℕ) (g : Grid) (l : Level) (mask : ℕ) → mask < 8 → format_cost unknown g l mask ≤ 13
         → HasFormat unknown v g l mask }
@@ -208,8 +210,9 @@ pub fn formats_are_found()
 {}
 
 /// Unless memory is refused, a damaged symbol is mended to exactly its input if its blocks can be mended and the format
-/// information gives its level and mask; `formats_are_found` says when it does. All other modules may have any colour.
-/// The numbers of misread codewords and of wrong modules are exact.
+/// information gives its level and mask; `formats_are_found` says when it does. Modules that belong neither to a
+/// codeword nor to the format information may have any colour. The numbers of misread codewords and of wrong modules
+/// are exact.
 pub fn damaged_symbols_are_mended(
     alloc: Global,
     damaged: &Matrix,

@@ -7,8 +7,8 @@
 //!
 //! The syndromes are taken in one by one. With each syndrome one more equation can be tested: the one in which this
 //! syndrome is multiplied by the leading coefficient. If the polynomial does not solve this equation, a multiple of an
-//! earlier polynomial is added to it, and its degree may rise. The degree is never higher than the number of misread
-//! codewords.
+//! earlier polynomial is added to the polynomial, whose degree may then rise. The degree is never higher than the
+//! number of misread codewords.
 
 ghost use Rattle.std.specs.Prelude.{◌≡◌, ℕ, ◌+◌, ◌*◌, ◌<◌, ◌≤◌, List, false, length};
 ghost use Rattle.std.specs.Bool.{OnTrue, OnFalse};
@@ -138,9 +138,9 @@ impl Progress {
         }
     }
 
-    // Takes in further syndromes, until `2 * t` of them were taken in. If `early` is true, it stops as soon as `best`
-    // solves two equations more than its degree, since `best` then seldom changes any more. If the degree would rise
-    // above `t`, returns false; then more than `t` codewords are misread.
+    // Takes in further syndromes, until `2 * t` of them were taken in. If `early` is true, the function stops as soon
+    // as the number of equations that `best` solves is its degree plus 2, since `best` then seldom changes any more. If
+    // the degree would rise above `t`, returns false; then more than `t` codewords are misread.
     pub(crate) fn advance(&mut self, remainder: &[u8], t: usize, early: bool) -> bool
         requires progress { IsProgress t remainder.now self.old }
         requires small { t ≤ 15 }

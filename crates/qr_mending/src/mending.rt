@@ -94,8 +94,8 @@ fn is_certain(scan: &Scan, mended: &Option<MendedSquare>) -> bool
     }
 }
 
-// Returns the mended square whose level and mask cost less over both copies, or the first if they cost the same; if
-// there is only one, it is returned.
+// Returns the mended square with whose level and mask both copies together cost less, or the first square if the costs
+// are equal. If there is only one square, it is returned.
 fn nearer(
     scan: &Scan,
     first: Option<MendedSquare>,
@@ -117,10 +117,11 @@ fn nearer(
     Some(first)
 }
 
-// Returns the square that is mended with one of the pairs of level and mask that are near to a copy. Of those with
-// which the symbol can be mended, it takes the pair with the least cost over both copies, and at equal costs the pair
-// near to the first copy. The second copy is not tried in two cases: if the pair near to the first copy mends the
-// symbol and costs at most `COST_CERTAIN`, or if the same pair is near to both copies.
+// Returns the square that is mended with one of the pairs of level and mask that are near to a copy. Of the pairs with
+// which all blocks can be mended, it takes the one with which both copies together cost least, and at equal costs the
+// one near to the first copy. If all blocks can be mended with the pair near to the first copy, and both copies
+// together cost at most `COST_CERTAIN` with this pair, no other pair is tried. A pair that is near to both copies is
+// tried only once.
 fn mend_by_format(alloc: Global, scan: &Scan) -> Result<Option<MendedSquare>, ReadFault>
     ensures mended { IfOk result (IsMendedByEither scan.now.unknown.now scan.now.version scan.now.matrix.now) }
     ensures fault { IfErr result (λ e. e ≡ ReadFault.Memory) }
@@ -218,8 +219,8 @@ pub struct Mended {
 /// Suppose that the symbol has a certain level and mask. Then a copy costs 1 for each of its modules that was not read,
 /// and 2 for each that is misread. If it costs at most 6, this pair of level and mask is near to the copy, and no other
 /// pair is. Of the near pairs with which every block can be mended, the one with the least cost of both copies together
-/// is taken. If two of these pairs cost the same, the one that is near to the first copy is taken. This is the copy
-/// beside the top left finder pattern.
+/// is taken. If this cost is the same for two pairs, the pair that is near to the first copy (the copy beside the top
+/// left finder pattern) is taken.
 ///
 /// So a damaged symbol becomes exactly the undamaged one if its blocks can be mended and both copies together cost at
 /// most 13 with its level and mask. If six modules of format information are misread or were not read, whichever they
@@ -280,7 +281,8 @@ pub fn mend_symbol_with_unknown(
     })
 }
 
-/// Does what `mend_symbol_with_unknown` does, for a symbol of which every module was read.
+/// Reads a damaged symbol and corrects its damage, as `mend_symbol_with_unknown` does for a symbol of which every
+/// module was read.
 ///
 /// # Errors
 ///

@@ -101,7 +101,8 @@ pub(crate) fn interleaved(
     Ok(interleaved)
 }
 
-// As `Marks`, but the marks are in the order of the blocks.
+// A mark for each codeword of a symbol, as in `Marks`, but deinterleaved: one block comes after the other. `AllZero`
+// stands for lists of zeros.
 #[derive(Drop)]
 enum MarksInBlocks {
     AllZero,

@@ -1,5 +1,6 @@
 //! Values of polynomials, and sums of products, over the field of 256 elements. The syndromes of a block are values of
-//! a polynomial, and Chien's search looks for values that are 0. Sixteen values are computed at once.
+//! a polynomial, and the roots of the locator are found by testing which of its values are 0. Sixteen values are
+//! computed at once.
 
 ghost use Rattle.std.specs.Prelude.{◌≡◌, ℕ, ◌+◌, ◌*◌, ◌<◌, ◌≤◌, length, bit_xor, slice_index};
 ghost use Rattle.arrayvec.specs.ArrayVec.{array_vec_len};
@@ -13,9 +14,10 @@ ghost use Rattle.qr_mending.specs.Steps.Values.{sum_at};
 use arrayvec::ArrayVec;
 use qr_field::{doubled, exponent_of, mul, power_of};
 
-// The table has an item for each digit d from 0 to 3 and each number j from 0 to 30, at the index 4 * j + d. Such an
-// item has sixteen products, one in each byte, the first in the lowest byte: the products of d and 2 to the powers 0,
-// j, 2 * j and so on up to 15 * j.
+// In the sums of products below (`Sums`), one factor of each product is cut into four digits to the base 4. The table
+// has an item for each value d of such a digit, from 0 to 3, and each number j from 0 to 30, at the index 4 * j + d.
+// This item has sixteen products, one in each byte, the first in the lowest byte: the products of d and 2 to the powers
+// 0, j, 2 * j and so on up to 15 * j.
 static MULTIPLES: [u128; 124] = [
     0,
     0x01010101_01010101_01010101_01010101,
@@ -144,8 +146,8 @@ static MULTIPLES: [u128; 124] = [
 ];
 
 // The sum of products: each item of `terms` is multiplied by the item of `factors` at the same index. Further items of
-// `factors` are left out. The loop runs from the last index to the first, since the definition `dot_of` takes the first
-// items off the lists.
+// `factors` are left out. The loop runs from the last index to the first, because the definition `dot_of` is recursive,
+// and computes its value for two lists from that for their tails.
 #[tactic(auto, using(crate::proofs::Named::value_facts))]
 pub(crate) fn dot(terms: &[u8], factors: &[u8]) -> u8
     requires { length terms.now ≤ length factors.now }
@@ -223,8 +225,8 @@ fn fourfold(elements: u128) -> u128
 
 // Sixteen sums of products. One factor of each product is cut into four digits to the base 4, which have the weights
 // 64, 16, 4 and 1. The other factor is a power of 2, and the table `MULTIPLES` has its products with the digits. Each
-// field is for the digits of one weight, and has sixteen sums of such products, one in each byte. Only at the end, in
-// `values`, is each field multiplied by its weight, and the four results are added.
+// field of the struct is for the digits of one weight, and has sixteen sums of such products, one in each byte. Only at
+// the end, in `values`, is each field multiplied by its weight, and the four results are added.
 #[derive(Clone, Copy)]
 pub(crate) struct Sums {
     pub(crate) ones: u128,
@@ -263,8 +265,9 @@ impl Sums {
 }
 
 // The values at 2 to the powers `first` to `first` + 15 of the polynomial whose coefficients are `terms`, that of the
-// lowest power first. Chien's search looks for values that are 0. The loop runs from the last coefficient to the first,
-// since the definition `eval` takes the first coefficient off the list.
+// lowest power first. `errors.rt` looks for values of the locator that are 0. The loop runs from the last coefficient
+// to the first, because the definition `eval` is recursive, and computes its value for a list of coefficients from that
+// for the tail of the list.
 pub(crate) fn sixteen_values(terms: &[u8], first: u8) -> [u8; 16]
     requires { length terms.now ≤ 31 }
     ensures { (k : ℕ) → k < 16 → slice_index result k ≡ eval (power (first + k)) terms.now }
@@ -278,7 +281,8 @@ pub(crate) fn sixteen_values(terms: &[u8], first: u8) -> [u8; 16]
 }
 
 // Sixteen values of a polynomial: those at 2^`first` to 2^(`first` + 15). Its coefficients are `remainder`, with the
-// coefficient of the highest power first. The loop runs backward, as in `sixteen_values`.
+// coefficient of the highest power first. The loop runs from the last coefficient to the first, because the definition
+// `value_at` is recursive, and computes its value for a list of coefficients from that for the tail of the list.
 fn sixteen_syndromes(remainder: &[u8], first: u8) -> [u8; 16]
     requires { length remainder.now ≤ 30 }
     ensures { (k : ℕ) → k < 16 → slice_index result k ≡ value_at (first + k) remainder.now }

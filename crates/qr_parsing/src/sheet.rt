@@ -44,8 +44,7 @@ pub(crate) struct Sheet<'a> {
     ghost whole: { HasPlaces kind width count bytes.now },
 }
 
-// Returns the index of the byte that shows a module. The ASCII types have two such bytes, and it is the index of the
-// first.
+// Returns the index of the byte that shows a module, or of the first of the two bytes that show it in the ASCII types.
 #[tactic(auto, using(crate::proofs::Named::index_facts))]
 fn index_of(kind: Drawing, width: usize, k: usize, y: usize, x: usize) -> usize
     requires width_in { width < 1000 }
@@ -115,8 +114,8 @@ pub(crate) fn margin_of(sheet: &Sheet) -> usize
 
 // Writes the modules of a row into `modules`, a byte for each. The byte of `bytes` at the index `first` shows the first
 // module, the byte at the index `first + step` the second, and so on. A byte shows a dark module if it is one of the
-// two `signs`. This function is inlined into a call for each type of drawing. There `step` is a constant, so the
-// compiled loop compares many bytes at once.
+// two `signs`. This function is inlined at each of its calls, of which there is one for each type of drawing. In each
+// call `step` is a constant, so the compiled loop compares many bytes at once.
 #[inline(always)]
 fn write_by(bytes: &[u8], first: usize, step: usize, signs: (u8, u8), modules: &mut [u8])
     requires step_in { step ≤ 2 }

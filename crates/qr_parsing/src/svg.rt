@@ -104,7 +104,7 @@ pub(crate) fn size_in(text: &[u8]) -> Option<Size>
 
 // Reads the decimal number that begins at index `at`. Returns the number, and the index after the byte that follows it.
 // If there is no digit at `at`, the number is 0. Returns `None` if the number has more than five digits, or if fewer
-// than six bytes are left, which never happens at a number of a drawing.
+// than six bytes are left from `at` on. Neither happens at a number of a box of a drawing.
 #[inline(always)]
 fn number_after(text: &[u8], at: usize) -> Option<(u32, usize)>
     requires { at ≤ length text.now }
@@ -143,7 +143,7 @@ fn box_at(text: &[u8], at: usize) -> Option<(DarkBox, usize)>
         → MatchOption result (numbers ≡ []) (λ s. (high back : ℕ) × (more : List ℕ)
         × (numbers ≡ s.0.x ∷ s.0.y ∷ s.0.modules ∷ high ∷ back ∷ more) × IsPath more (drop s.1 text.now)) }
 {
-    // At a box more than seven bytes are left: the `M`, and the six that `number_after` needs.
+    // At a box at least seven bytes are left: the `M`, and the six that `number_after` needs.
     if at + 7 > text.len() || text[at] != b'M' {
         return None;
     }

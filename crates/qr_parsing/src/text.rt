@@ -53,7 +53,7 @@ pub(crate) fn kind_in(text: &[u8]) -> Drawing
 }
 
 /// Returns the sheet of a text of an ASCII type. The bytes of the sheet are the text itself. Returns `None` only if no
-/// drawing can be as wide as this text, or have as many rasters.
+/// drawing can be as wide as this text.
 pub(crate) fn ascii_sheet(text: &[u8], kind: Drawing) -> Option<Sheet<'_>>
     requires ascii { (kind ≡ Drawing.Ascii) ⊎ (kind ≡ Drawing.AsciiInverse) }
     requires kind { kind ≡ kind_in text.now }
@@ -102,7 +102,7 @@ pub(crate) fn cells_in(alloc: Global, text: &[u8]) -> Result<Vec<u8>, AllocError
 }
 
 /// Returns the sheet of a UTF8 text. The bytes of the sheet are `cells`, which `cells_in` has made from the text.
-/// Returns `None` only if no drawing can be as wide as this text, or have as many rasters.
+/// Returns `None` only if no drawing can be as wide as this text.
 pub(crate) fn cell_sheet(cells: &[u8]) -> Option<Sheet<'_>>
     ensures { (text : List ℕ) → kind_in text ≡ Drawing.Utf8 → cells.now ≡ cells_in text
         → MatchOption result (HasNoSheet text) (λ s. IsSheetOf s.kind s.width s.count s.bytes.now text) }

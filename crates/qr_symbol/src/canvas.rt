@@ -54,9 +54,10 @@ impl Canvas {
     }
 
     // Draws the codewords of a symbol. If `unmasked` has those of an earlier symbol, they are replaced. The codewords
-    // are drawn into the square that `unmasked` has before the call, as if it were transposed. This is possible because
-    // outside the region, exchanging rows and columns changes no colour of `unmasked`. Afterwards `across` has the
-    // square that was drawn, and `unmasked` has this square with rows and columns exchanged.
+    // are drawn into the square that `unmasked` has before the call, which is used as if it were already transposed.
+    // This is possible because outside the region, exchanging rows and columns changes no colour of `unmasked`.
+    // Afterwards `across` has the square that was drawn, and `unmasked` has this square with rows and columns
+    // exchanged.
     #[inline(never)]
     pub(crate) fn draw_data(&mut self, across: &mut Matrix, codewords: &[u8])
         requires { IsSquare (side_of self.old.version) across.old }
@@ -84,10 +85,10 @@ impl Canvas {
         draw_format(matrix, self.version, format);
     }
 
-    // As `draw_masked`, but draws into two squares, each under a mask of its own. Rows whose indices differ by a
-    // multiple of twelve have the same pattern, and are set together. On the processor, a write to a row has to wait
-    // until the previous write to this row is done. So the bits of the format information in row 8 are written several
-    // at a time, which takes fewer writes.
+    // Draws the symbol into both squares of `pair`, each under a mask of its own and with the format information of
+    // this mask. A mask has the same pattern in all rows whose indices differ by a multiple of twelve, so these rows
+    // are set together. On the processor, a write to a row has to wait until the previous write to this row is done. So
+    // the bits of the format information in row 8 are written several at a time, which takes fewer writes.
     pub(crate) fn draw_both_masked(&self, pair: &mut MatrixPair, masks: (u8, u8))
         requires masks_in { (masks.0 < 8) × (masks.1 < 8) }
         requires squares { (second : Bool) → IsSquare (side_of self.now.version) (one_of pair.old second) }
@@ -103,7 +104,7 @@ impl Canvas {
             u64::from(format_word(self.level, masks.0)),
             u64::from(format_word(self.level, masks.1)),
         );
-        // In column 8 the first copy has bits 0 to 7, and the second copy has bits 8 to 14.
+        // In column 8 the first copy of the format information has bits 0 to 7, and the second copy has bits 8 to 14.
         for bit in 0..FORMAT_BITS {
             let place = if bit < 8 {
                 format_place(bit)
@@ -117,9 +118,11 @@ impl Canvas {
                 (formats.0 >> bit, formats.1 >> bit),
             );
         }
-        // Row 8 has the bits in reverse order, from left to right. After a word is reversed, they are its highest bits,
-        // and the `others` below them are 0. The first copy has bits 14 to 9 in columns 0 to 5, then a module of the
-        // timing pattern, and then bits 8 and 7. The second copy has bits 7 to 0 in the last eight columns.
+        // From left to right, row 8 has the bits of the format information from the highest to the lowest. But
+        // `set_columns` takes bit 0 for the leftmost module, so the words are reversed. Then the highest 15 bits of a
+        // word are those of the format information, and the `others` below them are 0. The first copy has bits 14 to 9
+        // in columns 0 to 5, then a module of the timing pattern, and then bits 8 and 7. The second copy has bits 7 to
+        // 0 in the last eight columns.
         let others = 64 - FORMAT_BITS;
         let across = (reversed(formats.0) >> others, reversed(formats.1) >> others);
         pair.set_columns(8, 0, 6, across);

@@ -62,7 +62,7 @@ fn collect_columns(
     }
 }
 
-// As `collect_columns`, but takes the columns of the strip from the squares `across` and `region`. `collect_columns` is
+// Collects the bits of a strip, whose two columns it takes from the squares `across` and `region`. `collect_columns` is
 // called in two places, so that the compiler makes separate code for strips that are filled upward and for those that
 // are filled downward.
 fn collect_strip(
@@ -97,7 +97,8 @@ fn collect_strip(
     }
 }
 
-// Collects all codewords of a symbol without a mask. The remainder bits are collected too, and dropped at the end.
+// Collects all codewords from the transposed square `across`, without undoing a mask. The remainder bits are collected
+// too, and dropped at the end.
 pub(crate) fn collect_codewords(
     alloc: Global,
     version: Version,

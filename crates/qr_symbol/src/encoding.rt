@@ -35,8 +35,8 @@ use std::alloc::Global;
 /// are those of fewest bits in the modes that `rule` allows, and the codewords are those that the standard requires for
 /// these segments. The mask is the one with the least penalty, and of several such masks the smallest.
 ///
-/// Read in the standard's order, unmasked, deinterleaved and parsed, the symbol yields exactly the input and these
-/// segments.
+/// Reading the symbol back yields exactly the input and the segments of which the symbol was made. For this the mask is
+/// undone, the codewords are read in the standard's order and deinterleaved, and the data codewords are parsed.
 ///
 /// # Errors
 ///
@@ -82,9 +82,9 @@ pub fn encode(
     )
 }
 
-/// As `encode`, but `level` is the lowest level that the symbol may have. The symbol has the version that `encode`
-/// would choose, and the highest level at which the input fits this version. So it has no more modules than the symbol
-/// that `encode` makes, and as much error correction as there is room for.
+/// Encodes the input as one symbol, as `encode` does, but `level` is only the lowest level that the symbol may have.
+/// The symbol has the version that `encode` would choose, and the highest level at which the input fits this version.
+/// So it has no more modules than the symbol that `encode` makes, and as much error correction as there is room for.
 ///
 /// # Errors
 ///
@@ -202,7 +202,8 @@ fn final_codewords(
     Ok(interleave(alloc, version, level, &message)?)
 }
 
-// As `symbol_at`, but draws on the given canvas. The symbol gets the version and the level of the canvas.
+// Makes the symbol of the segments on the given canvas, with the version and the level of this canvas. If a header is
+// given, the symbol belongs to a series (7.1, 8.1).
 pub(crate) fn symbol_on(
     alloc: Global,
     canvas: &mut Canvas,

@@ -102,7 +102,7 @@ impl BlockSizes {
 
     /// Interleaves the codewords of all blocks and writes them to `interleaved`: the first of each block, then the
     /// second of each block, and so on (ISO/IEC 18004:2015, 7.6). In `codewords` one block comes after the other.
-    /// `gather` undoes this.
+    /// `gather` undoes the interleaving.
     ///
     /// # Notes
     ///
@@ -135,8 +135,8 @@ impl BlockSizes {
 }
 
 // The error correction codewords of all blocks, one block after the other. A block has at most 30 of them (Table 9).
-// Two blocks are taken at once, because two divisions side by side take little longer than one. If the number of blocks
-// is odd, the last block is taken alone.
+// Two blocks are taken at once, because two divisions by the generator polynomial side by side take little longer than
+// one. If the number of blocks is odd, the last block is taken alone.
 fn corrections(alloc: Global, blocks: Blocks, message: &[u8]) -> Result<Vec<u8>, AllocError>
     requires whole { length message.now ≡ codeword_count (data_sizes blocks) }
     requires least { 1 ≤ blocks.ec_len }
@@ -189,8 +189,9 @@ pub fn interleave(
     Ok(interleaved)
 }
 
-// Undoes `scatter`. This function is not inlined. If it were inlined, LLVM would compute the index of each codeword by
-// a multiplication instead of an addition.
+// Writes the codewords of all blocks to `message`, one block after the other. In `codewords` they are interleaved in
+// the order that `scatter` gives them. This function is not inlined. If it were inlined, LLVM would compute the index
+// of each codeword by a multiplication instead of an addition.
 #[inline(never)]
 fn gather_into(message: &mut [u8], sizes: BlockSizes, codewords: &[u8])
     requires room { length message.old ≡ codeword_count sizes }

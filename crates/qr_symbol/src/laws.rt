@@ -169,8 +169,8 @@ pub fn joinings_are_one()
     ensures { (gs : List Grid) (x y : List ℕ) → IsJoined gs x → IsJoined gs y → x ≡ y }
 {}
 
-/// Squares that can be read and joined are refused only for lack of memory. For any other list, at most one fault is
-/// possible besides lack of memory.
+/// A list of squares that can be read and joined is refused only for lack of memory. For any other list, at most one
+/// fault is possible besides lack of memory.
 pub fn joining_refusals_are_one()
     ensures joined { (gs : List Grid) (x : List ℕ) (e : ReadFault) → IsJoined gs x
         → IsUnjoined gs e → e ≡ ReadFault.Memory }

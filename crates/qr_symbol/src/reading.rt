@@ -68,8 +68,8 @@ fn format_of(matrix: &Matrix) -> Option<(Level, u8)>
     None
 }
 
-// Reads the codewords of a square that has no mask, or whose mask was undone. The square is transposed first. Then the
-// columns of a strip are rows, and a word of 64 bits has 64 modules of such a row.
+// Reads the codewords of a square, without undoing a mask. The square is transposed first. Then the columns of a strip
+// are rows, and a word of 64 bits has 64 modules of such a row.
 fn read_without_mask(
     alloc: Global,
     version: Version,

@@ -89,10 +89,10 @@ pub(crate) fn least_fit<'a>(
     if input.len() > SYMBOL_BYTES_MAX {
         return Err(EncodeFault::TooLong);
     }
-    // The first version of a range: 1, 10 or 27. The input fits no version of the ranges before this one. The number of
-    // bytes, or a lower bound on the number of bits, shows this before the input is cut into segments. The lower bound
-    // is compared with the capacity of the last version of a range, which is the greatest in this range. If only byte
-    // mode is allowed, the bound is not computed, since it would save little time.
+    // The first version of a range: 1, 10 or 27. The input fits no version below `start`. The number of bytes, or a
+    // lower bound on the number of bits, shows this before the input is cut into segments. The lower bound is compared
+    // with the capacity of the last version of a range, which is the greatest in this range. If only byte mode is
+    // allowed, the bound is not computed, since it would save little time.
     let start = if input.len() > MEDIUM_BYTES {
         MEDIUM_LAST + 1
     } else if matches!(rule, Rule::BytesOnly) {
@@ -110,7 +110,8 @@ pub(crate) fn least_fit<'a>(
     let mut first = Version::new(smallest.number().max(start)).unwrap();
     loop {
         // The last version of the range that contains `first`. In all versions of a range, character count indicators
-        // have the same widths (7.4.1, Table 3), so the segments that are cut for `first` take the same number of bits.
+        // have the same widths (7.4.1, Table 3), so the segments that are cut for `first` take the same number of bits
+        // in each of these versions.
         let last = match first.number() {
             1..=SMALL_LAST => SMALL_LAST,
             10..=MEDIUM_LAST => MEDIUM_LAST,

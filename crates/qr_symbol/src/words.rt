@@ -11,8 +11,8 @@ ghost use Rattle.qr_symbol.specs.Steps.Words.{are_halves, are_pairs, partner, ra
 use std::alloc::{AllocError, Global};
 use std::marker::Model;
 
-// For each of these masks, a word is divided into groups of bits: of 4 bits for `OF_4`, of 8 bits for `OF_8`, and so
-// on. In each group exactly the second quarter, counted from the lowest bit, is set.
+// For each of these bit masks, a word is divided into groups of bits: of 4 bits for `OF_4`, of 8 bits for `OF_8`, and
+// so on. In each group exactly the second quarter, counted from the lowest bit, is set.
 const OF_4: u64 = 0x2222_2222_2222_2222;
 
 const OF_8: u64 = 0x0C0C_0C0C_0C0C_0C0C;
@@ -37,10 +37,10 @@ fn exchange_bits(bits: u64, steps: u32, mask: u64) -> u64
     bits ^ difference ^ difference << steps
 }
 
-// Moves every second bit, from bit 1 on, to the upper half of the word, and the others to the lower half. For this it
-// exchanges the second quarter of each group with the third: first in groups of 4 bits, then of 8, 16, 32 and 64. If a
-// word had only eight bits, groups of 4 and of 8 would be enough. In this drawing of eight bits, o3 to o0 are those
-// that move to the upper half:
+// Moves every second bit, from bit 1 on, to the upper half of the word, and the others to the lower half. For this the
+// word is divided into groups of bits, and the second quarter of each group is exchanged with the third: first in
+// groups of 4 bits, then of 8, 16, 32 and 64. If a word had only eight bits, groups of 4 and of 8 would be enough. In
+// this drawing of eight bits, o3 to o0 are those that move to the upper half:
 //
 // ```text
 // o3 e3 o2 e2 o1 e1 o0 e0
@@ -59,7 +59,8 @@ fn unshuffled(bits: u64) -> u64
     exchange_bits(bits, 16, OF_64)
 }
 
-// The inverse of `unshuffled`. It makes the same exchanges in the opposite order.
+// Moves the bits of the upper half of the word to the odd indices, and those of the lower half to the even ones. This
+// is the inverse of `unshuffled`: the same exchanges, made in the opposite order.
 #[inline(always)]
 #[tactic(auto, unfolding(crate::specs::Steps::Words::are_pairs, crate::specs::Steps::Words::are_halves, qr_matrix::specs::BitRow::has_bit))]
 fn shuffled(bits: u64) -> u64
@@ -82,8 +83,8 @@ fn interleaved(odd: u64, even: u64) -> u64
     shuffled(odd << 32 | even & 0xFFFF_FFFF)
 }
 
-// As `exchange_bits`, but for a mask with which every bit is exchanged: one half of the bits moves down by `steps`, and
-// the other half moves up by `steps`.
+// Exchanges all bits of `bits` in pairs: bit i and bit i + `steps`, for each i whose bit of `mask` is set. So one half
+// of the bits moves down by `steps`, and the other half moves up by `steps`.
 #[inline(always)]
 #[tactic(auto, using(crate::proofs::Named::exchanges))]
 fn exchange_all(bits: u64, steps: u32, mask: u64) -> u64
@@ -96,7 +97,7 @@ fn exchange_all(bits: u64, steps: u32, mask: u64) -> u64
 
 // Reverses the order of the 64 bits. `u64::reverse_bits` does the same, but the compiler of Rattle's kit turns it into
 // a loop over the bits. The last three exchanges reverse the order of the bytes, and LLVM makes one instruction of
-// them.
+// these three.
 #[inline(always)]
 #[tactic(auto, unfolding(crate::specs::Steps::Words::are_pairs, crate::specs::Steps::Words::are_halves, qr_matrix::specs::BitRow::has_bit))]
 pub(crate) fn reversed(bits: u64) -> u64
@@ -110,10 +111,11 @@ pub(crate) fn reversed(bits: u64) -> u64
     exchange_all(bits, 32, 0x0000_0000_FFFF_FFFF)
 }
 
-// Divides the `2 * count` highest bits of `bits` between the right and the left column of `count` rows. Of each two
-// bits, the first belongs to the right column and the second to the left. In each of the two results the lowest bit is
-// that of the topmost row. In a strip that is filled upward, the topmost row has the last two bits. In a strip that is
-// filled downward, it has the first two, so the order of the bits is reversed first.
+// Divides the `2 * count` highest bits of `bits` between the right and the left column of `count` rows. They are taken
+// two at a time, from the highest on: the first of the two belongs to the right column, and the second to the left. In
+// each of the two results the lowest bit is that of the topmost row. In a strip that is filled upward, the topmost row
+// has the last two bits. In a strip that is filled downward, it has the first two, so the order of the bits is reversed
+// first.
 #[inline(always)]
 pub(crate) fn split(bits: u64, upward: bool, count: u8) -> (u64, u64)
     requires some { 1 ≤ count }
