@@ -80,7 +80,8 @@ fn choice_if(may: bool, first: u32, rest: u32) -> u32
     if may { first + rest / 4 * 4 } else { NO_CHOICE }
 }
 
-// As `choice_if`, for a byte that does not begin a segment and adds `bits` bits.
+// The choice of `mode` for a byte that does not begin a segment and adds `bits` bits, if the best choice for the next
+// byte is `rest`; or `NO_CHOICE` if `may` is false.
 #[inline(always)]
 fn next_if(may: bool, bits: u32, mode: Mode, rest: u32) -> u32
     requires { (bits ≤ 33) × (rest < 40000000) }
@@ -97,7 +98,7 @@ fn row_for(numbers: &PerState) -> u32
     ensures low { result < FLAG }
     ensures modes { (p : RunState) → mode_at result p ≡ ranked (in_state numbers.now p % 4) }
 {
-    // The row is made from its highest bits down. `higher` has the bits of the states so far.
+    // The row is made from its highest bits down. `higher` has the bits of the states that were taken so far.
     let higher = numbers.half_pair % 4 + 4 * (numbers.whole_pair % 4);
     let higher = numbers.character2 % 4 + 4 * (numbers.in_bytes % 4 + 4 * higher);
     let higher = numbers.digit3 % 4 + 4 * (numbers.character1 % 4 + 4 * higher);
@@ -221,7 +222,7 @@ fn may_be_character(gs1: bool, rule: Rule, byte: u8) -> bool
     gs1 && byte == SEPARATOR && may_use(rule, Mode::Alphanumeric)
 }
 
-// The row with its flag set, if `flag` is true.
+// The row, with its flag set if `flag` is true.
 #[tactic(auto, using(crate::proofs::lemmas::best_modes::TableLemmas::flagged_mode))]
 #[inline(always)]
 fn flagged(row: u32, flag: bool) -> u32
@@ -293,7 +294,8 @@ pub(crate) fn begins_with_pair(rule: Rule, bytes: &[u8]) -> bool
     }
 }
 
-// As `begins_with_pair`. Where `kanji` is the constant `false`, the compiler leaves out the call.
+// Whether the rule allows kanji mode, as `kanji` says, and the first two bytes are a kanji pair. Where `kanji` is the
+// constant `false`, the compiler leaves out the call of `begins_with_pair`.
 #[tactic(auto, unfolding(crate::specs::Steps::RunState::begins_with_pair))]
 #[inline(always)]
 fn pair_at(kanji: bool, rule: Rule, bytes: &[u8]) -> bool
@@ -303,9 +305,9 @@ fn pair_at(kanji: bool, rule: Rule, bytes: &[u8]) -> bool
     kanji && begins_with_pair(rule, bytes)
 }
 
-// Returns the table: a row for each byte of `input`. The row of the last byte comes first, so `pop` takes the rows from
-// that of the first byte on. The rule has to allow more than byte mode. This function is not inlined, so that its loop
-// has all registers to itself.
+// Returns the table: a row for each byte of `input`. The row of the last byte comes first, so the first call of `pop`
+// returns the row of the first byte. The rule has to allow more than byte mode. This function is not inlined, so that
+// its loop has all registers to itself.
 #[inline(never)]
 pub(crate) fn best_modes(
     alloc: Global,
@@ -324,7 +326,8 @@ pub(crate) fn best_modes(
     }
 }
 
-// As `best_modes`, but for GS1 data, so rows may have their flags.
+// Returns the table for GS1 data, under a rule that allows more than byte mode: a row for each byte of `input`, from
+// the last byte to the first. A row has its flag if alphanumeric mode writes its byte as other characters.
 #[inline(never)]
 pub(crate) fn best_gs1_modes(
     alloc: Global,
@@ -372,8 +375,8 @@ fn best_rows(
     Ok(table)
 }
 
-// A row of the table of best modes has two bits for each state. The result is the index of the lower one, counted from
-// the lowest bit of the row.
+// A row of the table of best modes has two bits for each state. The result is the index of the lower of the two bits
+// for `state`, counted from the lowest bit of the row.
 #[inline(always)]
 fn shift_of(state: RunState) -> u32
     ensures value { result ≡ shift_of state }

@@ -50,7 +50,7 @@ impl BitWriter {
         ensures { OnOk result (self.new ≡ self.old ++ field width number) }
     {
         let size = 1u32 << width;
-        // These are at most 23 bits: 7 that were left before, and 16 new ones.
+        // `bits` has at most 23 bits: up to 7 from `rest`, and up to 16 from `number`.
         let bits = size * u32::from(self.rest) + u32::from(number) % size;
         let mut left = self.width + width;
         let whole = &mut self.whole;
@@ -63,7 +63,8 @@ impl BitWriter {
         Ok(())
     }
 
-    // Writes the bits of `bytes`. After them the last codeword has as many bits as before, because each byte adds eight.
+    // Writes the bits of `bytes`. The number of bits after the last whole codeword stays the same, because each byte
+    // adds eight bits.
     #[tactic(auto, unfolding(crate::specs::Bits::bits_of))]
     pub(crate) fn put_bytes(&mut self, bytes: &[u8]) -> Result<(), AllocError>
         ensures { OnOk result (self.new ≡ self.old ++ bits_of bytes.now) }
@@ -105,9 +106,9 @@ fn byte_at(bytes: &[u8], i: usize) -> u32
     }
 }
 
-// The three bytes from the index `at` on, as a number of 24 bits. A byte past the end counts as 0. They contain any 16
-// neighbouring bits that begin in the first byte. What the contract says of the second and the third byte is for the
-// prover.
+// The three bytes from the index `at` on, as a number of 24 bits. A byte past the end counts as 0. The three bytes
+// contain any 16 neighbouring bits that begin in the first of them. What the contract says of the second and the third
+// byte is for the prover.
 #[inline(always)]
 fn three_bytes(bytes: &[u8], at: usize) -> u32
     requires { at ≤ length bytes.now }
@@ -119,8 +120,8 @@ fn three_bytes(bytes: &[u8], at: usize) -> u32
     65536 * byte_at(bytes, at) + 256 * byte_at(bytes, at + 1) + byte_at(bytes, at + 2)
 }
 
-// Appends `count` bytes that are cut out of `bytes` from the bit with the index `at` on. Each appended byte consists of
-// the last bits of one byte and the first bits of the next.
+// Appends `count` bytes that are cut out of `bytes` from the bit with the index `at` on. If `at` is not a multiple of
+// 8, each appended byte consists of the last bits of one byte of `bytes` and the first bits of the next.
 fn push_bytes_at(out: &mut Vec<u8>, bytes: &[u8], at: usize, count: usize) -> Result<(), AllocError>
     requires { at + 8 * count ≤ 8 * length bytes.now }
     ensures { OnOk result (out.new.items ≡ out.old.items ++ bytes_of count (drop at (bits_of bytes.now))) }
@@ -137,8 +138,8 @@ fn push_bytes_at(out: &mut Vec<u8>, bytes: &[u8], at: usize, count: usize) -> Re
     Ok(())
 }
 
-// Reads bits from codewords. These are at most 3,706, as many as the largest symbol has. In contracts the value of a
-// reader is the list of the bits that are not read yet.
+// Reads bits from at most 3,706 codewords, as many as the largest symbol has. In contracts the value of a reader is the
+// list of the bits that are not read yet.
 #[derive(Drop)]
 pub(crate) struct BitReader<'a> {
     bytes: &'a [u8],

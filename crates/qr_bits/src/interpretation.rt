@@ -78,9 +78,10 @@ fn are_fields(bytes: &[u8]) -> bool
     }
 }
 
-// As `are_fields` for the bytes `firsts`. `seconds` are the same bytes without the first one. The loop has no early
-// exit, so that the compiled code takes many bytes at once. The function is not inlined: if the compiler knew that
-// `seconds` is a part of `firsts`, it would make code that takes the last bytes one by one.
+// Whether no separator in `firsts` comes directly before another separator or before `%`. `seconds` has the bytes of
+// `firsts` without the first one. The loop has no early exit, so that the compiled code takes many bytes at once. The
+// function is not inlined: if the compiler knew that `seconds` is a part of `firsts`, it would make code that takes the
+// last bytes one by one.
 #[inline(never)]
 fn may_all_precede(firsts: &[u8], seconds: &[u8]) -> bool
     requires { seconds.now ≡ drop 1 firsts.now }
@@ -224,7 +225,7 @@ pub(crate) struct Meaning {
     pub ecis: Vec<EciChange>,
 }
 
-// Appends what the item stands for to `meaning`. A segment takes its characters from the beginning of `characters`.
+// Appends to `meaning` what the item stands for. A segment takes its characters from the beginning of `characters`.
 // `fnc1` says whether FNC1 is among the earlier items. Returns whether `item` or an earlier item is FNC1, and the
 // characters that are left. Each clause of the contract says that two lists are equal, whatever items (`is`) come
 // later. The first list has what `meaning` has before the call, followed by what `item` and the later items stand for.
@@ -276,8 +277,8 @@ fn meaning_of(alloc: Global, items: &[Item], characters: &[u8]) -> Result<Meanin
     Ok(meaning)
 }
 
-// Returns what the items stand for. `characters` are the characters of all segments. If the bytes are the same as the
-// characters, no copy is made.
+// Returns what the items stand for. `characters` are the characters of all segments. If all items are segments, the
+// bytes are these characters themselves, and no copy is made.
 pub(crate) fn interpreted(
     alloc: Global,
     items: &[Item],

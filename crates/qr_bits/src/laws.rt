@@ -1,9 +1,9 @@
 //! Laws of this crate's definitions. A function with an empty body does nothing: its contract is the law. If its name
 //! ends in `compute`, the law has examples that the standard prints, or that were worked out by hand.
 //!
-//! The functions with a body state laws of the public types: which numbers the faults have, and, of each type whose
-//! values can be compared and cloned, that `==` is true exactly for equal values and that a clone is equal to its
-//! original.
+//! The functions with a body state laws of the public types. They say which numbers the faults have. For each type
+//! whose values can be compared and cloned, they say that `==` is true exactly for equal values, and that a clone is
+//! equal to its original.
 
 ghost use Rattle.std.specs.Prelude.{◌≡◌, ◌-◌, ◌/◌, ◌%◌, ℕ, List, [], ◌∷◌, ◌++◌, true, false, length, map, codes, ◌↔◌, IsTrue, IfOk};
 ghost use Rattle.qr_layout.specs.declared.level.Level.{Level};
@@ -247,8 +247,8 @@ pub fn parse_fault_numbers(fault: ParseFault) -> u8
 }
 
 /// The values of three kanji pairs, and the pairs that have these values. Two of the pairs are the examples of the
-/// standard, and the third is the greatest pair (ISO/IEC 18004:2015, 7.4.6). The last two clauses say which pairs of
-/// bytes are kanji pairs and which are not, at both ends of each range.
+/// standard, and the third is the greatest pair (ISO/IEC 18004:2015, 7.4.6). The clause `pairs` lists kanji pairs, and
+/// the clause `others` lists bytes that are none, at the ends of the two ranges and elsewhere.
 #[tactic(auto, unfolding(crate::specs::Modes::is_kanji_pair, crate::specs::Modes::kanji_value, crate::specs::Parsing::kanji_pair))]
 pub fn kanji_compute()
     ensures first { kanji_value 0x93 0x5F ≡ 0xD9F }

@@ -2,8 +2,8 @@
 //! best choices of `best_modes.rt`, but no table is kept.
 //!
 //! A prefix grows at its end, but `row_of` (in `best_modes.rt`) puts each further byte before those that were taken
-//! already. So for `row_of` the bytes of a prefix are in reverse order. This does not change the number of bits. In the
-//! reverse order, the second byte of a kanji pair comes before the first.
+//! already. So `row_of` gets the bytes of a prefix from the last to the first. This order does not change how many bits
+//! they take. The second byte of a kanji pair then comes before the first.
 
 ghost use Rattle.std.specs.Prelude.{IsOkAnd, length, reverse, true, ◌+◌, ◌*◌, ◌<◌, ◌≡◌, ◌≤◌};
 ghost use Rattle.qr_bits.specs.declared.modes.Mode.{Mode};
@@ -111,8 +111,8 @@ fn room(version: Version, level: Level, interpretation: Interpretation) -> u64
     version.capacity(level) - HEADER_BITS - interpretation_bits(interpretation)
 }
 
-// As `longest_by_rows`, for GS1 data. It is not inlined, so that the compiled code of `longest_fit` for other data does
-// not depend on it.
+// The length of the longest prefix of `input`, which is GS1 data, that takes at most `room` bits. This function is not
+// inlined, so that the compiled code of `longest_fit` for other data does not depend on it.
 #[inline(never)]
 fn longest_gs1_prefix(input: &[u8], version: Version, rule: Rule, room: u64) -> usize
     requires { length input.now ≤ INPUT_MAX }

@@ -25,8 +25,8 @@ pub enum Mode {
     Alphanumeric,
     /// Any bytes, of which each takes eight bits.
     Byte,
-    /// Characters of Shift JIS, of which each takes thirteen bits. Each is a pair of bytes, from 8140 to 9FFC or from
-    /// E040 to EBBF. The second byte has to be from 40 to FC (all hexadecimal).
+    /// Characters of Shift JIS, of which each takes thirteen bits. Each is a pair of bytes: from 8140 to 9FFC or from
+    /// E040 to EBBF, with a second byte from 40 to FC (all hexadecimal).
     Kanji,
 }
 
@@ -174,12 +174,14 @@ fn index_of(character: u8) -> Option<usize>
     CHARACTERS.iter().position(|other| *other == character)
 }
 
-// The number by which `kanji_value` multiplies the high byte (ISO/IEC 18004:2015, 7.4.6).
+// For `kanji_value`: a number is subtracted from a kanji pair, and the high byte of the difference is multiplied by
+// this factor (ISO/IEC 18004:2015, 7.4.6).
 pub(crate) const KANJI_FACTOR: u16 = 0xC0;
 
-// The number of 13 bits that is written for a kanji pair (ISO/IEC 18004:2015, 7.4.6). The subtraction closes the gap
-// between the two ranges of pairs, and leaves a low byte of at most BC. So it is enough to multiply the high byte by
-// C0, and not by 100: different pairs still have different numbers. (BC, C0 and 100 are hexadecimal.)
+// The number of 13 bits that is written for a kanji pair (ISO/IEC 18004:2015, 7.4.6). First 8140 is subtracted from a
+// pair of the first range, and C140 from a pair of the second range. This closes the gap between the two ranges, and
+// leaves a low byte of at most BC. So it is enough to multiply the high byte by C0, and not by 100: different pairs
+// still have different numbers. (8140, C140, BC, C0 and 100 are hexadecimal.)
 #[tactic(auto, unfolding(crate::specs::Modes::kanji_value), using(crate::proofs::lemmas::modes::least_pair))]
 pub(crate) fn kanji_value(high: u8, low: u8) -> u16
     requires { IsTrue (is_kanji_pair high low) }

@@ -24,7 +24,7 @@ pub const INTERRUPTIONS_MAX: u16 = 999;
 pub enum Trouble {
     /// The call was interrupted by a signal (EINTR). A read or a write may be tried again, and a flush is not.
     Interrupted,
-    /// The call failed for any other reason, and is not tried again.
+    /// The call failed for another reason than a signal, and is not tried again.
     Failed,
 }
 

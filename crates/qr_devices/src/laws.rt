@@ -1,4 +1,5 @@
-//! Laws of devices and of their counts. The contract of a function with an empty body is the law.
+//! Laws of devices and of their counts. The contract of each function is a law, and a function with an empty body does
+//! nothing.
 
 ghost use Rattle.std.specs.Prelude.{◌≡◌, ◌-◌, ◌^◌, false, Ok, Err, ◌↔◌, IsTrue, IfOk};
 ghost use Rattle.qr_devices.specs.Device.{no_reads, no_writes, read_counted, write_counted, flush_counted};

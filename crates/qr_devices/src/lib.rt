@@ -1,8 +1,8 @@
 //! Devices are readers (`Source`) and writers (`Sink`) that count their calls and the results of these calls
 //! (`ReadCounts`, `WriteCounts`). A call that goes wrong returns a `Trouble`. At most `INTERRUPTIONS_MAX` interrupted
-//! calls are tried again. `Counted` is a device over any reader or writer of the standard library, such as a file or a
-//! pipe. `Bounded` is such a writer, in memory, which accepts a limited number of bytes. `Trial` is a device in memory,
-//! for tests; its `Faults` say where its calls go wrong.
+//! calls are tried again. `Counted` makes a device of any reader or writer that implements the standard library's
+//! `Read` or `Write`, such as a file or a pipe. `Bounded` is such a writer: it appends a limited number of bytes to a
+//! vector in memory. `Trial` is a device in memory, for tests; its `Faults` say where its calls go wrong.
 #![tactic(auto)]
 
 mod bounded;

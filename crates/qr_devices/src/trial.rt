@@ -198,7 +198,7 @@ impl Sink for Trial {
         let answer = match self.moved(self.writes.calls, free.min(buf.len())) {
             Ok(n) => {
                 // The memory for `room` bytes was requested when the device was made. So no memory is requested here,
-                // and `extend_from_slice` cannot fail. `Ok(0)` is what a full device returns.
+                // and `extend_from_slice` cannot fail. The branch for a failure returns `Ok(0)`, as a full device does.
                 if self.bytes.extend_from_slice(&buf[..n]).is_ok() {
                     Ok(n)
                 } else {

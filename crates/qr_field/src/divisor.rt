@@ -19,7 +19,7 @@ pub struct Divisor {
     count: usize,
     // At the index f, `low` has the products of f and each coefficient of the generator polynomial after its leading 1.
     // At the same index, `high` has the products of 16f and each of these coefficients. 16f is the element whose high
-    // four bits are those of f, and whose low four bits are 0.
+    // four bits are the four bits of f, and whose low four bits are 0.
     low: [Register; 16],
     high: [Register; 16],
 }

@@ -51,9 +51,9 @@ pub fn correction_computes()
     ensures { IsCorrection worked_data 10 worked_correction }
 {}
 
-/// Suppose that two blocks have the same number of data codewords and the same number of error correction codewords,
-/// but that their data codewords are not the same. Then the blocks differ in more codewords than each of them has error
-/// correction codewords. This holds for blocks of at most 255 codewords.
+/// Suppose that two blocks of at most 255 codewords have the same number of data codewords and the same number of error
+/// correction codewords, but that their data codewords are not the same. Then the number of codewords in which the
+/// blocks differ is greater than the number of error correction codewords of a block.
 pub fn blocks_lie_apart()
     ensures { BlocksLieApart }
 {}
@@ -66,16 +66,16 @@ pub fn erasures_are_unambiguous()
 {}
 
 /// Suppose that every codeword of a block was read. Then none is erased, and the number of misread codewords is the
-/// number of places at which the block that was read differs from the undamaged block. So `erasures_are_unambiguous` also
-/// speaks of blocks that were read whole.
+/// number of codewords in which the block that was read differs from the undamaged block. So `erasures_are_unambiguous`
+/// also speaks of blocks that were read whole.
 #[tactic(auto, using(crate::proofs::Named::damage))]
 pub fn damage_is_unambiguous()
     ensures read { (xs : List ℕ) → erasures (map (λ x. Some x) xs) ≡ 0 }
     ensures misread { (xs ys : List ℕ) → errors (map (λ x. Some x) xs) ys ≡ differences xs ys }
 {}
 
-/// One example each of how erasures, misread codewords and differences are counted. A codeword that only the longer
-/// list has counts as misread, or as a difference.
+/// One example each of how erasures, misread codewords and differences are counted. If one of the two lists that are
+/// compared is longer, each of its further codewords counts as misread, or as a difference.
 pub fn damage_computes()
     ensures erasures { erasures (None ∷ Some 7 ∷ None ∷ []) ≡ 2 }
     ensures errors { errors (Some 7 ∷ None ∷ Some 9 ∷ Some 4 ∷ []) (7 ∷ 8 ∷ 8 ∷ []) ≡ 2 }
@@ -83,7 +83,7 @@ pub fn damage_computes()
 {}
 
 /// Blocks of more than 255 codewords may differ in fewer codewords than `blocks_lie_apart` says. The two blocks here
-/// have 256 codewords each, two of them for error correction, and differ in only two.
+/// have 256 codewords each, two of them for error correction, and differ in only two codewords.
 pub fn longer_blocks_lie_nearer()
     ensures one { IsCorrection (1 ∷ zeros 253) 2 (0 ∷ 1 ∷ []) }
     ensures other { IsCorrection (zeros 254) 2 (zeros 2) }

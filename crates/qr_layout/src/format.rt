@@ -5,8 +5,8 @@
 //!
 //! The first copy of the format information goes around the top left finder pattern. Bits 0 to 7 are in column 8, from
 //! row 0 down to row 8, and bits 8 to 14 in row 8, from column 7 to the left. Bits 0 to 7 leave out row 6, and bits 8
-//! to 14 column 6, where the timing patterns are. Of the second copy, bits 0 to 7 are in row 8, from the last column to
-//! the left, and bits 8 to 14 in the last seven rows of column 8, downward.
+//! to 14 leave out column 6, because the timing patterns are there. Of the second copy, bits 0 to 7 are in row 8, from
+//! the last column to the left, and bits 8 to 14 in the last seven rows of column 8, downward.
 
 ghost use Rattle.std.specs.Prelude.{◌≡◌, ◌≢◌, ◌≤◌, ◌<◌, SomeIff};
 ghost use Rattle.qr_layout.specs.Version.{side_of};
@@ -168,9 +168,10 @@ impl Version {
     }
 }
 
-// The bit of the version information that the module at a place contains, or `None` if it contains none. Symbols have
-// version information from version 7 on. In the copy beside the top right finder pattern, row 0 has bits 0 to 2 from
-// left to right, row 1 bits 3 to 5, and so on to row 5. In the other copy, rows and columns are exchanged.
+// The number of the bit of the version information that the module at a place contains, or `None` if the module
+// contains no such bit. Symbols have version information from version 7 on. In the copy beside the top right finder
+// pattern, row 0 has bits 0 to 2 from left to right, row 1 bits 3 to 5, and so on to row 5. In the other copy, rows and
+// columns are exchanged.
 #[tactic(auto, using(crate::proofs::lemmas::format::BitPlaceLemmas::version_at))]
 pub(crate) fn version_bit(version: Version, row: u8, col: u8) -> Option<u8>
     requires row_in { row < side_of version }

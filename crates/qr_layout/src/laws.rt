@@ -1,6 +1,6 @@
 //! Laws of the layout. The contract of each function is the law; most functions do nothing. The first laws say what
-//! follows from the definitions, others that the definitions have the values that the standard prints. The last ones
-//! are about `==`, clones and default values.
+//! follows from the definitions. Others say that the definitions have the values that the standard prints, and the last
+//! ones are about `==`, clones and default values.
 
 ghost use Rattle.std.specs.Prelude.{◌≡◌, ◌<◌, ◌≤◌, ◌-◌, ◌*◌, ◌/◌, ◌⊎◌, ◌↔◌, ◌||◌, not, true, ℕ, List, ◌∷◌, ◌++◌, length, map, slice_get, IsTrue, IfOk};
 ghost use Rattle.std.specs.List.{list_any, range_with_len};
@@ -86,11 +86,11 @@ pub fn nth_place(version: Version, index: usize) -> Option<Place>
     walk(version).nth(index)
 }
 
-/// For the versions 2 to 40, the rows of the centres of alignment patterns are those that a rule gives. The first is
-/// row 6, and the last is the seventh row from the bottom. From the second row of centres on, neighbouring rows are at
-/// equal distances. This distance is the least even number that, multiplied by the number of rows of centres less 1, is
-/// at least the distance from row 6 to the last row. Version 32 is an exception: its distance is 26, where the rule
-/// would give 28.
+/// For the versions 2 to 40, the rows of the centres of alignment patterns are those that a rule gives. The first of
+/// these rows is row 6, and the last of them is the seventh row from the bottom of the symbol. From the second row of
+/// centres on, neighbouring rows are at equal distances. This distance is the least even number that, multiplied by the
+/// number of rows of centres less 1, is at least the distance from row 6 to the last row of centres. Version 32 is an
+/// exception: its distance is 26, where the rule would give 28.
 #[tactic(auto, unfolding(crate::specs::Alignment::centres_of))]
 pub fn centres_are_spaced()
     ensures { map centres_of (range_with_len 2 39) ≡ map spaced_centres (range_with_len 2 39) }
@@ -106,8 +106,9 @@ pub fn data_codewords_compute()
 {}
 
 /// A block has two error correction codewords for each misread codeword that can be corrected, and in versions 1 to 3
-/// up to three more that only detect errors (misdecode protection). With the numbers of correctable codewords that
-/// Table 9 of the standard prints, this rule yields `correction_len_of`.
+/// up to three more that only detect errors (misdecode protection). If the number of error correction codewords is
+/// computed in this way from the numbers of correctable codewords that Table 9 of the standard prints, the result is
+/// `correction_len_of`.
 #[tactic(auto, unfolding(crate::specs::Blocks::correction_len_of))]
 pub fn correction_lens_compute()
     ensures l { map (λ v. correction_len_of v L) all_versions ≡ map (printed_correction L) all_versions }
@@ -162,7 +163,7 @@ pub fn blocks_stand_damage(version: Version, level: Level)
 {}
 
 /// A symbol has at most 232 data codewords up to version 9, at most 1,370 up to version 26, and at most 2,956 in all
-/// versions. From version 10 and from version 27 on some character count indicators have more bits than before.
+/// versions. Some character count indicators have more bits from version 10 on, and again more from version 27 on.
 pub fn data_is_bounded(version: Version, level: Level)
     ensures small { version ≤ 9 → data_codewords_of version level ≤ 232 }
     ensures middle { version ≤ 26 → data_codewords_of version level ≤ 1370 }

@@ -26,7 +26,7 @@ pub struct Strip {
     pub upward: bool,
 }
 
-// The strip with this number. There are at most 88 strips, in version 40. Those with an even number are filled upward.
+// The strip with this number. There are at most 88 strips, in version 40. Strips with an even number are filled upward.
 #[inline(always)]
 pub(crate) fn strip_at(number: u8) -> Strip
     requires least { 0 < number }

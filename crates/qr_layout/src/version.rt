@@ -1,5 +1,5 @@
-//! The forty versions: how many modules a symbol of each has on a side, how many codewords, and how many remainder bits
-//! (ISO/IEC 18004:2015, 6.3.2 and 7.1, Table 1).
+//! The forty versions, and for each of them how many modules a symbol has on a side, how many codewords it has, and how
+//! many remainder bits (ISO/IEC 18004:2015, 6.3.2 and 7.1, Table 1).
 
 ghost use Rattle.std.specs.Prelude.{◌≡◌, ◌≤◌, SomeIff, ℕ, MatchOption};
 ghost use Rattle.qr_layout.specs.Version.{side_of};

@@ -91,8 +91,8 @@ fn row_by_words(bytes: &[u8], start: usize, end: usize, side: u8) -> Option<BitR
 }
 
 // A row begins at index `start` of `bytes`, with a byte for each of its `side` modules. Returns the columns of this row
-// whose byte is `byte`. It looks at one module after the other. This function is not inlined, because few rows need it.
-// This shortens the code for WebAssembly, which is sent over the network.
+// whose byte is `byte`. It looks at one module after the other. This function is not inlined, because few rows need it,
+// and because a single copy of it makes the code for WebAssembly shorter, which is sent over the network.
 #[inline(never)]
 fn modules_of(bytes: &[u8], start: usize, side: u8, byte: u8) -> BitRow
     requires room { start + side ≤ length bytes.now }

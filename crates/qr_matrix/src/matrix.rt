@@ -7,8 +7,8 @@
 //! columns of the left parts.
 //!
 //! A band is 64 neighbouring rows, or fewer at the lower edge of the square. It has a tile for each word of a row. Band
-//! `band` of a square begins at row `64 * band`, and tile `word` of this band begins at column `64 * word`; transposed,
-//! it is tile `band` of band `word`.
+//! `band` of a square begins at row `64 * band`, and tile `word` of this band begins at column `64 * word`, and becomes
+//! tile `band` of band `word` when the square is transposed.
 
 ghost use Rattle.std.specs.Prelude.{IfOk, false, length, nat_lt, ℕ, ◌%◌, ◌*◌, ◌+◌, ◌<◌, ◌≡◌, ◌≤◌};
 ghost use Rattle.qr_matrix.specs.Grid.{colour, light, painted, square, transposed, with_rectangle, with_row};

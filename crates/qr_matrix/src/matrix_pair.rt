@@ -285,8 +285,10 @@ impl MatrixPair {
         self.rows[usize::from(row)].put_bits(col, count, bits);
     }
 
-    // As `set_rows_masked`, but for squares whose rows take `words` words. The callers pass a constant, so that the
-    // compiler leaves out the words that are always empty.
+    // Copies every twelfth row of `unmasked`, from row `first` on, into both squares. The module in column c is
+    // inverted if `within` is dark at its place, and bit `c % 6` of the square's pattern is 1. The rows of the squares
+    // take `words` words. `set_rows_masked` passes this number as a constant, so that the compiler leaves out the words
+    // that are always empty.
     #[inline(always)]
     fn set_rows_masked_in(
         &mut self,

@@ -95,9 +95,10 @@ pub(crate) fn count_all<S: Squares>(squares: &S) -> Counted<<S::Row as Rows>::Co
     }
 }
 
-// The penalty of a square in which this was counted. The bounds follow from how it was counted. At each of the rows, at
-// most 177, the set bits of one bit row were counted, which has 192 bits. For runs and windows the set bits of two bit
-// rows were counted, one for those that lie in the row and one for those that lie in columns.
+// The penalty of a square whose numbers are in `counted`. The bounds on these numbers follow from how they were
+// counted. For each row of the square, and there are at most 177, the set bits of one bit row were counted, which has
+// 192 bits. For runs and windows the set bits of two bit rows were counted: one for the runs or windows in the row, and
+// one for those in columns.
 fn points(side: u8, counted: Counted<u32>) -> u32
     requires least { 1 ≤ side }
     requires most { side ≤ 177 }
@@ -110,8 +111,8 @@ fn points(side: u8, counted: Counted<u32>) -> u32
 {
     let modules = u32::from(side) * u32::from(side);
     // A twentieth of all modules is 5 %. The dark modules are `20 * dark / modules` twentieths of all modules, and a
-    // half is 10 twentieths. So `excess / modules` is the number of whole twentieths by which their share differs from
-    // a half.
+    // half is 10 twentieths. So `excess / modules` is the number of whole twentieths by which the share of dark modules
+    // differs from a half.
     let excess = (20 * counted.dark).abs_diff(10 * modules);
     counted.runs
         + SQUARE_POINTS * counted.squares

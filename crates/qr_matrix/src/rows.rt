@@ -1,7 +1,7 @@
 //! The operations by which the penalty is computed, as two traits. `Squares` is implemented by `Matrix`, which is one
 //! square, and by `MatrixPair`, which is two squares on which one operation works at once. `Rows` is implemented by the
-//! types of their rows: `BitRow` for one square, and `RowPair`, a row of each square, for two. In contracts `second`
-//! says which of the two squares is meant. If there is only one square, `second` has no meaning.
+//! types of their rows: by `BitRow` for one square, and for two squares by `RowPair`, which has a row of each. In
+//! contracts `second` says which of the two squares is meant. If there is only one square, `second` has no meaning.
 //!
 //! To count the bits of many rows, the code first adds the rows column by column, as full adders do: three rows become
 //! two, a row of sums and a row of carries. This leaves fewer bits to count.
@@ -24,11 +24,11 @@ pub(crate) trait Rows: Copy
     // argument is the column.
     ghost bit: { Self → (second : Bool) → ℕ → Bool };
 
-    // The number of one of the squares. `second` says which square is meant.
+    // What was counted in one of the squares, as a number. `second` says in which one.
     ghost number: { Self.Counts → (second : Bool) → ℕ };
 
     // The row in which the bits below `n` are set. These bits fill the first `words` words, but may end anywhere in the
-    // last of them. Where `words` is a constant, the compiler knows the other words.
+    // last of them. Where `words` is a constant, the compiler knows the value of every word but this one.
     fn below_in(n: u8, words: u8) -> Self
         requires least { 64 * (words - 1) ≤ n }
         requires most { n ≤ 64 * words }
@@ -47,8 +47,8 @@ pub(crate) trait Rows: Copy
         ensures { (second : Bool) (c : ℕ) → c < 192
             → bit result second c ≡ (nat_lt 0 c && bit self second (c - 1)) };
 
-    // Whether no bit is set in any of the squares' rows. The answer only saves time, so the contract says nothing of
-    // the answer `false`.
+    // Whether no bit is set in the row, or in both rows if there are two squares. The answer only saves time, so the
+    // contract says nothing of the answer `false`.
     fn is_empty(self) -> bool
         ensures { result ≡ true → (second : Bool) (c : ℕ) → bit self second c ≡ false };
 
