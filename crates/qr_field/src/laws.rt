@@ -51,9 +51,8 @@ pub fn correction_computes()
     ensures { IsCorrection worked_data 10 worked_correction }
 {}
 
-/// Suppose that two blocks of at most 255 codewords have the same number of data codewords and the same number of error
-/// correction codewords, but that their data codewords are not the same. Then the number of codewords in which the
-/// blocks differ is greater than the number of error correction codewords of a block.
+/// Two blocks with different data codewords differ in more codewords than each of them has error correction codewords,
+/// if they have at most 255 codewords each, equally many data codewords and equally many error correction codewords.
 pub fn blocks_lie_apart()
     ensures { BlocksLieApart }
 {}

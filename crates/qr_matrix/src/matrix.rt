@@ -199,8 +199,8 @@ impl Matrix {
         let words = side.div_ceil(64);
         for band in 0..words {
             for word in 0..words {
-                // The tile of `other` that becomes tile `word` of band `band` of this square. In `other` it is tile
-                // `band` of band `word`. If it has rows below the last row of the square, these stay light.
+                // Tile `band` of band `word` of `other`, which becomes tile `word` of band `band` of this square. If
+                // the tile has rows below the last row of the square, these stay light.
                 let mut tile = [0; 64];
                 for line in 0..(side - 64 * word).min(64) {
                     tile[line] = other.rows[64 * word + line].0[band];

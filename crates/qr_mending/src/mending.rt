@@ -38,8 +38,8 @@ pub(crate) struct MendedSquare {
     pub(crate) blocks: MendedBlocks,
 }
 
-// Mends all blocks with the level and the mask `near`. Returns `None` if `near` is `None`, or if some block cannot be
-// mended with this level and mask.
+// Mends all blocks with the level and the mask `near`. Returns `None` if `near` is `None`, or if a block has too many
+// wrong codewords.
 fn mend_with(
     alloc: Global,
     scan: &Scan,
@@ -95,7 +95,7 @@ fn is_certain(scan: &Scan, mended: &Option<MendedSquare>) -> bool
 }
 
 // Returns the mended square with whose level and mask both copies together cost less, or the first square if the costs
-// are equal. If there is only one square, it is returned.
+// are equal, or the only square if only one was mended.
 fn nearer(
     scan: &Scan,
     first: Option<MendedSquare>,
