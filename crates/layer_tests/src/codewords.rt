@@ -240,8 +240,9 @@ fn means(
     Ok(parsed.bytes.as_slice() == bytes && found.eq(ecis.iter().copied()))
 }
 
-// The codewords of the Greek letters and those with FNC1 in second position are examples of the standard. The codewords
-// of the fields were worked out by hand from its tables.
+// The codewords of the Greek letters are an example of the standard. The others were worked out by hand from the tables
+// of the standard: `fields` has FNC1 in first position, a separator of fields, and ECI 26, and `application` has FNC1
+// in second position.
 #[test]
 fn interpretations(rt: HostRuntime) -> Result<(), Fail> {
     let greek = [0x70, 0x94, 0x05, 0xA1, 0xA2, 0xA3, 0xA4, 0xA5, 0x00];
