@@ -13,9 +13,9 @@ use Rattle.qr_drawing.specs.declared.text.TextStyle.TheVariants.{Plain, Inverse,
 abbrev pub HaveOneSide : List Grid → Type 0
 HaveOneSide squares = All (λ g. g.side ≡ (square_at squares 0).side) squares
 
--- The bytes of a drawing of the squares. Around each square is a light margin of `margin` modules. In the first three
--- types each square is drawn as a text, and these texts come one after the other. An SVG drawing is one document for
--- all squares [own]
+-- The bytes of a drawing of the squares. Around each square is a light margin of `margin` modules. In ASCII, inverse
+-- ASCII and UTF8 each square is drawn as a text, and these texts come one after the other. An SVG drawing is one
+-- document for all squares [own]
 abbrev pub drawn : Drawing → ℕ → List Grid → List ℕ
 drawn Ascii margin squares = flat_map (text_drawing Plain margin) squares
 drawn AsciiInverse margin squares = flat_map (text_drawing Inverse margin) squares

@@ -19,10 +19,10 @@ FormatsLieApart g h = (copy : FormatCopy) → 7 ≤ bit_differences 15 (copy_bit
 abbrev pub SomeBlockLiesApart : (v : ℕ) (l k : Level) → HeldMessage v l → HeldMessage v k → Type 0
 SomeBlockLiesApart v l k m n = (i : ℕ) × (i < blocks_in v l) × (2 * correctable_of v l < differences (held_block v l m i) (held_block v k n i))
 
--- If two symbols of version `v` have different levels or data codewords, one of two statements holds. In each copy of
--- the format information the symbols differ in at least seven modules. Or they have the same level and mask, and there
--- is a block in which they differ in more than 2t codewords. Here t is the number of misread codewords that can be
--- corrected in a block of this version and level [own]
+-- If two symbols of version `v` have different levels or data codewords, one of two statements holds. The first is that
+-- in each copy of the format information the symbols differ in at least seven modules. The second is that they have the
+-- same level and mask, and that there is a block in which they differ in more than 2t codewords. Here t is the number
+-- of misread codewords that can be corrected in a block of this version and level [own]
 abbrev pub SymbolsLieApart : ℕ → Type 0
 SymbolsLieApart v =
     (l k : Level) (m : HeldMessage v l) (n : HeldMessage v k) (cw ds : List ℕ) → m.mask < 8 → n.mask < 8

@@ -13,8 +13,9 @@ use Rattle.qr_matrix.specs.BitRow.{has_bit}
 use Rattle.qr_mending.specs.declared.format.FormatCopy.{FormatCopy}
 use Rattle.qr_mending.specs.declared.format.FormatCopy.TheVariants.{First, Second}
 
--- The place of the module that shows bit `i` in a copy, in a symbol with `s` modules on a side. Bit 0 is the lowest.
--- The first copy is beside the top left finder pattern, and the second beside the other two (ISO/IEC 18004:2015, 7.9.1)
+-- The place of the module that shows bit `i` in a copy of the format information, if the symbol has `s` modules on a
+-- side. Bit 0 is the lowest. The first copy is beside the top left finder pattern, and the second beside the other two
+-- (ISO/IEC 18004:2015, 7.9.1)
 abbrev pub copy_place : FormatCopy → ℕ → ℕ → Place
 copy_place First s i = first_place i
 copy_place Second s i = second_place s i

@@ -36,9 +36,10 @@ abbrev pub IsOfNoUse : Grid → FormatCopy → ℕ → Grid → Type 0
 IsOfNoUse unknown copy v g = (l : Level) (mask : ℕ) → IsNearFormat unknown copy g l mask
     → (message changed : List ℕ) → HoldsDamaged unknown v l mask g message changed → ⊥
 
--- The number by which pairs of a level and a mask are compared. The pair is near to the given copy, and both copies
--- together cost `cost` with it. The square is read with the pair that has the lowest number. A higher cost gives a
--- higher number, and between equal costs the number for the first copy is lower [own]
+-- The number by which a pair of a level and a mask is compared with other pairs. The pair is near to the given copy,
+-- and both copies together cost `cost` with it. Of the pairs with which all blocks can be mended, the one that has the
+-- lowest number is used for reading. A higher cost gives a higher number, and between equal costs the number for the
+-- first copy is lower [own]
 abbrev pub compared_cost : FormatCopy → ℕ → ℕ
 compared_cost First cost = 2 * cost
 compared_cost Second cost = 2 * cost + 1
@@ -113,9 +114,9 @@ pub record IsBeyondMending (unknown g : Grid) : Type 0 where
   pub useless : (any : FormatCopy) → IsOfNoUse unknown any version g
 
 -- The square `g` may be refused for the given fault. `Memory` is possible for every square, and `Series` for none.
--- `Side` is possible if no version has the side of `g`. `Format` is possible if no level and mask are near to a copy,
--- and `Check` if some are, but with none of them can all blocks be mended. `Segments` is possible if the mended message
--- cannot be parsed (ISO/IEC 18004:2015, 12)
+-- `Side` is possible if no version has the side of `g`. `Format` is possible if no pair of a level and a mask is near
+-- to a copy. `Check` is possible if there are such pairs, but with none of them can all blocks be mended. `Segments` is
+-- possible if the mended message cannot be parsed (ISO/IEC 18004:2015, 12)
 abbrev pub IsUnmended : Grid → Grid → ReadFault → Type 0
 IsUnmended unknown g unread.Memory = Unit {0}
 IsUnmended unknown g unread.Side = (v : ℕ) → IsOfVersion g v → ⊥

@@ -1,7 +1,7 @@
 -- How the message of a damaged symbol is mended block by block. `unknown` is a square that is dark where a module of
 -- the symbol was not read; a codeword with such a module is erased. `b` has the sizes of the blocks, `cw` lists the
--- interleaved codewords as they were read, and `places` is the order. An erased codeword uses up one error correction
--- codeword, and a misread one uses up two.
+-- interleaved codewords as they were read, and `places` is the order of the modules of the region. An erased codeword
+-- uses up one error correction codeword, and a misread one uses up two.
 use Rattle.std.specs.Prelude.{◌≡◌, ℕ, ◌+◌, ◌*◌, ◌<◌, ◌≤◌, if◌then◌else◌, Option, None, Some, List, ◌++◌, map, take, drop, length, slice_index}
 use Rattle.std.specs.List.{list_any, range_with_len}
 use Rattle.qr_field.specs.Polynomial.{IsCorrection}
@@ -31,9 +31,9 @@ abbrev pub read_at : Grid → List Place → List ℕ → ℕ → Option ℕ
 read_at unknown places cw k =
     if list_any (λ m. colour unknown m.row m.col) (modules_of places k) then None else Some (slice_index cw k)
 
--- `interleaved` has an item for each codeword, in the order of the final sequence. These may be the codewords
--- themselves, or their marks or indices. `d` lists the items of the data codewords, block by block, and `e` those of
--- the error correction codewords in the same way (ISO/IEC 18004:2015, 7.5.1, 7.6)
+-- `interleaved` has an item for each codeword (the codeword itself, its mark or its index), in the order of the final
+-- sequence. `d` lists the items of the data codewords, block by block, and `e` those of the error correction codewords
+-- in the same way (ISO/IEC 18004:2015, 7.5.1, 7.6)
 pub record AreInBlocks (b : Blocks) (interleaved d e : List ℕ) : Type 0 where
   pub gathered : IsGathered (data_sizes b) interleaved d
   pub rest : IsGathered (correction_sizes b) (drop (codeword_count (data_sizes b)) interleaved) e

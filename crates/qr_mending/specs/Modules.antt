@@ -1,4 +1,5 @@
--- Two squares `g` and `h` that differ in few modules, such as a damaged and an undamaged symbol. `places` is the order.
+-- Two squares `g` and `h` that differ in few modules, such as a damaged and an undamaged symbol. `places` is the order
+-- of the modules of the region.
 use Rattle.std.specs.Prelude.{ℕ, ◌+◌, ◌<◌, ◌≤◌, List}
 use Rattle.std.specs.List.{count_by, sum_by}
 use Rattle.qr_layout.specs.declared.level.Level.{Level}

@@ -11,7 +11,7 @@ use Rattle.qr_drawing.specs.Drawing.{drawn}
 use Rattle.qr_drawing.specs.declared.drawing.Drawing.{Drawing}
 use Rattle.qr_parsing.specs.Parsing.{IsDrawingOf}
 
--- A text that is a drawing of squares has only one type, one margin and one list of squares whose drawing it is [own]
+-- A text is the drawing of at most one list of squares, of at most one type and with at most one margin [own]
 abbrev pub DrawingsAreOne : Type 0
 DrawingsAreOne = (kind other : Drawing) (margin last : ℕ) (squares others : List Grid) (text : List ℕ)
     → IsDrawingOf kind margin squares text → IsDrawingOf other last others text

@@ -14,8 +14,8 @@ abbrev pub fault_of : BitFault → EncodeFault
 fault_of bit.Memory = fault.Memory
 fault_of bit.TooLong = fault.TooLong
 
--- A number from 1 to 6 for each fault of reading, which later versions of this crate keep. The library for C has
--- another numbering [own]
+-- A number from 1 to 6 for each fault of reading. Later versions of this crate keep these numbers. The library for C
+-- has another numbering [own]
 abbrev pub read_fault_number : ReadFault → ℕ
 read_fault_number unread.Memory = 1
 read_fault_number unread.Side = 2

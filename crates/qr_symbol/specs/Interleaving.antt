@@ -1,6 +1,7 @@
 -- The final sequence of codewords. It consists of the data codewords of all blocks, interleaved, and then the error
--- correction codewords of all blocks, interleaved. In other lists of codewords, one block comes after the other. `c`
--- has the block sizes. Blocks are counted from 0, and so are the codewords in a block.
+-- correction codewords of all blocks, interleaved. In a list that is not interleaved, the codewords of each block come
+-- after those of the block before it. `c` has the block sizes. Blocks are counted from 0, and so are the codewords in a
+-- block.
 use Rattle.std.specs.Prelude.{◌≡◌, ℕ, ◌+◌, ◌-◌, ◌*◌, ◌<◌, ◌⊎◌, nat_lt, if◌then◌else◌, List, [], ◌++◌, map, take, drop, length, slice_index_or}
 use Rattle.std.specs.List.{All, AllPairs, Contains}
 use Rattle.qr_field.specs.Polynomial.{IsCorrection}

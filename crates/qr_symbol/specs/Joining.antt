@@ -37,18 +37,18 @@ HaveHeaders last parity k (c ∷ cs) =
     (c.header ≡ Some (record { position = k; last = last; parity = parity })) × HaveHeaders last parity (k + 1) cs
 
 -- There is at least one content, and the contents are those of a whole series, in order. The header of each content has
--- the content's position, counted from 0, the number of contents less 1, and the parity data of the bytes of all
+-- the content's position (counted from 0), the number of contents less 1, and the parity data of the bytes of all
 -- contents (ISO/IEC 18004:2015, 8.1 to 8.3)
 abbrev pub AreInSeries : List Content → Type 0
 AreInSeries contents =
     (0 < length contents) × HaveHeaders (length contents - 1) (parity_of (bytes_of_all contents)) 0 contents
 
--- The contents can be joined: there is one plain content, or they are those of a whole series [own]
+-- The contents can be joined: there is only one, which is plain, or they are the contents of a whole series [own]
 abbrev pub BelongTogether : List Content → Type 0
 BelongTogether contents = IsPlain contents ⊎ AreInSeries contents
 
--- The squares are read as contents that belong together: they are one plain content, or those of a whole series.
--- `bytes` are the bytes of these contents, one content after the other (ISO/IEC 18004:2015, 8.1 to 8.3, 12)
+-- The squares are read as contents that belong together: one plain content, or the contents of a whole series. `bytes`
+-- are the bytes of these contents, one content after the other (ISO/IEC 18004:2015, 8.1 to 8.3, 12)
 pub record IsJoinedBy (reads : Grid → Content → Type 0) (squares : List Grid) (bytes : List ℕ) : Type 0 where
   pub contents : List Content
   pub read : AreReadBy reads squares contents

@@ -11,12 +11,12 @@ abbrev pub all_masks : List ℕ
 all_masks = range_with_len 0 8
 
 -- Rows 0 to 11 of the mask in columns 0 to 5. Each row is a number of six binary digits, of which the highest is for
--- column 0. A digit is 1 if the mask inverts a module at this place [own]
+-- column 0. The digit of a place is 1 if the mask inverts a module there [own]
 abbrev pub first_rows : ℕ → List ℕ
 first_rows mask = map (λ r. value (map (inverts mask r) (range_with_len 0 6))) (range_with_len 0 12)
 
--- For each mask, rows 0 to 11 in columns 0 to 5, worked out from Table 10 without this program. A digit is 1 if the
--- mask inverts a module at this place, and the first digit of a row is for column 0 (ISO/IEC 18004:2015, 7.8.2)
+-- For each mask, rows 0 to 11 in columns 0 to 5, worked out from Table 10 without this program. The digits of a row are
+-- for columns 0 to 5 in turn, and a digit is 1 if the mask inverts a module at its place (ISO/IEC 18004:2015, 7.8.2)
 abbrev pub computed_rows : List (List ℕ)
 computed_rows =
     (0b101010 ∷ 0b010101 ∷ 0b101010 ∷ 0b010101 ∷ 0b101010 ∷ 0b010101 ∷ 0b101010 ∷ 0b010101 ∷ 0b101010 ∷ 0b010101 ∷ 0b101010 ∷ 0b010101 ∷ []) ∷

@@ -79,9 +79,9 @@ pub record IsOfVersion (g : Grid) (v : ℕ) : Type 0 where
   pub most : v ≤ 40
   pub side : g.side ≡ side_of v
 
--- The square `g` has the side of some version, and the format information of some level and mask. Its codewords are the
--- final sequence of some data codewords. Parsing these data codewords yields `outcome`, which is a content or a fault
--- (ISO/IEC 18004:2015, 12)
+-- The square `g` has the side of some version, and the format information of some level and mask. The codewords of the
+-- square are the final sequence of some data codewords. Parsing these data codewords yields `outcome`, which is a
+-- content or a fault (ISO/IEC 18004:2015, 12)
 pub record IsParsedAs (g : Grid) (outcome : Result Content ParseFault) : Type 0 where
   pub version : ℕ
   pub level : Level

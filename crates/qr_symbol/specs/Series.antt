@@ -54,8 +54,8 @@ AreSymbolsFrom v l rule i last parity k (p ∷ ps) (s ∷ ss) =
     × AreSymbolsFrom v l rule i last parity (k + 1) ps ss
 
 -- `x` does not fit one symbol without a header. It is cut into at most 16 parts, and `symbols` are the symbols of these
--- parts, in order. The header of each symbol has its position, counted from 0, the number of symbols less 1, and the
--- parity data of `x` [own]
+-- parts, in order. The header of each symbol has the symbol's position (counted from 0), the number of symbols less 1,
+-- and the parity data of `x` [own]
 pub record IsSplit (v : ℕ) (l : Level) (rule : Rule) (i : Interpretation) (x : List ℕ) (symbols : List Symbol) : Type 0 where
   pub too_long : FitsVersion v l rule i x → ⊥
   pub parts : List (List ℕ)

@@ -14,8 +14,9 @@ use Rattle.qr_symbol.specs.Mask.{inverts, inverted}
 
 -- The colour of the module in row `r` and column `c`, if it has the given role. A module of a function pattern and the
 -- dark module have the colour that the role states. A module of format or version information shows its bit in this
--- information. A module of the region shows its codeword bit, or is light if it comes after all codewords; if the mask
--- inverts the module, it has the other colour (ISO/IEC 18004:2015, 7.7.2, 7.7.3, 7.8.1, 7.9.1, 7.10)
+-- information. A module of the region shows its codeword bit, or is light if it comes after the modules of all
+-- codewords; if the mask inverts the module, dark and light are exchanged (ISO/IEC 18004:2015, 7.7.2, 7.7.3, 7.8.1,
+-- 7.9.1, 7.10)
 abbrev pub colour_by : ℕ → Level → ℕ → List ℕ → ℕ → ℕ → Role → Bool
 colour_by v l mask cw r c (Fixed dark) = dark
 colour_by v l mask cw r c (FormatBit i) = has_bit (format_word_of l mask) i

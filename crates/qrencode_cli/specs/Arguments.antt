@@ -20,7 +20,7 @@ number_rule id letter most = record (text_rule id letter) { parser = Some (parse
 abbrev pub required_rule : Text → ℕ → Rule
 required_rule id letter = record (text_rule id letter) { required = true }
 
--- The rule of an argument that is not the value of an option, such as the string [own]
+-- The rule of an argument that is neither an option nor the value of an option, such as the string [own]
 abbrev pub positional_rule : Text → Rule
 positional_rule id = record (new_rule id) { value_names = 1 }
 

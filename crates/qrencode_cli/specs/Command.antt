@@ -34,7 +34,7 @@ abbrev pub held : SettingsView → List ℕ → List ℕ
 held s input = if s.fold then folded (rule_for s) input else input
 
 -- `drawing` is the drawing of symbols that the settings ask for. If these symbols are read and joined, they yield
--- `input`. `input` is not empty, and it is shorter than `INPUT_MAX`, so nothing was cut off [own]
+-- `input`. `input` is not empty and has fewer than `INPUT_MAX` bytes, so nothing was cut off [own]
 pub record IsDrawing (s : SettingsView) (input drawing : List ℕ) : Type 0 where
   pub squares : List Grid
   pub symbols : AreSymbols s input squares

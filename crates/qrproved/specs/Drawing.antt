@@ -12,8 +12,8 @@ use Rattle.qrproved.specs.Modules.{square_of_bytes}
 abbrev pub drawing_of : ℕ → Drawing
 drawing_of n = if n == 0 then Ascii else (if n == 1 then AsciiInverse else (if n == 2 then Utf8 else Svg))
 
--- The numbers are in range. Of their bounds, 177 is the side of version 40, 16 is the number of symbols of the longest
--- series, and 100 is the greatest margin of the command [own]
+-- The numbers are in range. Of their bounds, 177 is the side of version 40 in modules, 16 is the number of symbols of
+-- the longest series, and 100 is the greatest margin of the command [own]
 abbrev pub AreDrawingSettings : (side count drawing margin : ℕ) → Type 0
 AreDrawingSettings side count drawing margin =
     (1 ≤ side) × (side ≤ 177) × (1 ≤ count) × (count ≤ 16) × (drawing < 4) × (margin ≤ 100)

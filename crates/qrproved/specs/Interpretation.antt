@@ -14,7 +14,7 @@ abbrev pub told_eci : EciChange → QrprovedEci
 told_eci e = record { begin = e.begin; number = e.number }
 
 -- `before` is the buffer before the call, and `after` the buffer after it. `after` begins with the ECI headers, or with
--- the first of them if there is not room for all. The rest of the buffer is unchanged [own]
+-- as many of the first ones as the buffer has room for. The rest of the buffer is unchanged [own]
 abbrev pub HoldsEcis : List EciChange → List QrprovedEci → List QrprovedEci → Type 0
 HoldsEcis ecis before after = after ≡ take (length before) (map told_eci ecis) ++ drop (length ecis) before
 
@@ -25,8 +25,8 @@ TellsFnc1 None fnc1 application = (fnc1 ≡ 0) × (application ≡ 0)
 TellsFnc1 (Some First) fnc1 application = (fnc1 ≡ 1) × (application ≡ 0)
 TellsFnc1 (Some (Second a)) fnc1 application = (fnc1 ≡ 2) × (application ≡ a)
 
--- The buffer and three numbers report the interpretation of the content. The ECI headers are in the buffer, `eci_count`
--- is their number, and `fnc1` and `application` report FNC1 [own]
+-- The buffer and three numbers report the interpretation of the content. The buffer has as many of the ECI headers as
+-- it has room for, `eci_count` is the number of all of them, and `fnc1` and `application` report FNC1 [own]
 pub record TellsInterpretation (content : Content) (before after : List QrprovedEci) (eci_count fnc1 application : ℕ) : Type 0 where
   pub ecis : HoldsEcis content.ecis before after
   pub count : eci_count ≡ length content.ecis

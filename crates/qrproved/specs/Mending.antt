@@ -27,14 +27,14 @@ pub record HasOtherByte (modules : List ℕ) (side : ℕ) : Type 0 where
   pub whole : side * side ≤ length modules
   pub one : Any (λ b. 2 < b) (take (side * side) modules)
 
--- `n` is the greatest of the numbers; an empty list has none [own]
+-- `n` is the greatest of the numbers `xs`; an empty list has no greatest number [own]
 pub record IsGreatest (xs : List ℕ) (n : ℕ) : Type 0 where
   pub one : Contains xs n
   pub most : All (λ x. x ≤ n) xs
 
 -- `m` tells how damaged the symbol is. It says how many modules of the square are wrong, how many modules in both
--- copies of the format information are wrong, how many codewords were corrected in the block with the most of them, and
--- how many misread codewords can be corrected in a block (ISO/IEC 18004:2015, 7.5.1, 7.9.1)
+-- copies of the format information are wrong, the greatest number of codewords that were corrected in a block, and how
+-- many misread codewords can be corrected in a block (ISO/IEC 18004:2015, 7.5.1, 7.9.1)
 pub record TellsDamage (m : QrprovedMended) (changed : List ℕ) (side : ℕ) (modules : List ℕ) : Type 0 where
   pub whole : HasWrongModules (square_of_unknown side modules) (square_of_bytes side modules) m.version (level_of m.level) m.mask changed m.wrong_modules
   pub format : m.wrong_format_modules ≡ wrong_format_modules (square_of_unknown side modules) (square_of_bytes side modules) (level_of m.level) m.mask

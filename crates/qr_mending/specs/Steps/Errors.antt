@@ -36,10 +36,10 @@ pub record AreErrors (n : ℕ) (p s e : List ℕ) : Type 0 where
   pub located : IsLocated p e
   pub values : HasValues s e
 
--- What always holds of Chien's search when it has still to try the codewords at the locations below `left`. Its list
--- `values` was computed from an earlier locator, before some roots were divided out. For each location m from `first`
--- to `left - 1` it has the value of that earlier locator at 2^m. If this value is 0, 2^m is still a root of the
--- locator.
+-- What always holds of Chien's search, in a form that computes sixteen values of the locator at once from a table, when
+-- it has still to try the codewords at the locations below `left`. The list `values` was computed from an earlier
+-- locator, before some roots were divided out. For each location m from `first` to `left - 1` it has the value of that
+-- earlier locator at 2^m. If this value is 0, 2^m is still a root of the locator.
 pub record IsRemoval (left : ℕ) (removal : Removal) : Type 0 where
   pub leading : HasLeadingOne removal.locator.items
   pub enough : array_vec_len removal.locator ≤ array_vec_len removal.syndromes + 1
@@ -47,8 +47,8 @@ pub record IsRemoval (left : ℕ) (removal : Removal) : Type 0 where
   pub roots : (m : ℕ) → removal.first ≤ m → m < left → slice_index removal.values (m - removal.first) ≡ 0 →
       eval (power m) removal.locator.items ≡ 0
 
--- `e` lists the errors of the codewords that the search has still to try, which are at the locations below `left`.
--- Where the value of the locator was computed already and is not 0, the error is 0.
+-- `e` lists the errors of the codewords that the search `removal` has still to try, which are at the locations below
+-- `left`. If a value of the locator was computed already for one of these locations and is not 0, the error there is 0.
 pub record AreLeft (left : ℕ) (e : List ℕ) (removal : Removal) : Type 0 where
   pub errors : AreErrors left removal.locator.items removal.syndromes.items e
   pub none : (m : ℕ) → removal.first ≤ m → m < left → (slice_index removal.values (m - removal.first) ≡ 0 → ⊥) →

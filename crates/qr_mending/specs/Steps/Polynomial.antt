@@ -1,6 +1,6 @@
 -- Polynomials with the leading coefficient 1, and the search for the error locator polynomial. The syndromes from index
--- j on stand for equation j: the coefficient of x^k is multiplied by the syndrome at index j + k, for each k, and the
--- products have to add up to 0.
+-- j on stand for equation j. To test whether a polynomial solves it, for each k the coefficient of x^k is multiplied by
+-- the syndrome at index j + k; the products have to add up to 0.
 use Rattle.std.specs.Prelude.{◌≡◌, ℕ, ◌+◌, ◌*◌, ◌<◌, ◌≤◌, List, take, drop, length, slice_index}
 use Rattle.std.specs.List.{All}
 use Rattle.qr_field.specs.Polynomial.{IsByte}
@@ -32,8 +32,8 @@ pub record IsBest (i : ℕ) (s : List ℕ) (p : Polynomial) : Type 0 where
 
 -- The search for the error locator polynomial after the first `i` of the syndromes `s`. The polynomial `best` solves
 -- all equations for which these are enough. If `best` does not solve the next equation, a multiple of `earlier` will be
--- added to it. Let d be the degree of `best`. `earlier` solves each equation whose index is below d - 1, but not the
--- equation with the index d - 1: its sum of products there is `earlier_discrepancy`, which is not 0.
+-- added to `best`. Let d be the degree of `best`. `earlier` solves each equation whose index is below d - 1, but not
+-- the equation with the index d - 1: its sum of products there is `earlier_discrepancy`, which is not 0.
 pub record IsSearch (i : ℕ) (s : List ℕ) (search : Search) : Type 0 where
   pub best : IsBest i s search.best
   pub bytes : All IsByte (all_of search.earlier)
@@ -43,8 +43,8 @@ pub record IsSearch (i : ℕ) (s : List ℕ) (search : Search) : Type 0 where
   pub last : (j : ℕ) → j + 1 ≡ search.best.degree → discrepancy_of search.earlier (drop j s) ≡ search.earlier_discrepancy
 
 -- `progress` has the first syndromes of a block, and the search for its error locator polynomial. Division of the block
--- by the generator polynomial leaves the remainder `r`. The search has taken in the first `taken` of the syndromes, at
--- most 2`t`. The degree of the polynomial `best` that it has found is at most `t`.
+-- by the generator polynomial leaves the remainder `r`. The search has taken in the first `taken` of the syndromes, and
+-- `taken` is at most 2`t`. The degree of the polynomial `best` that it has found is at most `t`.
 pub record IsProgress (t : ℕ) (r : List ℕ) (progress : Progress) : Type 0 where
   pub values : HasValues progress.syndromes.items r
   pub count : length progress.syndromes.items ≤ length r

@@ -26,6 +26,6 @@ blend (a ∷ p) i e = bit_xor (product a (value_at i e)) (blend p (i + 1) e)
 pub record HasValues (s e : List ℕ) : Type 0 where
   pub each : (k : ℕ) → k < length s → slice_index s k ≡ value_at k e
 
--- The polynomial `r` has the same values as `e` at the first powers of 2, as many as `r` has coefficients.
+-- The polynomial `r` has the same values as `e` at 2^0, 2^1 and so on, at as many powers of 2 as `r` has coefficients.
 pub record HasSameValues (r e : List ℕ) : Type 0 where
   pub each : (k : ℕ) → k < length r → value_at k r ≡ value_at k e

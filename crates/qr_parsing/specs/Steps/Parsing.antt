@@ -1,5 +1,5 @@
--- What the parser finds in a text: the only type, margin and squares whose drawing the text can be. It then draws these
--- squares, and compares this drawing with the text.
+-- What the parser finds in a text: the only type, margin and squares whose drawing the text can be. The parser then
+-- draws these squares, to compare the result with the text.
 use Rattle.std.specs.Prelude.{◌≡◌, ℕ, ◌<◌, ◌≤◌, List, length}
 use Rattle.std.specs.List.{All}
 use Rattle.qr_matrix.specs.Grid.{Grid, IsSquare}

@@ -65,7 +65,8 @@ width_in Utf8 text = first_line (cells_in text)
 width_in Svg text = slice_index_or (numbers_in text) 9 0
 
 -- The bytes of the sheet, if the text is a drawing of this type. Among all numbers in an SVG document, counted from 0,
--- the number with the index 10 is the height, and the numbers from the index 16 on give the boxes
+-- the number with the index 10 is the height of the document in modules, and the numbers from the index 16 on give the
+-- boxes
 abbrev pub bytes_in : Drawing → List ℕ → List ℕ
 bytes_in Ascii text = text
 bytes_in AsciiInverse text = text
@@ -79,8 +80,9 @@ count_in AsciiInverse text = length text / (width_in AsciiInverse text * (2 * wi
 count_in Utf8 text = length (cells_in text) / ((width_in Utf8 text + 1) / 2 * (width_in Utf8 text + 1))
 count_in Svg text = slice_index_or (numbers_in text) 10 0 / width_in Svg text
 
--- The code makes this sheet from the text: `kind` is its type, `width` the width of each raster, `count` the number of
--- rasters, and `bytes` are its bytes. If the text is no drawing, the bytes may be any
+-- The code makes this sheet from the text. `kind` is the type of the drawing, `width` the width of each raster in
+-- modules, `count` the number of rasters, and `bytes` lists the bytes of the sheet. If the text is no drawing, `bytes`
+-- may be anything
 pub record IsSheetOf (kind : Drawing) (width count : ℕ) (bytes text : List ℕ) : Type 0 where
   pub kind_is : kind ≡ kind_in text
   pub width_is : width ≡ width_in kind text
@@ -88,6 +90,7 @@ pub record IsSheetOf (kind : Drawing) (width count : ℕ) (bytes text : List ℕ
   pub bytes_is : (k : Drawing) (margin : ℕ) (squares : List Grid) → IsDrawingOf k margin squares text → bytes ≡ bytes_in kind text
 
 -- The text cannot be a drawing, because its rasters would be narrower than 8 modules or wider than 687, or there would
--- be more than 16 of them. A raster of 687 modules has the greatest symbol, 177 modules wide, and two margins of 255
+-- be more than 16 of them. A raster that is 687 modules wide has the greatest symbol, 177 modules wide, and a margin of
+-- 255 modules on each side
 abbrev pub HasNoSheet : List ℕ → Type 0
 HasNoSheet text = ((width_in (kind_in text) text < 8) ⊎ (687 < width_in (kind_in text) text)) ⊎ (16 < count_in (kind_in text) text)

@@ -9,7 +9,7 @@ abbrev pub is_cell : ℕ → Bool
 is_cell byte = not (byte == 0xE2 || byte == 0x96)
 
 -- One of the first 22 bytes of the text is E2 (hexadecimal), with which each block character begins. Every UTF8 text
--- has one there, since the module in row 0 and column 7 of its first raster is light
+-- has this byte there, since the module in row 0 and column 7 of its first raster is light
 abbrev pub has_block : List ℕ → Bool
 has_block text = nat_lt (position_or_len (λ byte. byte == 0xE2) (take 22 text)) (length (take 22 text))
 

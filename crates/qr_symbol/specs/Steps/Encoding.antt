@@ -17,8 +17,8 @@ pub record IsFit (smallest : ℕ) (l : Level) (rule : Rule) (i : Interpretation)
   pub chosen : IsLeastSegmentation i v rule x characters segments
 
 -- The result `r` is `Empty` exactly if `x` is empty. If memory suffices, it is `TooLong` exactly if `x` fits no version
--- from `smallest` on. In any case it is `TooLong` if `x` has more than 7,089 bytes, which no symbol has room for. The
--- only other fault is `Memory`.
+-- from `smallest` on. Even without enough memory it is `TooLong` if `x` has more than 7,089 bytes, which no symbol has
+-- room for. The only other fault is `Memory`.
 pub record IsRefusedExactly {X : Type 0} (smallest : ℕ) (l : Level) (rule : Rule) (i : Interpretation) (x : List ℕ) (r : Result X EncodeFault) : Type 0 where
   pub empty : (r ≡ Err fault.Empty) ↔ (x ≡ [])
   pub too_long : (r ≡ Err fault.TooLong) ↔ ((r ≢ Err fault.Memory) × HasNoVersion smallest l rule i x)

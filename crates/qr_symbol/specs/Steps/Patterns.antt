@@ -33,8 +33,8 @@ pub record IsOver (s : ℕ) (test paint other : ℕ → ℕ → Bool) (g : Grid)
 abbrev pub is_in_finder_area : ℕ → ℕ → ℕ → ℕ → Bool
 is_in_finder_area top left r c = nat_le top r && nat_lt r (top + 8) && nat_le left c && nat_lt c (left + 8)
 
--- The format information in which only bit 7 is 1. With it, transposing a symbol changes nothing outside the region:
--- the dark module and a module of bit 7, which is dark too, are exchanged.
+-- The format information in which only bit 7 is 1. With it, exchanging rows and columns of a symbol changes no colour
+-- outside the region: the dark module changes places with a module of bit 7, which is dark too.
 abbrev pub symmetric_format : ℕ
 symmetric_format = 128
 

@@ -1,10 +1,10 @@
 -- The colours after each step of drawing the codewords `cw` in version `v`. The bits of the codewords are numbered from
 -- 0, and bit 0 is the highest bit of the first codeword.
 --
--- `x` is a strip, and `first` the number of its first bit. Its rows come in the order of filling, which is upward or
--- downward. `s` is the side of the symbol. `y` has the colours of the two columns of the strip, which are rows of a
--- transposed square. `region` has two such columns, in which a bit is set exactly if its module is in the region.
--- `before` and `after` have the colours of the two columns before and after a step.
+-- `x` is a strip, and `first` the number of its first bit. The rows of the strip come in the order of filling, which is
+-- upward or downward. `s` is the side of the symbol. `y` has the colours of the two columns of the strip, which are
+-- rows of a transposed square. `region` has two such columns, in which a bit is set exactly if its module is in the
+-- region. `before` and `after` have the colours of the two columns before and after a step.
 use Rattle.std.specs.Prelude.{◌≡◌, ◌<◌, ◌≤◌, ℕ, ◌+◌, ◌-◌, ◌&&◌, Bool, false, true, if◌then◌else◌, List}
 use Prim.Native.Nat.{zero, suc}
 use Rattle.qr_layout.specs.declared.level.Level.{Level}
@@ -33,13 +33,13 @@ unfoldable pub walked_colour : ℕ → List ℕ → ℕ → (ℕ → ℕ → Boo
 walked_colour v cw mask other r c =
     if is_in_region v r c then inverted (inverts mask r c) (codeword_bit cw (index_of v (record { row = r; col = c }))) else other r c
 
--- The number of the bit that is drawn next after a module, if `number` is the number of the bit that is drawn next
--- before it. A module in the region takes one bit, so there the number rises by 1.
+-- The number of the next bit to be drawn when one more module has been passed, if it was `number` before. A module in
+-- the region takes one bit, so there the number rises by 1.
 abbrev pub number_after : Bool → ℕ → ℕ
 number_after is_in number = if is_in then number + 1 else number
 
--- The number of the bit that is drawn next after the first `k` rows of the strip `x`, in the order of filling. Before
--- the first row it is `first`.
+-- The number of the next bit to be drawn when the first `k` rows of the strip `x`, in the order of filling, have been
+-- passed. Before the first row it is `first`.
 abbrev pub number_at : ℕ → Strip → ℕ → ℕ → ℕ
 number_at v x first zero = first
 number_at v x first (suc k) =
@@ -66,16 +66,15 @@ abbrev pub IsRegion : ℕ → ℕ → Columns → Type 0
 IsRegion v right x = (row : ℕ) → row < side_of v → (has x.right row ≡ is_in_region v row right) × (has x.left row ≡ is_in_region v row (right - 1))
 
 -- Drawing row `k` of the strip changes the colours of its two modules from `right` and `left` to `right'` and `left'`.
--- Rows are counted from 0 in the order of filling. A module in the region gets its bit, and another module keeps its
--- colour. The first bit of the strip has the number `first`.
+-- Rows are counted from 0 in the order of filling. A module in the region gets its bit, and a module outside the region
+-- keeps its colour. The first bit of the strip has the number `first`.
 abbrev pub IsRowDrawn : ℕ → List ℕ → Strip → ℕ → ℕ → (right left right' left' : Bool) → Type 0
 IsRowDrawn v cw x first k right left right' left' =
     (right' ≡ (if is_in_region v (row_of (side_of v) x k) x.right then codeword_bit cw (number_at v x first k) else right))
     × (left' ≡ (if is_in_region v (row_of (side_of v) x k) (x.right - 1) then codeword_bit cw (number_after (is_in_region v (row_of (side_of v) x k) x.right) (number_at v x first k)) else left))
 
--- Drawing the `n` rows after the first `k` rows of the strip changes the strip's two columns from `before` to `after`.
--- Rows are counted in the order of filling. All other rows keep their colours. The first bit of the strip has the
--- number `first`.
+-- Drawing the `n` rows after the first `k` rows of the strip, in the order of filling, changes the strip's two columns
+-- from `before` to `after`. All other rows keep their colours. The first bit of the strip has the number `first`.
 pub record AreDrawn (v : ℕ) (cw : List ℕ) (x : Strip) (first k n : ℕ) (before after : Columns) : Type 0 where
   pub drawn : (j : ℕ) → k ≤ j → j < k + n
       → IsRowDrawn v cw x first j (has before.right (row_of (side_of v) x j)) (has before.left (row_of (side_of v) x j)) (has after.right (row_of (side_of v) x j)) (has after.left (row_of (side_of v) x j))

@@ -48,8 +48,9 @@ IsSpan s x region most k n (Left row) =
     (n ≡ 1) × (row ≡ row_of s x k) × (has region.right row ≡ false) × (has region.left row ≡ true)
 IsSpan s x region most k n Outside = (1 ≤ n) × AreOutside s x k n region
 
--- What always holds of an iterator over the spans of a strip. The side is at most 177, that of version 40. The limit
--- `most` for the rows of a span `Both` is at least 1. The iterator has not passed more rows than the strip has.
+-- What always holds of an iterator over the spans of a strip. The side of the symbol is at most 177 modules, that of
+-- version 40. The limit `most` for the rows of a span `Both` is at least 1. The iterator has not passed more rows than
+-- the strip has.
 pub record AreSpans (a : Spans) : Type 0 where
   pub rows : AreRegionRows a.region a.rows
   pub side : a.side ≤ 177

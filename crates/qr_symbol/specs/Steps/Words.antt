@@ -1,20 +1,22 @@
--- Bits that are moved within words, and bits of codewords that are read and written many at a time.
+-- Bits that are exchanged within words, and bits of codewords that are read and written many at a time. Wherever `mask`
+-- has a 1, the bit of a word at the same index is exchanged with the bit whose index is greater by `steps`. A collector
+-- takes in the bits that are read from a symbol, and appends them to a list.
 use Rattle.std.specs.Prelude.{◌≡◌, ◌<◌, ℕ, ◌+◌, ◌-◌, ◌&&◌, Bool, not, nat_le, if◌then◌else◌, List, ◌++◌, Option}
 use Rattle.std.specs.Option.{IfSome}
 use Rattle.qr_bits.specs.Bits.{codeword_bit}
 use Rattle.qr_matrix.specs.{BitRow.has_bit, Grid.is_same, Sums.all_below}
 
--- The index of the bit that bit `i` of a word is exchanged with, or `i` itself if there is none. Wherever `mask` has a
--- 1, the bit of the word at the same index is exchanged with the bit whose index is greater by `steps`.
+-- The index of the bit that bit `i` of a word is exchanged with, or `i` itself if it is not exchanged.
 abbrev pub partner : ℕ → ℕ → ℕ → ℕ
 partner steps mask i = if has_bit mask i then i + steps else if nat_le steps i && has_bit mask (i - steps) then i - steps else i
 
--- No two bits of the mask that are 1 have indices that differ by `steps`. So no bit is exchanged with two others.
+-- No two bits of `mask` that are 1 have indices that differ by `steps`. So no bit of a word is exchanged with two
+-- others.
 unfoldable pub are_pairs : ℕ → ℕ → Bool
 are_pairs steps mask = all_below 64 (λ i. not (has_bit mask i && has_bit mask (i + steps)))
 
--- For each of the 64 indices, the mask has a 1 either at this index or at the index that is smaller by `steps`, but not
--- at both. So each bit is exchanged with exactly one other bit.
+-- For each of the 64 indices, `mask` has a 1 either at this index or at the index that is smaller by `steps`, but not
+-- at both. So each bit of a word is exchanged with exactly one other bit.
 unfoldable pub are_halves : ℕ → ℕ → Bool
 are_halves steps mask = all_below 64 (λ i. not (is_same (has_bit mask i) (nat_le steps i && has_bit mask (i - steps))))
 
@@ -27,8 +29,7 @@ rank_in n upward j = if upward then n - 1 - j else j
 abbrev pub AreNext : List ℕ → ℕ → ℕ → Type 0
 AreNext cw number bits = (k : ℕ) → k < 64 → has_bit bits (63 - k) ≡ codeword_bit cw (number + k)
 
--- The bits in a collector, to which the bits that are read from a symbol are appended. The value is `None` if an
--- allocation was refused.
+-- The bits that a collector has, or `None` if an allocation was refused.
 abbrev pub Bits : Type 0
 Bits = Option (List Bool)
 

@@ -40,8 +40,8 @@ abbrev pub drawing_of_job : DrawingJob → List ℕ
 drawing_of_job job = drawn job.kind job.margin (squares_of job.symbols.items)
 
 -- The settings ask for these symbols of `input`. If the symbols are read and joined, they yield `input`. `input` is not
--- empty, and it is shorter than `INPUT_MAX`, so nothing was cut off. The symbols can be drawn: there are 1 to 16, and
--- all have one side
+-- empty and has fewer than `INPUT_MAX` bytes, so nothing was cut off. The symbols can be drawn: there are 1 to 16, and
+-- all have the same side
 pub record AreDrawnFor (s : SettingsView) (input : List ℕ) (symbols : List Symbol) : Type 0 where
   pub asked : AreSymbols s input (squares_of symbols)
   pub joined : IsJoined (squares_of symbols) input
