@@ -81,12 +81,12 @@ interpreted = (
       0x41 ∷ 0x1D ∷ 0x42 ∷ 0x25 ∷ 0x43 ∷ 0x25 ∷ 0x25 ∷ [],
     ) ∷ []
 
--- Codewords that cannot be read in version 1, each with its fault. The first six have a number that is too large: 1000
--- for three digits, 100 for two digits, 10 for one digit, 2025 for two characters, 45 for one character, and
--- hexadecimal BD in kanji mode. The next three end within the data, within the character count indicator, and within
--- the header. One has a mode indicator that is not defined, and one has a second header. The last five have half a
--- designator, a designator that begins with the bits 111, the ECI number 1000000, the application indicator 100, and
--- FNC1 after a segment [own]
+-- Lists of codewords that cannot be read in version 1, each with its fault. The first six have a number that is too
+-- large: 1000 for three digits, 100 for two digits, 10 for one digit, 2025 for two characters, 45 for one character,
+-- and hexadecimal BD in kanji mode. The next three end within the data, within the character count indicator, and
+-- within the header. The tenth has a mode indicator that is not defined, and the eleventh a second header. The last
+-- five have half a designator, a designator that begins with the bits 111, the ECI number 1000000, the application
+-- indicator 100, and FNC1 after a segment [own]
 abbrev pub unreadable : List (List ℕ × ParseFault)
 unreadable =
     (0x10 ∷ 0x0F ∷ 0xE8 ∷ [], BadValue)

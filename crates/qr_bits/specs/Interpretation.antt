@@ -1,6 +1,7 @@
 -- How a symbol says what its bytes mean: by ECI headers and FNC1. Like the segments, these are items of the symbol. A
 -- segment contains characters, and these stand for the bytes. The characters are the bytes themselves, except in
--- alphanumeric mode after FNC1. `ms` are the modes of the bytes `xs`.
+-- alphanumeric mode after FNC1. The separator is the byte 1D (hexadecimal), which stands between two fields of GS1
+-- data. `ms` are the modes of the bytes `xs`.
 use Rattle.std.specs.Prelude.{ℕ, ◌+◌, ◌*◌, ◌/◌, ◌%◌, ◌<◌, Bool, true, false, ◌&&◌, ◌||◌, nat_lt, nat_le, if◌then◌else◌, List, [], ◌∷◌, ◌++◌, map, take, drop, length, ◌==◌, Option, Some, None, IsTrue}
 use Rattle.qr_bits.specs.declared.segmentation.Segment.{Segment}
 use Rattle.qr_bits.specs.declared.modes.Mode.{Mode}
@@ -31,13 +32,13 @@ fnc1_second_indicator = 9
 abbrev pub is_application_indicator : ℕ → Bool
 is_application_indicator a = nat_lt a 100 || nat_le 165 a && nat_le a 190 || nat_le 197 a && nat_le a 222
 
--- FNC1 may come directly after this item: the item is an ECI header, and FNC1 was allowed in the place of this header.
--- `may` says whether FNC1 was allowed there (ISO/IEC 18004:2015, 7.4.8.2)
+-- FNC1 may come directly after the given item: the item is an ECI header, and FNC1 was allowed in the place of this
+-- header. `may` says whether FNC1 was allowed there (ISO/IEC 18004:2015, 7.4.8.2)
 abbrev pub may_follow : Bool → Item → Bool
 may_follow may (Eci d) = may
 may_follow may _ = false
 
--- The items of a symbol that has these segments, and neither an ECI header nor FNC1 [own]
+-- The items of a symbol that has the given segments, and neither an ECI header nor FNC1 [own]
 abbrev pub plain : List Segment → List Item
 plain segs = map (λ s. Data s) segs
 
@@ -70,7 +71,7 @@ interpretation_bits written.Default = 0
 interpretation_bits (written.Eci n) = 4 + 8 * designator_codewords n
 interpretation_bits written.Gs1 = 4
 
--- The items of a symbol that has this interpretation and these segments: an ECI header, FNC1 in first position, or
+-- The items of a symbol that has the given interpretation and segments: an ECI header, FNC1 in first position, or
 -- neither, and then the segments (ISO/IEC 18004:2015, 7.4.2, 7.4.8.2)
 abbrev pub items_in : Interpretation → List Segment → List Item
 items_in written.Default segs = plain segs
@@ -105,15 +106,15 @@ are_fields [] = true
 are_fields (x ∷ []) = true
 are_fields (x ∷ y ∷ xs) = (if x == separator then (if y == separator then false else (if y == percent then false else true)) else true) && are_fields (y ∷ xs)
 
--- The byte `x` is written as two characters in this mode. This is so only for `%` in alphanumeric mode after FNC1
+-- The byte `x` is written as two characters in the given mode. This is so only for `%` in alphanumeric mode after FNC1
 -- (ISO/IEC 18004:2015, 7.4.8.2)
 abbrev pub is_doubled : Interpretation → ℕ → Mode → Bool
 is_doubled written.Gs1 x Alphanumeric = x == percent
 is_doubled _ x m = false
 
--- The character that is written for the byte `x` in this mode. `is_doubled` says whether this character is written once
--- or twice. The character is the byte itself, except that alphanumeric mode after FNC1 writes `%` for the separator
--- (ISO/IEC 18004:2015, 7.4.8.2)
+-- The character that is written for the byte `x` in the given mode. `is_doubled` says whether this character is written
+-- once or twice. The character is the byte itself, except that alphanumeric mode after FNC1 writes `%` for the
+-- separator (ISO/IEC 18004:2015, 7.4.8.2)
 abbrev pub character_for : Interpretation → ℕ → Mode → ℕ
 character_for written.Gs1 x Alphanumeric = if x == separator then percent else x
 character_for _ x m = x
@@ -150,8 +151,8 @@ characters_in written.Default xs ms = xs
 characters_in (written.Eci n) xs ms = xs
 characters_in written.Gs1 xs ms = characters_gs1 xs ms
 
--- The bytes `xs` can be written with this interpretation. GS1 data can be written if no separator comes directly before
--- another separator or before `%`. All other data can be written (ISO/IEC 18004:2015, 7.4.8.2)
+-- The bytes `xs` can be written with the given interpretation. GS1 data can be written if no separator comes directly
+-- before another separator or before `%`. All other data can be written (ISO/IEC 18004:2015, 7.4.8.2)
 abbrev pub MayWrite : Interpretation → List ℕ → Type 0
 MayWrite written.Gs1 xs = IsTrue (are_fields xs)
 MayWrite _ xs = Unit {0}
@@ -190,14 +191,14 @@ fnc1_of (Eci d ∷ is) = fnc1_of is
 fnc1_of (Fnc1First ∷ is) = Some First
 fnc1_of (Fnc1Second a ∷ is) = Some (Second a)
 
--- The ECI headers that are read from a symbol with this interpretation: one if the interpretation is an ECI, and
+-- The ECI headers that are read from a symbol with the given interpretation: one if the interpretation is an ECI, and
 -- otherwise none (ISO/IEC 18004:2015, 7.4.2)
 abbrev pub ecis_in : Interpretation → List EciChange
 ecis_in (written.Eci n) = record { number = n; begin = 0 } ∷ []
 ecis_in _ = []
 
--- The FNC1 that is read from a symbol with this interpretation: FNC1 in first position for GS1 data, and otherwise none
--- (ISO/IEC 18004:2015, 7.4.8.2)
+-- The FNC1 that is read from a symbol with the given interpretation: FNC1 in first position for GS1 data, and otherwise
+-- none (ISO/IEC 18004:2015, 7.4.8.2)
 abbrev pub fnc1_in : Interpretation → Option Fnc1
 fnc1_in written.Gs1 = Some First
 fnc1_in _ = None

@@ -1,4 +1,4 @@
--- What follows from the definitions of this crate. Functions of `laws.rt` have these laws as their contracts.
+-- The laws of this crate: what follows from its definitions. Each law is a contract of a function of `laws.rt`.
 use Rattle.std.specs.Prelude.{◌≡◌, ℕ, ◌+◌, ◌*◌, ◌<◌, ◌≤◌, ◌↔◌, Bool, true, false, List, ◌++◌, length, All, Option, Ok}
 use Rattle.std.specs.List.{slice_index_or}
 use Rattle.qr_layout.specs.declared.level.Level.{Level}
@@ -20,8 +20,8 @@ use Rattle.qr_bits.specs.Parsing.{content_of, ends, items_of, parse, plain_conte
 use Rattle.qr_bits.specs.declared.interpretation.Item.{Item}
 
 -- Parsing bits yields an optional header and segments, and no other items, exactly if the bits are the bit stream of
--- this header and these segments, followed by an end. An end is at most three bits, or the terminator and any bits
--- after it (ISO/IEC 18004:2015, 7.4.1, 7.4.9, 8.1)
+-- this header and these segments, followed by an end: at most three bits, or the terminator and any bits after it
+-- (ISO/IEC 18004:2015, 7.4.1, 7.4.9, 8.1)
 abbrev pub StreamsAreParsed : Type 0
 StreamsAreParsed =
     (v : ℕ) (bits : List Bool) (h : Option Header) (segs : List Segment) (xs : List ℕ) →
@@ -116,8 +116,8 @@ abbrev pub FieldsAreRead : Type 0
 FieldsAreRead = (xs : List ℕ) → are_fields xs ≡ true → separated (escaped xs) ≡ xs
 
 -- Parsing bits yields items exactly if the bits are those of these items, in an order that the standard allows,
--- followed by an end. An end is at most three bits, or the terminator and any bits after it (ISO/IEC 18004:2015, 7.4.1,
--- 7.4.2, 7.4.8, 7.4.9)
+-- followed by an end: at most three bits, or the terminator and any bits after it (ISO/IEC 18004:2015, 7.4.1, 7.4.2,
+-- 7.4.8, 7.4.9)
 abbrev pub ItemsAreParsed : Type 0
 ItemsAreParsed = (v : ℕ) (bits : List Bool) (items : List Item) (xs : List ℕ) →
     (items_of v true bits ≡ Ok (items, xs)) ↔

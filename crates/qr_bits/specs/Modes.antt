@@ -13,12 +13,12 @@ indicator Alphanumeric = 2
 indicator Byte = 4
 indicator Kanji = 8
 
--- The terminator: the four bits, as a number, that come in the place of the next mode indicator if nothing follows
--- (ISO/IEC 18004:2015, 7.4.1, Table 2)
+-- The terminator, as a number. Its four bits come in the place of the next mode indicator if no item follows (ISO/IEC
+-- 18004:2015, 7.4.1, Table 2)
 abbrev pub terminator : ℕ
 terminator = 0
 
--- How many bits the character count indicator of this mode has in version `v` (ISO/IEC 18004:2015, 7.4.1, Table 3)
+-- How many bits the character count indicator of the given mode has in version `v` (ISO/IEC 18004:2015, 7.4.1, Table 3)
 abbrev pub count_width : ℕ → Mode → ℕ
 count_width v Numeric = if nat_le v 9 then 10 else (if nat_le v 26 then 12 else 14)
 count_width v Alphanumeric = if nat_le v 9 then 9 else (if nat_le v 26 then 11 else 13)
@@ -31,8 +31,8 @@ abbrev pub character_count : Mode → ℕ → ℕ
 character_count Kanji n = n / 2
 character_count _ n = n
 
--- The number of bytes of a segment in this mode whose character count indicator is `n`: twice `n` in kanji mode, and
--- otherwise `n` (ISO/IEC 18004:2015, 7.4.1)
+-- The number of bytes of a segment whose character count indicator contains the number `n`: twice `n` in kanji mode,
+-- and otherwise `n` (ISO/IEC 18004:2015, 7.4.1)
 abbrev pub byte_count : Mode → ℕ → ℕ
 byte_count Kanji n = 2 * n
 byte_count _ n = n
@@ -54,14 +54,14 @@ unfoldable pub character_value : ℕ → ℕ
 character_value b = position_or_len (λ c. c == b) characters
 
 -- The two bytes are a kanji pair: as a number of 16 bits they are from 8140 to 9FFC or from E040 to EBBF, and the
--- second byte is from 40 to FC, all hexadecimal. By a rule of this project 7F may be the second byte too, although no
--- character has it there (ISO/IEC 18004:2015, 7.3.6, 7.4.6)
+-- second byte is from 40 to FC, all hexadecimal. This project accepts 7F as the second byte too, although no character
+-- has it there (ISO/IEC 18004:2015, 7.3.6, 7.4.6)
 unfoldable pub is_kanji_pair : ℕ → ℕ → Bool
 is_kanji_pair high low =
     let pair = 256 * high + low in
     (nat_le 0x8140 pair && nat_le pair 0x9FFC || nat_le 0xE040 pair && nat_le pair 0xEBBF) && (nat_le 0x40 low && nat_le low 0xFC)
 
--- The number of bytes is even, and the bytes, taken from the left two by two, are all pairs that pass `test` [own]
+-- The number of bytes is even. If the bytes are taken two by two from the left, each two pass `test` [own]
 abbrev pub in_twos : (ℕ → ℕ → Bool) → List ℕ → Bool
 in_twos test [] = true
 in_twos test (x ∷ []) = false
@@ -76,7 +76,8 @@ kanji_value high low =
     let rest = if nat_le pair 0x9FFC then pair - 0x8140 else pair - 0xC140 in
     0xC0 * (rest / 256) + rest % 256
 
--- The mode can write the bytes: all of them are characters of this mode (ISO/IEC 18004:2015, 7.3.3 to 7.3.6)
+-- The mode can write the bytes: they are characters of this mode, each of two bytes in kanji mode and otherwise of one
+-- (ISO/IEC 18004:2015, 7.3.3 to 7.3.6)
 abbrev pub suits : Mode → List ℕ → Bool
 suits Numeric xs = list_all is_digit xs
 suits Alphanumeric xs = list_all is_alphanumeric xs
@@ -85,9 +86,9 @@ suits Kanji xs = in_twos is_kanji_pair xs
 
 -- How many bits the data of `n` bytes take. Numeric mode takes 10 bits for each group of three digits, and 7 bits for
 -- two digits or 4 bits for one digit at the end. Alphanumeric mode takes 11 bits for each two characters, and 6 bits
--- for a single one at the end. Byte mode takes 8 bits for a byte, and kanji mode 13 bits for a kanji pair. If `n` is
--- odd in kanji mode, which no valid assignment has, the last byte counts as a whole pair (ISO/IEC 18004:2015, 7.4.3 to
--- 7.4.6)
+-- for a single one at the end. Byte mode takes 8 bits for a byte, and kanji mode 13 bits for a kanji pair. No segment
+-- of a valid assignment has an odd `n` in kanji mode; for such an `n` the last byte counts as a whole pair (ISO/IEC
+-- 18004:2015, 7.4.3 to 7.4.6)
 abbrev pub payload_bits : Mode → ℕ → ℕ
 payload_bits Numeric n = 10 * (n / 3) + (if n % 3 == 0 then 0 else (if n % 3 == 1 then 4 else 7))
 payload_bits Alphanumeric n = 11 * (n / 2) + 6 * (n % 2)

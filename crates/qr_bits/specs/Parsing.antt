@@ -87,8 +87,8 @@ pairs_of (suc n) bits =
     let pair = kanji_pair group in
     if nat_le (group % 0xC0) 0xBC then (pairs_of n (drop 13 bits) >>= λ xs. Ok (pair / 256 ∷ pair % 256 ∷ xs)) else Err BadValue
 
--- The bytes that are read from the data of a segment with this mode and `n` characters (ISO/IEC 18004:2015, 7.4.3 to
--- 7.4.6)
+-- The bytes that are read from the data of a segment with the given mode and `n` characters (ISO/IEC 18004:2015, 7.4.3
+-- to 7.4.6)
 unfoldable pub values_of : Mode → ℕ → List Bool → Result (List ℕ) ParseFault
 values_of Numeric n bits = digits_of n bits
 values_of Alphanumeric n bits = characters_of n bits

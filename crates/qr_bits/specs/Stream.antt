@@ -36,7 +36,7 @@ kanji_bits [] = []
 kanji_bits (a ∷ []) = []
 kanji_bits (a ∷ b ∷ xs) = field 13 (kanji_value a b) ++ kanji_bits xs
 
--- The bits of the data of a segment with this mode and the bytes `xs` (ISO/IEC 18004:2015, 7.4.3 to 7.4.6)
+-- The bits of the data of a segment with the given mode and the bytes `xs` (ISO/IEC 18004:2015, 7.4.3 to 7.4.6)
 unfoldable pub payload : Mode → List ℕ → List Bool
 payload Numeric xs = digit_bits xs
 payload Alphanumeric xs = character_bits xs
@@ -98,7 +98,7 @@ items_stream v xs (Fnc1Second a ∷ is) = field 4 fnc1_second_indicator ++ (fiel
 -- The items can be written for the bytes `xs`. The segments among the items contain exactly these bytes. The mode of
 -- each segment suits its bytes, and its number of characters fits its character count indicator. Each designator is
 -- long enough for its ECI. Before FNC1 there are only ECI headers, and `may` says whether FNC1 is allowed among these
--- items (ISO/IEC 18004:2015, 7.4.8.2)
+-- items. FNC1 in second position has an application indicator (ISO/IEC 18004:2015, 7.4.8.2)
 unfoldable pub AreItems : ℕ → Bool → List ℕ → List Item → Type 0
 AreItems v may xs [] = xs ≡ []
 AreItems v may xs (Data s ∷ is) =

@@ -90,8 +90,8 @@ fn next_if(may: bool, bits: u32, mode: Mode, rest: u32) -> u32
     choice_if(may, number(bits, mode), rest)
 }
 
-// The row for these choices. For each state it has two bits, which are the rank of the mode that is chosen for this
-// state. The state `Start` has the lowest two bits.
+// The row for the choices in `numbers`. For each state it has two bits, which are the rank of the mode that is chosen
+// for this state. The state `Start` has the lowest two bits.
 #[tactic(auto, using(crate::proofs::lemmas::best_modes::TableLemmas::packed_mode))]
 #[inline(always)]
 fn row_for(numbers: &PerState) -> u32

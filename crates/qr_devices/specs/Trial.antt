@@ -25,6 +25,6 @@ moved m call there =
     (if nat_le m.fails_from call then Err Failed else Ok (min there (max m.at_most 1)))
 
 -- How many more bytes can be written to the device. The writes and flushes are numbered from 0, and from the number
--- `stops_from` on the device has room for no byte [own]
+-- `stops_from` on, the device has room for no byte [own]
 abbrev pub free_of : Trial → ℕ
 free_of t = if nat_lt t.writes.calls t.faults.stops_from then t.room - length t.bytes.items else 0

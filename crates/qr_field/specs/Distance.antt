@@ -14,8 +14,8 @@ differences [] ys = length ys
 differences (x ∷ xs) [] = length (x ∷ xs)
 differences (x ∷ xs) (y ∷ ys) = difference x y + differences xs ys
 
--- Two blocks of at most 255 codewords have the same number of data codewords, and n error correction codewords each. If
--- their data codewords are not the same, the blocks differ in at least n + 1 codewords [own]
+-- Let two blocks of at most 255 codewords have the same number of data codewords, and n error correction codewords
+-- each. If their data codewords are not the same, the blocks differ in at least n + 1 codewords [own]
 abbrev pub BlocksLieApart : Type 0
 BlocksLieApart =
     (n : ℕ) (d e d' e' : List ℕ) → IsCorrection d n e → IsCorrection d' n e' → length d ≡ length d' →

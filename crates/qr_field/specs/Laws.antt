@@ -6,8 +6,9 @@ use Rattle.std.specs.Prelude.{ℕ, List, [], ◌∷◌}
 abbrev pub lengths_in_use : List ℕ
 lengths_in_use = 7 ∷ 10 ∷ 13 ∷ 15 ∷ 16 ∷ 17 ∷ 18 ∷ 20 ∷ 22 ∷ 24 ∷ 26 ∷ 28 ∷ 30 ∷ []
 
--- The generator polynomials for the numbers in `lengths_in_use`, as they are printed. Each coefficient is a power of 2,
--- and only its exponent is listed. The coefficient of the highest power of x comes first (ISO/IEC 18004:2015, Annex A)
+-- The generator polynomials, as the standard prints them, for each number of error correction codewords in
+-- `lengths_in_use`. Each coefficient is a power of 2, and only its exponent is listed. The coefficient of the highest
+-- power of x comes first (ISO/IEC 18004:2015, Annex A)
 abbrev pub printed_exponents : List (List ℕ)
 printed_exponents =
     (0 ∷ 87 ∷ 229 ∷ 146 ∷ 149 ∷ 238 ∷ 102 ∷ 21 ∷ []) ∷

@@ -54,6 +54,6 @@ pub record IsCorrection (d : List ℕ) (n : ℕ) (e : List ℕ) : Type 0 where
   pub bytes : All IsByte e
   pub multiple : IsMultiple (generator_of n) (d ++ e)
 
--- The data codewords d have n error correction codewords, that is, there is a list that `IsCorrection` describes [own]
+-- Some list e has the n error correction codewords of the data codewords d [own]
 abbrev pub HasCorrection : List ℕ → ℕ → Type 0
 HasCorrection d n = (e : List ℕ) × IsCorrection d n e

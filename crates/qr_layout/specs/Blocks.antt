@@ -51,9 +51,9 @@ blocks_of v l = record {
   ec_len = correction_len_of v l;
 }
 
--- How many error correction codewords of a block are not used to correct errors, but only to detect them. If they
--- corrected errors too, more damaged blocks would be corrected to a wrong block. The standard calls this misdecode
--- protection (ISO/IEC 18004:2015, 7.5.1, Table 9)
+-- How many error correction codewords of a block are for misdecode protection, as the standard calls it: they are not
+-- used to correct errors, but only to detect them. If they corrected errors too, damaged blocks would be corrected to a
+-- wrong block more often (ISO/IEC 18004:2015, 7.5.1, Table 9)
 abbrev pub protection_of : ℕ → Level → ℕ
 protection_of v L = if v == 1 then 3 else (if v == 2 then 2 else (if v == 3 then 1 else 0))
 protection_of v M = if v == 1 then 2 else 0

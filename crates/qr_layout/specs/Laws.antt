@@ -31,8 +31,8 @@ printed_errors Q = 6 ∷ 11 ∷ 9 ∷ 13 ∷ 9 ∷ 12 ∷ 9 ∷ 11 ∷ 10 ∷ 12
 printed_errors H = 8 ∷ 14 ∷ 11 ∷ 8 ∷ 11 ∷ 14 ∷ 13 ∷ 13 ∷ 12 ∷ 14 ∷ 12 ∷ 14 ∷ 11 ∷ 12 ∷ 12 ∷ 15 ∷ 14 ∷ 14 ∷ 13 ∷ 14 ∷ 15 ∷ 12 ∷ 15 ∷ 15 ∷ 15 ∷ 15 ∷ 15 ∷ 15 ∷ 15 ∷ 15 ∷ 15 ∷ 15 ∷ 15 ∷ 15 ∷ 15 ∷ 15 ∷ 15 ∷ 15 ∷ 15 ∷ 15 ∷ []
 
 -- The number of error correction codewords in a block, computed from the number of misread codewords that the standard
--- says can be corrected. Each of these takes two, and misdecode protection takes the rest (ISO/IEC 18004:2015, 7.5.1,
--- Table 9)
+-- says can be corrected. Each of these uses up two error correction codewords, and the others, those for misdecode
+-- protection, only detect errors (ISO/IEC 18004:2015, 7.5.1, Table 9)
 abbrev pub printed_correction : Level → ℕ → ℕ
 printed_correction l v = 2 * slice_index_or (printed_errors l) (v - 1) 0 + protection_of v l
 
@@ -43,26 +43,27 @@ printed_correction l v = 2 * slice_index_or (printed_errors l) (v - 1) 0 + prote
 abbrev pub gap_between : ℕ → ℕ → ℕ
 gap_between v k = if v == 32 then 26 else 2 * ((side_of v - 13 + 2 * (k - 1) - 1) / (2 * (k - 1)))
 
--- The rows of centres of alignment patterns in version `v`, which is at least 2, as rules give them. The first is row
--- 6. The others are at equal distances (`gap_between`), and the last of them has the number `side_of v - 7` (ISO/IEC
--- 18004:2015, Annex E)
+-- The numbers of the rows of centres of alignment patterns in version `v`, which is at least 2, computed without the
+-- standard's table. The first is row 6. The others are at equal distances (`gap_between`), and the last of them has the
+-- number `side_of v - 7` (ISO/IEC 18004:2015, Annex E)
 abbrev pub spaced_centres : ℕ → List ℕ
 spaced_centres v = 6 ∷ map (λ i. side_of v - 7 - gap_between v (v / 7 + 2) * (v / 7 - i)) (range_with_len 0 (v / 7 + 1))
 
 -- How many modules belong to an alignment pattern but not to a timing pattern, if there are `k` rows of centres; then
 -- there are `k ^ 2 - 3` alignment patterns of 25 modules each. Of these patterns `2 * (k - 2)` lie across a timing
--- pattern, and share five modules with it (ISO/IEC 18004:2015, 6.3.5, 6.3.6)
+-- pattern, and each of them shares five modules with it (ISO/IEC 18004:2015, 6.3.5, 6.3.6)
 abbrev pub alignment_size : ℕ → ℕ
 alignment_size k = if nat_lt k 2 then 0 else 25 * (k ^ 2 - 3) - 10 * (k - 2)
 
--- How many modules the version information has: two blocks of 18, from version 7 on (ISO/IEC 18004:2015, 7.10)
+-- How many modules the version information has: two copies of 18 modules each, from version 7 on (ISO/IEC 18004:2015,
+-- 7.10)
 abbrev pub version_size : ℕ → ℕ
 version_size v = if nat_lt v 7 then 0 else 36
 
--- How many modules the encoding region has. From the number of all modules of the symbol four numbers are subtracted:
--- those of the modules of the three corners with a finder pattern (81, 72 and 72, together 225), of the two timing
--- patterns between the corners, of the alignment patterns, and of the version information (ISO/IEC 18004:2015, 6.3.7,
--- 7.7.3)
+-- How many modules the region has. From the number of all modules of the symbol the numbers of four kinds are
+-- subtracted: the modules of the three corners with a finder pattern (81, 72 and 72, together 225), those of the two
+-- timing patterns between the corners, the other modules of the alignment patterns, and those of the version
+-- information (ISO/IEC 18004:2015, 6.3.7, 7.7.3)
 abbrev pub region_size : ℕ → ℕ
 region_size v =
     side_of v ^ 2 - 225 - 2 * (side_of v - 17) - alignment_size (length (centres_of v)) - version_size v
@@ -101,7 +102,7 @@ finder_figure =
     ∷ (always_light ∷ always_light ∷ always_light ∷ always_light ∷ always_light ∷ always_light ∷ always_light ∷ always_light ∷ []) ∷ []
 
 -- The roles of the modules in the rows and columns 15 to 21 of version 2, row by row. They are an alignment pattern,
--- and around it modules of the encoding region (ISO/IEC 18004:2015, 6.3.6)
+-- and around it modules of the region (ISO/IEC 18004:2015, 6.3.6)
 abbrev pub alignment_figure : List (List Role)
 alignment_figure =
     (Region ∷ Region ∷ Region ∷ Region ∷ Region ∷ Region ∷ Region ∷ [])

@@ -1,5 +1,5 @@
 -- The rectangles that `fixed_rectangles` returns for a symbol of version `v`. Together with the alignment patterns they
--- cover all modules outside the encoding region.
+-- cover all modules outside the region.
 use Rattle.std.specs.Prelude.{◌≡◌, ℕ, ◌<◌, ◌≤◌, Bool, ◌&&◌, ◌||◌, nat_lt, nat_le, List}
 use Rattle.std.specs.List.{All, list_any}
 use Rattle.qr_layout.specs.declared.region.Rectangle.{Rectangle}

@@ -1,5 +1,5 @@
--- The encoding region of a symbol of version `v` with `s` modules on a side. The standard's region includes format and
--- version information; here they are outside. A place is row `r` and column `c`.
+-- The region of a symbol of version `v` with `s` modules on a side. The standard's encoding region also has the places
+-- of the format and version information; here they are outside. `r` is the row of a place, and `c` its column.
 use Rattle.std.specs.Prelude.{◌≡◌, ℕ, ◌-◌, Bool, true, max, not, ◌&&◌, ◌||◌, ◌==◌, nat_lt, nat_le}
 use Rattle.std.specs.Int.{abs_diff}
 use Rattle.std.specs.List.{list_any}
@@ -37,13 +37,13 @@ ring_of a b r c = max (abs_diff a r) (abs_diff b c)
 abbrev pub is_alignment : ℕ → ℕ → ℕ → Bool
 is_alignment v r c = list_any (λ m. nat_le (ring_of m.row m.col r c) 2) (alignment_places (side_of v) (centres_of v))
 
--- The place is in the encoding region: inside the symbol, but not in a corner with a finder pattern, a timing pattern,
--- the version information or an alignment pattern (ISO/IEC 18004:2015, 6.3.7, 7.7.3)
+-- The place is in the region: inside the symbol, but not in a corner with a finder pattern, a timing pattern, the
+-- version information or an alignment pattern (ISO/IEC 18004:2015, 6.3.7, 7.7.3)
 unfoldable pub is_in_region : ℕ → ℕ → ℕ → Bool
 is_in_region v r c =
     nat_lt r (side_of v) && nat_lt c (side_of v)
     && not (is_corner (side_of v) r c || is_timing r c || is_version_information v r c || is_alignment v r c)
 
--- The place `m` is in the encoding region (ISO/IEC 18004:2015, 6.3.7, 7.7.3)
+-- The place `m` is in the region (ISO/IEC 18004:2015, 6.3.7, 7.7.3)
 abbrev pub InRegion : ℕ → Place → Type 0
 InRegion v m = is_in_region v m.row m.col ≡ true

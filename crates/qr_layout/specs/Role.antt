@@ -9,9 +9,9 @@ use Rattle.qr_layout.specs.Format.{format_bit_at, version_bit_at}
 use Rattle.qr_layout.specs.Alignment.{centres_of, alignment_places}
 use Rattle.qr_layout.specs.Region.{is_alignment, ring_of}
 
--- The number of the ring that contains the place. The rings are square and are drawn around the nearest centre of a
--- finder pattern. The centre is ring 0. The rings 0, 1 and 3 are dark, ring 2 is light, and ring 4 is the separator,
--- which is light too (ISO/IEC 18004:2015, 6.3.3)
+-- The number of the ring that contains the place, if square rings are drawn around the nearest centre of a finder
+-- pattern. Ring 0 is this centre. The rings 0, 1 and 3 are dark, ring 2 is light, and ring 4 is the separator, which is
+-- light too (ISO/IEC 18004:2015, 6.3.3)
 abbrev pub finder_ring : ℕ → ℕ → ℕ → ℕ
 finder_ring s r c = min (ring_of 3 3 r c) (min (ring_of 3 (s - 4) r c) (ring_of (s - 4) 3 r c))
 
@@ -36,9 +36,9 @@ pattern_colour v r c =
 abbrev pub is_dark_module : ℕ → ℕ → ℕ → Bool
 is_dark_module s r c = r == s - 8 && c == 8
 
--- What the module in row `r` and column `c` contains. Outside the encoding region this is a fixed colour, or a bit of
--- the format or version information. In the region it is a bit of a codeword or a remainder bit (ISO/IEC 18004:2015,
--- 6.3 and 7.7.2)
+-- What the module in row `r` and column `c` contains. Outside the region this is a fixed colour, or a bit of the format
+-- or version information. In the region it is a bit of a codeword or a remainder bit (ISO/IEC 18004:2015, 6.3 and
+-- 7.7.2)
 unfoldable pub role_of : ℕ → ℕ → ℕ → Role
 role_of v r c =
     option_map_or Fixed (pattern_colour v r c)

@@ -1,5 +1,4 @@
--- The strips of a symbol with `s` modules on a side, and all their places. Some of these places are outside the
--- encoding region.
+-- The strips of a symbol with `s` modules on a side, and all their places. Some of these places are outside the region.
 use Rattle.std.specs.Prelude.{ℕ, ◌+◌, ◌-◌, ◌*◌, ◌%◌, ◌==◌, nat_lt, if◌then◌else◌, List, [], ◌∷◌, ◌++◌}
 use Prim.Native.Nat.{zero, suc}
 use Rattle.qr_layout.specs.declared.region.Place.{Place}

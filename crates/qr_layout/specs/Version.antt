@@ -21,8 +21,8 @@ remainder_table =
 unfoldable pub total_codewords_of : ℕ → ℕ
 total_codewords_of v = slice_index_or total_table (v - 1) 0
 
--- The number of remainder bits of version `v`. They fill the modules of the encoding region that the codewords leave
--- (ISO/IEC 18004:2015, 7.1, Table 1)
+-- The number of remainder bits of version `v`. They fill the modules of the region that the codewords leave (ISO/IEC
+-- 18004:2015, 7.1, Table 1)
 unfoldable pub remainder_bits_of : ℕ → ℕ
 remainder_bits_of v = slice_index_or remainder_table (v - 1) 0
 

@@ -29,7 +29,8 @@ static CORRECTION_LENS: [[u8; 40]; 4] = [
     ],
 ];
 
-// How many blocks a symbol has. The table has the same rows as `CORRECTION_LENS`.
+// How many blocks a symbol has. As in `CORRECTION_LENS`, there is a row for each level (L, M, Q, H), and in it a number
+// for each of the versions 1 to 40.
 static BLOCK_COUNTS: [[u8; 40]; 4] = [
     [
         1, 1, 1, 1, 1, 2, 2, 2, 2, 4, 4, 4, 4, 4, 6, 6, 6, 6, 7, 8, 8, 9, 9, 10, 12, 12, 12, 13,

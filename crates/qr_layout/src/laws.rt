@@ -29,7 +29,7 @@ use crate::strips::Strip;
 use crate::version::Version;
 use std::alloc::AllocError;
 
-/// The encoding region of a version has at most one order.
+/// The region of a version has at most one order.
 pub fn order_is_one(version: Version)
     ensures { (ms ns : List Place) → IsOrder version ms → IsOrder version ns → ms ≡ ns }
 {}
@@ -41,24 +41,24 @@ pub fn order_is_full(version: Version)
     ensures most { module_count_of version ≤ 29648 }
 {}
 
-/// The encoding region has as many modules as the symbol without the three corners, the timing patterns, the alignment
-/// patterns and the version information. The corners have the finder patterns, the separators, the format information
-/// and the dark module. By Table 1 of the standard, codewords and remainder bits together have as many bits as the
-/// region has modules.
+/// The region has as many modules as the symbol without the three corners, the timing patterns, the alignment patterns
+/// and the version information. The corners have the finder patterns, the separators, the format information and the
+/// dark module. By Table 1 of the standard, codewords and remainder bits together have as many bits as the region has
+/// modules.
 pub fn region_is_counted(version: Version)
     ensures region { places_passing (side_of version) (is_in_region version) ≡ region_size version }
     ensures filled { module_count_of version ≡ region_size version }
 {}
 
-/// If rectangles meet the contract of `fixed_rectangles`, the encoding region consists of all modules of the symbol
-/// that are in none of these rectangles and in no alignment pattern.
+/// If rectangles meet the contract of `fixed_rectangles`, the region consists of all modules of the symbol that are in
+/// none of these rectangles and in no alignment pattern.
 #[tactic(auto, using(crate::proofs::lemmas::alignment::region_outside))]
 pub fn region_is_outside(version: Version)
     ensures { (bs : List Rectangle) → AreFixed version bs → (r c : ℕ) → r < side_of version → c < side_of version → is_in_region version r c
         ≡ not (list_any (is_in_rectangle r c) bs || is_alignment version r c) }
 {}
 
-/// If rows and columns are exchanged, the encoding region stays the same.
+/// If rows and columns are exchanged, the region stays the same.
 pub fn region_is_symmetric(version: Version)
     ensures { (r c : ℕ) → is_in_region version r c ≡ is_in_region version c r }
 {}
@@ -69,8 +69,8 @@ pub fn index_counts(version: Version)
         → index_of version m ≡ length front }
 {}
 
-/// The indices of the modules of the encoding region begin with 0 and have no gaps: each index below the number of
-/// these modules is that of exactly one of them.
+/// The indices of the modules of the region begin with 0 and have no gaps: each index below the number of these modules
+/// is that of exactly one of them.
 pub fn indices_are_places(version: Version)
     ensures below { (m : Place) → InRegion version m → index_of version m < module_count_of version }
     ensures one_place { (m n : Place) → InRegion version m → InRegion version n
@@ -245,7 +245,7 @@ pub fn dark_module_is_dark(version: Version)
     ensures { role_of version (side_of version - 8) 8 ≡ Fixed true }
 {}
 
-/// The encoding region consists of all modules that have no fixed colour and contain no bit of the format or version
+/// The region consists of all modules that have no fixed colour and contain no bit of the format or version
 /// information.
 pub fn region_is_the_rest(version: Version)
     ensures { (r c : ℕ) → r < side_of version → c < side_of version

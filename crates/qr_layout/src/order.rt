@@ -1,6 +1,6 @@
-//! The order in which codewords fill the encoding region (ISO/IEC 18004:2015, 7.7.3), as a walk through the symbol. The
-//! walk goes through the strips from right to left: upward in the first, downward in the second, and so on by turns. In
-//! each row of a strip the right module comes before the left one. In a symbol of four rows, the modules of the two
+//! The order in which codewords fill the region (ISO/IEC 18004:2015, 7.7.3), as a walk through the symbol. The walk
+//! goes through the strips from right to left: upward in the first, downward in the second, and so on by turns. In each
+//! row of a strip the right module comes before the left one. In a symbol of four rows, the modules of the two
 //! rightmost strips would have these indices in the walk:
 //!
 //!      9  8   7  6
@@ -8,7 +8,7 @@
 //!     13 12   3  2
 //!     15 14   1  0
 //!
-//! The walk yields the places that are in the encoding region, and passes over the others.
+//! The walk yields the places that are in the region, and passes over the others.
 
 ghost use Rattle.std.specs.Prelude.{◌≡◌, ◌<◌, ◌≤◌, ◌↔◌, IfSome, IsSome, List, length};
 ghost use Rattle.std.specs.Iterator.{YieldsFirst, item_count};
@@ -88,8 +88,8 @@ impl Cursor {
     }
 }
 
-/// An iterator over the places of the encoding region, in the order in which codewords fill it. In contracts it stands
-/// for the list of the places that are still to come.
+/// An iterator over the places of the region, in the order in which codewords fill it. In contracts it stands for the
+/// list of the places that are still to come.
 ///
 /// # Notes
 ///
@@ -132,8 +132,8 @@ impl Iterator for Places {
     }
 }
 
-/// Returns an iterator over all places of the encoding region, each once, in the order in which they are filled. The
-/// places of the codewords come first, and those of the remainder bits last (ISO/IEC 18004:2015, 7.7.3).
+/// Returns an iterator over all places of the region, each once, in the order in which they are filled. The places of
+/// the codewords come first, and those of the remainder bits last (ISO/IEC 18004:2015, 7.7.3).
 pub fn walk(version: Version) -> Places
     ensures order { IsOrder version result }
     ensures count { length result ≡ module_count_of version }
@@ -149,8 +149,8 @@ pub fn walk(version: Version) -> Places
     }
 }
 
-/// Returns an iterator over the places that come after `place` in `walk`, or `None` if `place` is outside the encoding
-/// region or outside the symbol.
+/// Returns an iterator over the places that come after `place` in `walk`, or `None` if `place` is outside the region or
+/// outside the symbol.
 pub fn walk_after(version: Version, place: Place) -> Option<Places>
     ensures given { IsSome result ↔ InRegion version place }
     ensures rest { IfSome result (IsOrderAfter version place) }
@@ -166,8 +166,8 @@ pub fn walk_after(version: Version, place: Place) -> Option<Places>
     })
 }
 
-/// Returns the number of modules of the encoding region: 8 for each codeword, and 1 for each remainder bit. These are
-/// 208 in version 1, and 29,648 in version 40 (ISO/IEC 18004:2015, 7.1, Table 1).
+/// Returns the number of modules of the region: 8 for each codeword, and 1 for each remainder bit. These are 208 in
+/// version 1, and 29,648 in version 40 (ISO/IEC 18004:2015, 7.1, Table 1).
 pub fn region_len(version: Version) -> u32
     ensures count { result ≡ module_count_of version }
     ensures length { (ms : List Place) → IsOrder version ms → length ms ≡ result }

@@ -22,7 +22,7 @@ pub enum Role {
     FormatBit(u8),
     /// A bit of the version information, from bit 0, the lowest, to bit 17.
     VersionBit(u8),
-    /// A module of the encoding region. It contains a bit of a codeword, or a remainder bit.
+    /// A module of the region. It contains a bit of a codeword, or a remainder bit.
     Region,
 }
 

@@ -95,8 +95,8 @@ impl Version {
         TOTAL_CODEWORDS[usize::from(self.number - 1)]
     }
 
-    /// Returns the number of remainder bits: 0, 3, 4 or 7. They fill the modules of the encoding region that are left
-    /// after all codewords (ISO/IEC 18004:2015, 7.1, Table 1).
+    /// Returns the number of remainder bits: 0, 3, 4 or 7. They fill the modules of the region that are left after all
+    /// codewords (ISO/IEC 18004:2015, 7.1, Table 1).
     #[tactic(auto, unfolding(crate::specs::Version::remainder_bits_of))]
     pub fn remainder_bits(self) -> u8
         ensures { result ≡ remainder_bits_of self }

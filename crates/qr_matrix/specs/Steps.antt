@@ -92,10 +92,10 @@ begin_five join r = (join r && join (r + 1)) && (join (r + 2) && join (r + 3))
 abbrev pub is_near_five : (ℕ → Bool) → ℕ → Bool
 is_near_five join r = (begin_five join r || (nat_lt 0 r && begin_five join (r - 1))) || (nat_lt 1 r && begin_five join (r - 2))
 
--- What the code knows of a column when the first `n` comparisons are done. The comparison `k`, counted from 0, says
--- whether the modules in the rows `k` and `k + 1` have the same colour, and `join k` is its result. `same` is true if
--- the last comparison was true, `threes` if the last two were, and `fives` if the last four were. `earlier_threes` and
--- `earlier_fives` are what `threes` and `fives` were one comparison earlier
+-- What the code knows of a column when it has compared `n` modules, from row 0 on, each with the module below it. For
+-- the comparison `k`, counted from 0, `join k` says whether the modules in the rows `k` and `k + 1` have the same
+-- colour. `same` is true if the last comparison was true, `threes` if the last two were, and `fives` if the last four
+-- were. `earlier_threes` and `earlier_fives` are what `threes` and `fives` were one comparison earlier
 pub record IsAbove (join : ℕ → Bool) (n : ℕ) (same threes earlier_threes fives earlier_fives : Bool) : Type 0 where
   pub same_is : same ≡ (nat_lt 0 n && join (n - 1))
   pub threes_are : threes ≡ (nat_lt 1 n && (join (n - 2) && join (n - 1)))
@@ -139,8 +139,8 @@ pub record AreWindowsTo (s : ℕ) (dark : ℕ → ℕ → Bool) (n windows : ℕ
 unfoldable pub bit_in : List ℕ → ℕ → ℕ → Bool
 bit_in words r c = has_bit (slice_index words r) c
 
--- The tile `f` after one stage of its transposition. The tile consists of parts of `s` by `s` bits, and two by two
--- neighbouring parts form a group. In each group the upper right part and the lower left part are exchanged
+-- The tile `f` when one stage of its transposition has exchanged some of its parts of `s` by `s` bits. Two by two
+-- neighbouring parts form a group. In each group the upper right part and the lower left one are exchanged
 unfoldable pub exchanged : ℕ → (ℕ → ℕ → Bool) → ℕ → ℕ → Bool
 exchanged s f r c =
     if nat_lt (r % (2 * s)) s

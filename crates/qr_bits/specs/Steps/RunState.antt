@@ -39,7 +39,7 @@ state_on HalfPair = WholePair
 state_on WholePair = HalfPair
 
 -- The bits that a byte of the mode `m` adds after the state `p`. The first byte of a segment also adds the bits of the
--- two indicators, and the first byte of a kanji pair adds all bits of the pair
+-- mode indicator and the character count indicator, and the first byte of a kanji pair adds all bits of the pair
 unfoldable pub byte_cost : ℕ → RunState → Mode → ℕ
 byte_cost v Digit1 Numeric = 3
 byte_cost v Digit2 Numeric = 3
@@ -79,7 +79,7 @@ unfoldable pub may_take : Rule → RunState → ℕ → Bool → Mode → Bool
 may_take r HalfPair x pair m = rank m == rank Kanji
 may_take r _ x pair m = may_begin r x pair m
 
--- An assignment may end in this state, which is any but the state after the first byte of a kanji pair
+-- An assignment may end in the given state, which is any but the state after the first byte of a kanji pair
 unfoldable pub may_end : RunState → Bool
 may_end HalfPair = false
 may_end _ = true
@@ -147,9 +147,9 @@ pub record IsChoice (i : Interpretation) (v : ℕ) (r : Rule) (p : RunState) (x 
   pub least : (k : Mode) → IsTrue (may_take_in i r p x pair k) → n ≤ cost_in i v p x k + cost (state_in i p x k)
   pub first : (k : Mode) → IsTrue (may_take_in i r p x pair k) → cost_in i v p x k + cost (state_in i p x k) ≡ n → rank m ≤ rank k
 
--- A choice, which is a mode and a number of bits, as one number. Of two choices, the one with fewer bits is the smaller
--- number. If the bits are equally many, it is the one with the mode of lower rank. If the mode is not allowed, the
--- result is the greatest number of 32 bits, which no allowed choice reaches for inputs of at most `INPUT_MAX` bytes
+-- A choice, which is a mode and a number of bits, as one number. Of two choices, the one with fewer bits has the
+-- smaller number, and of two with equally many bits, the one whose mode has the lower rank. If the mode is not allowed,
+-- the result is the greatest number of 32 bits, which no allowed choice reaches for inputs of at most `INPUT_MAX` bytes
 abbrev pub choice_number : Bool → ℕ → Mode → ℕ
 choice_number may bits m = if may then 4 * bits + rank m else 4294967295
 

@@ -1,7 +1,7 @@
 -- The walk through a symbol with `s` modules on a side. It goes from cursor to cursor, and yields the places that are
--- in the encoding region. A cursor has the number of its strip (`strips_left`), a row, and one of the two columns of
--- the strip. The strips are numbered from 1 at the left. The walk goes through them from right to left, so this number
--- is also how many strips are left, and 0 is the end.
+-- in the region. A cursor has the number of its strip (`strips_left`), a row, and one of the two columns of the strip.
+-- The strips are numbered from 1 at the left. The walk goes through them from right to left, so this number is also how
+-- many strips are left, and 0 is the end.
 use Rattle.std.specs.Prelude.{ℕ, ◌+◌, ◌-◌, ◌*◌, ◌/◌, ◌%◌, ◌<◌, ◌≤◌, Bool, true, false, ◌==◌, if◌then◌else◌, List, [], ◌∷◌}
 use Prim.Native.Nat.{zero, suc}
 use Rattle.qr_layout.specs.declared.region.Place.{Place}
@@ -20,8 +20,8 @@ half_of at_left = if at_left then 1 else 0
 abbrev pub place_of : Cursor → Place
 place_of a = let right = (strip_at a.strips_left).right in record { row = a.row; col = if a.at_left then right - 1 else right }
 
--- How many rows of its strip the walk visits before the row of the cursor `a`. If the strip is filled upward, these are
--- all rows below the row of `a`, and otherwise all rows above it
+-- How many rows of the strip of the cursor `a` the walk visits before the row of `a`. If the strip is filled upward,
+-- these are all rows below the row of `a`, and otherwise all rows above it
 abbrev pub rows_before_of : ℕ → Cursor → ℕ
 rows_before_of s a = if (strip_at a.strips_left).upward then s - 1 - a.row else a.row
 
@@ -46,14 +46,14 @@ pub record IsCursor (v : ℕ) (a : Cursor) : Type 0 where
   pub row_in : a.row < side_of v
 
 -- The places of the cursor `a` and of those that follow, `n` cursors in all, in the order of the walk. Places outside
--- the encoding region are left out
+-- the region are left out
 unfoldable pub places_among : ℕ → ℕ → Cursor → List Place
 places_among v zero a = []
 places_among v (suc n) a =
     if is_in_region v a.row (place_of a).col then place_of a ∷ places_among v n (next_of (side_of v) a) else places_among v n (next_of (side_of v) a)
 
--- The places in the encoding region that the walk visits from the cursor `a` on, the place of `a` included, in the
--- order of the walk
+-- The places in the region that the walk visits from the cursor `a` on, the place of `a` included, in the order of the
+-- walk
 unfoldable pub to_come : ℕ → Cursor → List Place
 to_come v a = places_among v (left_of (side_of v) a) a
 

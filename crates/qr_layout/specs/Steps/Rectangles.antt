@@ -1,5 +1,5 @@
--- Rectangles that cover all modules outside the encoding region. To draw the region, the code makes all modules of a
--- square dark, and then these rectangles light, one after the other.
+-- Rectangles that cover all modules outside the region. To draw the region, the code makes all modules of a square
+-- dark, and then these rectangles light, one after the other.
 use Rattle.std.specs.Prelude.{ℕ, ◌≤◌, ◌+◌, ◌-◌, nat_lt, if◌then◌else◌, List, [], ◌∷◌, ◌++◌, map}
 use Rattle.qr_layout.specs.declared.region.Place.{Place}
 use Rattle.qr_layout.specs.declared.region.Rectangle.{Rectangle}
@@ -43,7 +43,7 @@ fixed_list v =
     (record { top = 0; bottom = 6; left = s - 11; right = s - 8 }
     ∷ record { top = s - 11; bottom = s - 8; left = 0; right = 6 } ∷ []))
 
--- Rectangles that together cover all modules of version `v` outside the encoding region, and no module of this region
--- (ISO/IEC 18004:2015, 6.3.7, 7.7.3)
+-- Rectangles that together cover all modules of version `v` outside the region, and no module of the region (ISO/IEC
+-- 18004:2015, 6.3.7, 7.7.3)
 abbrev pub taken_rectangles : ℕ → List Rectangle
 taken_rectangles v = fixed_list v ++ alignment_rectangles (side_of v) (centres_of v)
