@@ -1,4 +1,4 @@
-//! Tests of the order in which codewords fill the encoding region.
+//! Tests of the order in which codewords fill the region.
 
 use crate::checks::{check, check_eq};
 use qr_layout::laws::{default_place, first_version, nth_place};

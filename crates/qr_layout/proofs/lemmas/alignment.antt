@@ -61,7 +61,7 @@ few-centres = refl
 pub centres-few : (v : ℕ) → 1 ≤ v → v ≤ 40 → length (centres_of v) ≤ 7
 centres-few v h k = leb-true _ _ (below-from 40 1 (λ v. leb (length (centres_of v)) 7) few-centres v h (omega arith))
 
--- The alignment patterns and the encoding region, as tests of their parts.
+-- The alignment patterns and the region, as tests of their parts.
 
 -- a test of the items of a flat map goes over the lists that it joins
 list_any-flat_map : {X Y : Type 0} (p : Y → Bool) (f : X → List Y) (xs : List X) → list_any p (flat_map f xs) ≡ list_any (λ x. list_any p (f x)) xs
@@ -140,13 +140,13 @@ fixed-are v h k = grind (arith, all-of, below-from, by-parts, corners-are, timin
 pub fixed-inside : (v : ℕ) (bs : List Rectangle) → AreFixed v bs → All (IsInside (side_of v)) bs
 fixed-inside v bs a = search (arith, All-weaker)
 
--- the encoding region inside the square
+-- the region inside the square
 pub region-parts : (v r c : ℕ) → r < side_of v → c < side_of v
     → is_in_region v r c ≡ not (is_corner (side_of v) r c || is_timing r c || is_version_information v r c || is_alignment v r c)
 unfolding is_in_region
 region-parts v r c h k = search arith
 
--- a place inside the square is in the encoding region if it is in none of such rectangles and in no alignment pattern
+-- a place inside the square is in the region if it is in none of such rectangles and in no alignment pattern
 pub region_outside : (v : ℕ) (bs : List Rectangle) → AreFixed v bs → (r c : ℕ) → r < side_of v →
     c < side_of v → is_in_region v r c ≡ not (list_any (is_in_rectangle r c) bs || is_alignment v r c)
 region_outside v bs a r c h k = search (arith, region-parts)

@@ -1,4 +1,4 @@
--- A module of the encoding region is inside the square, and not in column 6. There are small facts of tests, too.
+-- A module of the region is inside the square, and not in column 6. There are small facts of tests, too.
 use Rattle.qr_layout.{proofs.lemmas.alignment.{any-places, list_any-same}, specs.Alignment.{centres_of, is_corner_pair}}
 use Rattle.qr_layout.specs.{Region.{is_corner, is_timing, is_version_information, is_alignment, is_in_region, InRegion, ring_of}, Version.side_of}
 use Rattle.qr_layout.specs.declared.region.Place.{Place}
@@ -26,7 +26,7 @@ pub col-not_timing : (v : ℕ) (m : Place) → InRegion v m → m.col ≡ 6 → 
 unfolding is_in_region
 col-not_timing v m h e = search (arith, and_parts, nat_tests)
 
--- The encoding region is the same when rows and columns are exchanged.
+-- The region is the same when rows and columns are exchanged.
 
 -- no item passes a test that always fails
 any-none : {X : Type 0} (xs : List X) → list_any (λ _. false) xs ≡ false
@@ -65,7 +65,7 @@ alignment-symmetric v r c =
 version-symmetric : (v r c : ℕ) → is_version_information v r c ≡ is_version_information v c r
 version-symmetric v r c = search (arith, or_comm)
 
--- a place is in the encoding region exactly if the place with row and column exchanged is in it
+-- a place is in the region exactly if the place with row and column exchanged is in it
 pub region-symmetric : (v r c : ℕ) → is_in_region v r c ≡ is_in_region v c r
 unfolding is_in_region
 region-symmetric v r c = rw (version-symmetric v r c, alignment-symmetric v r c) (search (arith, and_comm, nat_tests))

@@ -1,4 +1,4 @@
--- The places of the strips of version v in the encoding region, one strip after the other, are its order.
+-- The places of the strips of version v in the region, one strip after the other, are its order.
 use Rattle.std.proofs.Common.{◌≡◌, ℕ, zero, suc, ◌+◌, ◌-◌, ◌*◌, ◌<◌, ◌≤◌, false, cond, List, [], ◌∷◌, ◌++◌, refl, sym, ap, ◌∙◌, arith}
 use Rattle.std.{proofs.lemmas.{List.Elements.All-from_recursion, Bool.Decides.nat_tests}, specs.List.{All, AllByRecursion}}
 use Rattle.qr_layout.specs.{declared.{region.Place.Place, order.Cursor.Cursor, strips.Strip.Strip}, Version.side_of, Order.{IsOrder, in_region_of}}
@@ -6,7 +6,7 @@ use Rattle.qr_layout.specs.Steps.Order.{place_of, left_of, next_of, places_among
 use Rattle.qr_layout.specs.Strips.{rows_from, both_of, places_of, strip_at, strips_to_come}
 use Rattle.qr_layout.proofs.lemmas.order.WalkLemmas.{places-nil, places-suc, to_come-start}
 
--- the right places of n rows of strips, from cursor a on, in the encoding region or not
+-- the right places of n rows of strips, from cursor a on, in the region or not
 pairs_among : ℕ → ℕ → Cursor → List Place
 pairs_among v zero a = []
 pairs_among v (suc n) a = place_of a ∷ pairs_among v n (next_of (side_of v) (next_of (side_of v) a))
@@ -16,7 +16,7 @@ pairs-suc : (v n : ℕ) (a : Cursor) → pairs_among v (suc n) a ≡ place_of a 
 unfolding pairs_among
 pairs-suc v n a = refl
 
--- the places of n rows from a on that are in the encoding region are those that 2 * n steps of the walk visit
+-- the places of n rows from a on that are in the region are those that 2 * n steps of the walk visit
 kept : (v n : ℕ) (a : Cursor) → a.at_left ≡ false → in_region_of v (both_of (pairs_among v n a)) ≡ places_among v (2 * n) a
 unfolding next_of pairs_among
 kept v zero a e = search (arith, places-nil)
@@ -76,7 +76,7 @@ left-start : (v : ℕ) → 2 * ((8 + 2 * v) * side_of v) ≡ left_of (side_of v)
 unfolding left_of
 left-start v = search (arith, nat_tests)
 
--- the places of all strips, when the places outside the encoding region are left out, are the order
+-- the places of all strips, when the places outside the region are left out, are the order
 pub strips-order : (v n : ℕ) → n ≡ v → IsOrder v (in_region_of v (places_of (side_of v) (strips_to_come (8 + 2 * n))))
 unfolding to_come
 strips-order v n e =

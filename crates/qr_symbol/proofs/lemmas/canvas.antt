@@ -12,7 +12,7 @@ just-seven : below 15 (λ i. is_same (has_bit symmetric_format i) (eqb i 7)) ≡
 unfolding has_bit
 just-seven = refl
 
--- the colours outside the encoding region are the same with row and column exchanged
+-- the colours outside the region are the same with row and column exchanged
 paint-symmetric : (v r c : ℕ) → 1 ≤ v → r < side_of v → c < side_of v → paint_of v symmetric_format r c ≡ paint_of v symmetric_format c r
 unfolding fixed_colour
 paint-symmetric v r c l h k =

@@ -1,4 +1,4 @@
--- The bits of a strip, row by row, are those of the strip's places in the encoding region, in their order.
+-- The bits of a strip, row by row, are those of the strip's places in the region, in their order.
 use Rattle.{qr_bits.specs.Bits.field, qr_layout.specs.{Order.in_region_of, Region.is_in_region, Strips.{both_of, rows_from}, declared.region.Place.Place}}
 use Rattle.{qr_layout.specs.declared.strips.Strip.Strip, qr_matrix.specs.{BitRow.{has, has_bit}, Grid.{Grid, colour}}}
 use Rattle.qr_symbol.{proofs.lemmas.placement.PlacementLemmas.at, specs.Steps.Collecting.{bit_if, bits_in_rows, colour_across}}
@@ -44,12 +44,12 @@ kept-bit : (t : Bool) (f : Place → Bool) (m : Place) (ms : List Place) → map
 kept-bit true f m ms = refl
 kept-bit false f m ms = refl
 
--- the columns r say which places of a strip are in the encoding region, and the columns y have the colours of the square g, which
+-- the columns r say which places of a strip are in the region, and the columns y have the colours of the square g, which
 -- is read with row and column exchanged
 module _ (v s : ℕ) (g : Grid) (x : Strip) (r y : Columns)
     (right_in : (row : ℕ) → row < s → has r.right row ≡ is_in_region v row x.right) (left_in : (row : ℕ) → row < s → has r.left row ≡ is_in_region v row (x.right - 1))
     (right : (row : ℕ) → has y.right row ≡ colour g x.right row) (left : (row : ℕ) → has y.left row ≡ colour g (x.right - 1) row) where
-  -- the bits of the rows of a strip are those of its places in the encoding region
+  -- the bits of the rows of a strip are those of its places in the region
   pub strip-bits : (k n : ℕ) → k + n ≤ s → bits_in_rows s x r y k n ≡ map (colour_across g) (in_region_of v (both_of (rows_from s x k n)))
   strip-bits k zero l = refl
   strip-bits k (suc n) l = search (arith, at, append_assoc, kept-bit, strip-bits (k + 1) n (omega arith))

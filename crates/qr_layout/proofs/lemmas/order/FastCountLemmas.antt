@@ -1,4 +1,4 @@
--- The number of modules of the encoding region, computed: for each row only the rectangles that meet the row are checked.
+-- The number of modules of the region, computed: for each row only the rectangles that meet the row are checked.
 use Rattle.qr_layout.{proofs.lemmas.{alignment.{region-taken, below}, order.CountLemmas.{sum_below, sum_below-same, places-sum}}, specs.Alignment.centres_of}
 use Rattle.qr_layout.specs.{Order.places_passing, Rectangles.is_in_rectangle, Region.is_in_region, Steps.Rectangles.taken_rectangles}
 use Rattle.qr_layout.specs.{Version.{total_codewords_of, remainder_bits_of, module_count_of, side_of}, declared.region.Rectangle.Rectangle}

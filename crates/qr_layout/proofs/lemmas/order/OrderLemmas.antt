@@ -1,4 +1,4 @@
--- A version has one order, and the length of the order is the number of modules of the encoding region.
+-- A version has one order, and the length of the order is the number of modules of the region.
 use Rattle.qr_layout.proofs.lemmas.{alignment.{below, below-from}, order.{CountLemmas.count-of, FastCountLemmas.{region-count, agrees, agrees-40}}}
 use Rattle.qr_layout.proofs.lemmas.order.ListLemmas.{Mem, Rises, Distinct, Mem-at, All-of-Mem, All-rec, Mem-left, Mem-right, Mem-append, Rises-of-pairs, one-rising, Mem-of-Contains}
 use Rattle.qr_layout.{proofs.lemmas.region.{row-in, col-in}, specs.{Alignment.centres_of, Laws.region_size}}

@@ -59,7 +59,7 @@ pub places-suc : (v n : ℕ) (a : Cursor) → places_among v (suc n) a ≡ cond 
 unfolding places_among
 places-suc v n a = refl
 
--- module m is in the encoding region, and it is the module at a cursor b with at most n cursors left
+-- module m is in the region, and it is the module at a cursor b with at most n cursors left
 abbrev Stop : ℕ → ℕ → Place → Type 0
 Stop v n m = (b : Cursor) × IsCursor v b × (0 < b.strips_left) × (left_of (side_of v) b ≤ n) × (place_of b ≡ m) × InRegion v m
 
@@ -91,7 +91,7 @@ contains-cond : (x m : Place) (t : Bool) (xs : List Place) → Contains xs m →
 contains-cond x m true xs h = Contains-tail x m xs h
 contains-cond x m false xs h = h
 
--- the walk from a on yields the module at each later cursor, if this module is in the encoding region
+-- the walk from a on yields the module at each later cursor, if this module is in the region
 finds : (v n : ℕ) (a b : Cursor) → IsCursor v a → left_of (side_of v) a ≡ n → IsCursor v b → 0 < b.strips_left → left_of (side_of v) b ≤ n → InRegion v (place_of b) → Contains (places_among v n a) (place_of b)
 finds v zero a b i e j l h t = let p = left-positive v b j l in absurd (omega arith)
 finds v (suc n) a b i e j l h t =
@@ -164,7 +164,7 @@ reaches v (suc n) a b i e j l h =
       | inr m ↦ search (arith, same-cursor)
     ]
 
--- the modules from a on are that at a, if it is in the encoding region, and those from the next cursor on
+-- the modules from a on are that at a, if it is in the region, and those from the next cursor on
 pub to_come-next : (v : ℕ) (a : Cursor) → IsCursor v a → 0 < a.strips_left → to_come v a ≡ cond (is_in_region v a.row (place_of a).col) (place_of a ∷ to_come v (next_of (side_of v) a)) (to_come v (next_of (side_of v) a))
 unfolding to_come
 to_come-next v a i k =
@@ -198,6 +198,6 @@ walk-order v n s e f =
 pub after-strips : (m : Place) (a : Cursor) → a ≡ cursor_at m → 0 < a.strips_left
 after-strips m a f = rw f (at-strips m)
 
--- the cursor a that the code computes for a module m of the encoding region is a cursor of the walk
+-- the cursor a that the code computes for a module m of the region is a cursor of the walk
 pub after-cursor : (v : ℕ) (m : Place) (a : Cursor) (t : Bool) → t ≡ is_in_region v m.row m.col → t ≡ true → a ≡ cursor_at m → IsCursor v a
 after-cursor v m a t h j f = rw f (at-IsCursor v m (row-in v m (sym h ∙ j)) (col-in v m (sym h ∙ j)))

@@ -123,9 +123,9 @@ version-second v i h k l =
 pub dark-module : (v : ℕ) → 1 ≤ v → v ≤ 40 → role_of v (side_of v - 8) 8 ≡ Fixed true
 dark-module v h k = role-same _ _ (below-from 40 1 (λ v. is_role (role_of v (side_of v - 8) 8) (Fixed true)) all-dark v h (omega arith))
 
--- ---- the encoding region
+-- ---- the region
 
--- the parts of a role that is the encoding region
+-- the parts of a role that is the region
 record IsFree (a : Option Bool) (t : Bool) (f g : Option ℕ) : Type 0 where
   no_pattern : a ≡ None
   not_dark : t ≡ false
@@ -250,7 +250,7 @@ version-free v r c h = truth _ (λ t. let e = rw t at (version_at v r c) in cc)
 
 -- ---- the law
 
--- the parts that do not contain a place of the encoding region
+-- the parts that do not contain a place of the region
 record IsClear (a b d e : Bool) : Type 0 where
   no_corner : a ≡ false
   no_timing : b ≡ false
@@ -269,7 +269,7 @@ ring-far n h k = grind (arith, nat_tests)
 not-six : (n : ℕ) → eqb n 6 ≡ false → n ≡ 6 → ⊥
 not-six n h e = grind (arith, nat_tests)
 
--- a module with the role Region is in the encoding region
+-- a module with the role Region is in the region
 pub role-region : (v r c : ℕ) → 1 ≤ v → r < side_of v → c < side_of v → role_of v r c ≡ Region → is_in_region v r c ≡ true
 unfolding pattern_colour
 role-region v r c l i j h =
@@ -289,6 +289,6 @@ off-role v r c l i j ha ht hv =
     by-alignment : (e q t : Bool) (f g : Option ℕ) → t ≡ false → f ≡ None → g ≡ None → role_with (cond e (Some q) None) t f g ≡ cond e (Fixed q) Region
     by-alignment e q t f g x y z = grind (arith, nat_tests)
 
--- a module of the encoding region has the role Region
+-- a module of the region has the role Region
 pub region-role : (v r c : ℕ) → 1 ≤ v → r < side_of v → c < side_of v → is_in_region v r c ≡ true → role_of v r c ≡ Region
 region-role v r c l i j h = search (arith, clear, region-parts, off-role)

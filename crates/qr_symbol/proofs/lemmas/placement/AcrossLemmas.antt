@@ -5,7 +5,7 @@ use Rattle.qr_symbol.proofs.lemmas.placement.{PlacementLemmas.{square-is, IsStri
 use Rattle.qr_symbol.specs.{Steps.{Placement.{number_at, region_grid, AreDrawn}, Spans.row_of}, declared.spans.Columns.Columns}
 use Rattle.std.proofs.{lemmas.Bool.Decides.nat_tests, Common.{◌≡◌, ℕ, ◌-◌, ◌<◌, ◌≤◌, Bool, not, cond, ◌&&◌, List, refl, ◌∙◌, ap, arith}}
 
--- the square of the encoding region, read with row and column exchanged, says whether a place is in the region
+-- the square of the region, read with row and column exchanged, says whether a place is in the region
 pub region-across : (v : ℕ) (g : Grid) (row col : ℕ) → g ≡ region_grid v → row < side_of v → col < side_of v → colour g col row ≡ is_in_region v row col
 region-across v g row col e k l = search (arith, colour-square, region-symmetric)
 

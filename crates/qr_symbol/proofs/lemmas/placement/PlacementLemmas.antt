@@ -44,12 +44,12 @@ at r c = record { row = r; col = c }
 abbrev pub Done : ℕ → (ℕ → ℕ → Bool) → List Place → Grid → Type 0
 Done s want rest g = (r c : ℕ) → r < s → c < s → (Mem (at r c) rest → ⊥) → colour g r c ≡ want r c
 
--- outside the encoding region the colour stays
+-- outside the region the colour stays
 pub outside : (v : ℕ) (cw : List ℕ) (f : ℕ → ℕ → Bool) (r c : ℕ) → is_in_region v r c ≡ false → f r c ≡ placed_colour v cw f r c
 unfolding placed_colour
 outside v cw f r c e = rw e refl
 
--- inside the encoding region the bit with the place's number is placed
+-- inside the region the bit with the place's number is placed
 pub inside : (v : ℕ) (cw : List ℕ) (f : ℕ → ℕ → Bool) (r c : ℕ) → is_in_region v r c ≡ true → placed_colour v cw f r c ≡ codeword_bit cw (index_of v (at r c))
 unfolding placed_colour
 inside v cw f r c e = rw e refl

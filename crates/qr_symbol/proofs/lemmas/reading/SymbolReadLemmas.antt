@@ -40,7 +40,7 @@ take-same : (f h : Place → Bool) (n : ℕ) (ms : List Place) → ((m : Place) 
 take-same f h (suc n) (m ∷ ms) e = let t = take-same f h n ms (λ x k. e x (inr k)) in cc (e m (inl refl))
 take-same f h n ms e = refl
 
--- two functions with the same values in the encoding region
+-- two functions with the same values in the region
 order-same : (v : ℕ) (f h : Place → Bool) (n : ℕ) (ms : List Place) → IsOrder v ms → ((r c : ℕ) → r < side_of v → c < side_of v → is_in_region v r c ≡ true → f (at r c) ≡ h (at r c)) → map f (take n ms) ≡ map h (take n ms)
 order-same v f h n ms o e = search (arith, take-same, order-mem, row-in, col-in)
 
@@ -56,7 +56,7 @@ read-across v g ms cw width begun p q s o bytes w bits = record {
       ∙ order-same v _ (λ m. colour (transposed g) m.row m.col) _ ms o (λ r c l k t. sym (colour-transposed g r c (omega arith) (omega arith)));
 }
 
--- squares with the same colours in the encoding region contain the same codewords
+-- squares with the same colours in the region contain the same codewords
 pub read-same : (v : ℕ) (g h : Grid) (cw : List ℕ) → ((r c : ℕ) → r < side_of v → c < side_of v → is_in_region v r c ≡ true → colour g r c ≡ colour h r c) → IsReadUnmasked v g cw → IsReadUnmasked v h cw
 read-same v g h cw e w = record {
   bytes = w.bytes;
