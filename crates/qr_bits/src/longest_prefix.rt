@@ -1,9 +1,9 @@
 //! The longest prefix of an input that fits one symbol of a series. Like the segments of an input, it is found by the
 //! best choices of `best_modes.rt`, but no table is kept.
 //!
-//! A prefix grows at its end, but `row_of` (in `best_modes.rt`) puts each further byte before those that were taken
-//! already. So `row_of` gets the bytes of a prefix from the last to the first. This order does not change how many bits
-//! they take. The second byte of a kanji pair then comes before the first.
+//! A prefix grows at its end, but `row_of` (in `best_modes.rt`) is made for bytes that are taken from the last to the
+//! first. So `row_of` gets the bytes of a prefix as if their order were reversed. This order does not change how many
+//! bits they take. The second byte of a kanji pair then comes before the first.
 
 ghost use Rattle.std.specs.Prelude.{IsOkAnd, length, reverse, true, ◌+◌, ◌*◌, ◌<◌, ◌≡◌, ◌≤◌};
 ghost use Rattle.qr_bits.specs.declared.modes.Mode.{Mode};

@@ -10,8 +10,8 @@ use Rattle.qr_devices.specs.declared.trial.Trial.{Trial}
 abbrev pub bytes_left : Trial → List ℕ
 bytes_left t = drop t.position t.bytes.items
 
--- If the device is a reader, these are all its bytes, whether they were read or not. If it is a writer, these are the
--- bytes that it accepted [own]
+-- The bytes that the device holds: of a reader all its bytes, whether they were read or not, and of a writer the bytes
+-- that it accepted [own]
 abbrev pub bytes_held : Trial → List ℕ
 bytes_held t = t.bytes.items
 

@@ -46,8 +46,8 @@ abbrev pub square_at : List Grid → ℕ → Grid
 square_at squares k = slice_index_or squares k (light 0)
 
 -- The boxes of all symbols, whose rasters are below one another. The definition is used for squares of one side, so all
--- rasters are equally high. Above the raster with the index `k`, counted from 0, there are `k` times as many rows as one
--- raster has [own]
+-- rasters are equally high. Above the raster with the index `k`, counted from 0, there are `k` times as many rows as
+-- one raster has [own]
 unfoldable pub stack_path : ℕ → List Grid → List ℕ
 stack_path margin squares =
     texts_below (length squares) (λ k. symbol_path (k * raster_width margin (square_at squares k)) margin (square_at squares k))

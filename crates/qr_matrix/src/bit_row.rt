@@ -89,8 +89,8 @@ impl BitRow {
         BitRow::below_in(n, 3)
     }
 
-    /// Returns the row that repeats the six bits of `pattern`, which is below 64: bit `c` is bit `c % 6` of `pattern`, and
-    /// bit 0 is the lowest. The masks of a symbol have such rows (ISO/IEC 18004:2015, 7.8.2).
+    /// Returns the row that repeats the six bits of `pattern`, which is below 64: bit `c` is bit `c % 6` of `pattern`,
+    /// and bit 0 is the lowest. The masks of a symbol have such rows (ISO/IEC 18004:2015, 7.8.2).
     pub fn repeated(pattern: u8) -> BitRow
         requires { pattern < 64 }
         ensures { (c : ℕ) → c < 192 → has result c ≡ has_bit pattern (c % 6) }

@@ -45,8 +45,8 @@ compared_cost First cost = 2 * cost
 compared_cost Second cost = 2 * cost + 1
 
 -- `l` and `mask` are the level and the mask with which the square is read. They are near to a copy of the format
--- information. Of all pairs of level and mask that are near to a copy, and with which all blocks can be mended, none has
--- a lower number by `compared_cost` (ISO/IEC 18004:2015, 7.9.1, 12)
+-- information. Of all pairs of level and mask that are near to a copy, and with which all blocks can be mended, none
+-- has a lower number by `compared_cost` (ISO/IEC 18004:2015, 7.9.1, 12)
 pub record HasFormat (unknown : Grid) (v : ℕ) (g : Grid) (l : Level) (mask : ℕ) : Type 0 where
   pub copy : FormatCopy
   pub near : IsNearFormat unknown copy g l mask

@@ -123,7 +123,7 @@ impl Progress {
         }
     }
 
-    // Computes further syndromes if the search took in all that were computed.
+    // Computes further syndromes if `search` has taken in all syndromes that were computed so far.
     fn prepare(&mut self, remainder: &[u8])
         requires few { length remainder.now ≤ 30 }
         requires left { self.old.taken < length remainder.now }

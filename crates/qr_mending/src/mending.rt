@@ -67,8 +67,8 @@ fn mend_with(
     }
 }
 
-// Whether the two pairs of level and mask are the same. `==` says this too, but with it the WebAssembly file has 400
-// bytes more.
+// Returns true only if both arguments are the same: one pair of level and mask, or `None`. `==` says this too, but with
+// it the WebAssembly file has 400 bytes more.
 fn is_same_format(a: Option<(Level, u8)>, b: Option<(Level, u8)>) -> bool
     ensures { OnTrue result (a ≡ b) }
 {
@@ -119,9 +119,8 @@ fn nearer(
 
 // Returns the square that is mended with one of the pairs of level and mask that are near to a copy. Of the pairs with
 // which all blocks can be mended, it takes the one with which both copies together cost least, and at equal costs the
-// one near to the first copy. If all blocks can be mended with the pair near to the first copy, and both copies
-// together cost at most `COST_CERTAIN` with this pair, no other pair is tried. A pair that is near to both copies is
-// tried only once.
+// one near to the first copy. The pair near to the second copy is not tried if it is the same pair, or if the square
+// was mended with the first one, at a cost of at most `COST_CERTAIN`.
 fn mend_by_format(alloc: Global, scan: &Scan) -> Result<Option<MendedSquare>, ReadFault>
     ensures mended { IfOk result (IsMendedByEither scan.now.unknown.now scan.now.version scan.now.matrix.now) }
     ensures fault { IfErr result (λ e. e ≡ ReadFault.Memory) }

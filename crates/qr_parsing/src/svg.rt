@@ -77,8 +77,8 @@ pub(crate) struct Size {
     pub(crate) count: usize,
 }
 
-/// Returns the size of a document, if a drawing can have this size. A drawing has at most 16 rasters, so its height is
-/// below 17 times its width.
+/// Returns the size of a document. A drawing has at most 16 rasters, each as high as it is wide. So if the document is
+/// at least 17 times as high as it is wide, or if its width is out of range, the result is `None`.
 pub(crate) fn size_in(text: &[u8]) -> Option<Size>
     requires { kind_in text.now ≡ Svg }
     ensures small { IfSome result (λ s. (SIDE_MIN ≤ s.width) × (s.width ≤ WIDTH_MAX) × (s.height < (COUNT_MAX + 1) * WIDTH_MAX)) }

@@ -129,7 +129,8 @@ pub record ShowsInput (s : SettingsView) (input drawing : List ℕ) : Type 0 whe
   pub only : (kind : Drawing) (margin : ℕ) (others : List Grid) → IsDrawingOf kind margin others drawing
       → (kind ≡ s.kind) × (margin ≡ s.margin) × (others ≡ squares)
 
--- A run whose status is 0 wrote a drawing that shows its input: the input can be read from this drawing alone [own]
+-- A run whose status is 0 wrote a drawing that shows its input, folded if `-i` is given: it can be read from this
+-- drawing alone [own]
 abbrev pub OutputsReadBack : Type 0
 OutputsReadBack = (words : List Text) (in0 in1 : Reader) (out0 out1 err0 err1 : Writer)
     → RunsTo words in0 in1 out0 out1 err0 err1 0

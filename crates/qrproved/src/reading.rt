@@ -223,7 +223,8 @@ mod tests {
     #[test]
     fn refusals(rt: HostRuntime) -> Result<(), Fail> {
         let drawn = eight_digits(&rt)?;
-        // `min` shows the prover that the difference is not negative. It changes nothing, since these modules are 0 or 1.
+        // `min` shows the prover that the difference is not negative. It changes nothing, since these modules are 0 or
+        // 1.
         let mut format = drawn;
         format[8] = 1 - format[8].min(1);
         let mut codeword = drawn;

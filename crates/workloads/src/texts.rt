@@ -181,8 +181,8 @@ impl Text {
         self.put_of(random, &DIGITS, count)
     }
 
-    /// About `count` pairs of bytes that kanji mode can write. Most are kana and kanji in Shift JIS, and a few stand for
-    /// no character. Some pairs are replaced by three letters, so that others begin after an odd number of bytes.
+    /// About `count` pairs of bytes that kanji mode can write. Most are kana and kanji in Shift JIS, and a few stand
+    /// for no character. Some pairs are replaced by three letters, so that others begin after an odd number of bytes.
     pub fn put_pairs(&mut self, random: &mut Random, count: usize) -> Result<(), AllocError> {
         for _ in 0..count {
             let kind = random.below(16);

@@ -1,5 +1,5 @@
--- Bytes in reverse order: their valid assignments are those of the bytes, reversed, with equally many bits. The two bytes of
--- each kanji pair are exchanged.
+-- Bytes in reverse order: their valid assignments are those of the bytes, reversed, with equally many bits. The two
+-- bytes of each kanji pair are exchanged.
 use Rattle.std.proofs.Common.{◌≡◌, ℕ, ◌+◌, ◌-◌, ◌≤◌, ◌<◌, Bool, true, false, ◌&&◌, List, [], ◌∷◌, ◌++◌, reverse, length, take, drop, get_or, refl, ◌∙◌, ap, arith, subst}
 use Rattle.std.{proofs.{Math.Nat.le_refl, lemmas.{Bool.{false≢true, Decides.nat_tests}, List.{take-take, Folds.list_all-append}}}, specs.List.list_all}
 use Rattle.std.proofs.lemmas.Bool.{and_parts, and_from}

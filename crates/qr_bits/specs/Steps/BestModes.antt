@@ -44,7 +44,8 @@ AreCharacterChoices i v r x pair rest c =
     (c.first ≡ character_choice i v r x pair rest Start) × (c.second ≡ character_choice i v r x pair rest Character1) × (c.next ≡ character_choice i v r x pair rest Character2)
 
 -- The numbers of the choices for the nine states are below 40,000,000. For inputs of at most `INPUT_MAX` bytes choices
--- do not reach this bound. If the bits of one more byte are added to a choice below the bound, the sum still fits 32 bits
+-- do not reach this bound. If the bits of one more byte are added to a choice below the bound, the sum still fits 32
+-- bits
 abbrev pub IsSmall : PerState → Type 0
 IsSmall n =
     (n.start < 40000000) × (n.digit1 < 40000000) × (n.digit2 < 40000000) × (n.digit3 < 40000000) × (n.character1 < 40000000)

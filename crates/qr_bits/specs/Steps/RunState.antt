@@ -79,7 +79,7 @@ unfoldable pub may_take : Rule → RunState → ℕ → Bool → Mode → Bool
 may_take r HalfPair x pair m = rank m == rank Kanji
 may_take r _ x pair m = may_begin r x pair m
 
--- An assignment may end in the given state, which is any but the state after the first byte of a kanji pair
+-- Whether an assignment may end in the given state. It may end in each but the one after the first byte of a kanji pair
 unfoldable pub may_end : RunState → Bool
 may_end HalfPair = false
 may_end _ = true

@@ -119,13 +119,14 @@ pub before-bit : (s : ℕ) (line : ℕ → Bool) (r : ℕ) (u : Bool) → r + 11
     → ((u && reads line r finder_ratio) && not (not (reads line (r + 7) four_light))) ≡ (u && is_before_light s line r)
 before-bit s line r u h = search arith
 
--- the ratio after four light modules is a window that is found in the last row of these, if seven rows are left after it
+-- the ratio after four light modules is a window that is found in the last row of these, if seven rows are left after
+-- it
 pub after-bit : (s : ℕ) (line : ℕ → Bool) (r : ℕ) (u : Bool) → 3 ≤ r → r + 8 ≤ s
     → ((u && reads line (r + 1) finder_ratio) && not (not (reads line (r - 3) four_light))) ≡ (u && (ltb 2 r && is_after_light s line (r - 3)))
 after-bit s line r u l h = search (arith, nat_tests)
 
--- the windows that are found in row r, if the bits of two tests of column c tell where those of the first kind and those
--- of the second kind are
+-- the windows that are found in row r, if the bits of two tests of column c tell where those of the first kind and
+-- those of the second kind are
 pub found-bit : (s : ℕ) (line : ℕ → Bool) (r : ℕ) (u x y : Bool) → x ≡ (u && is_before_light s line r) → y ≡ (u && (ltb 2 r && is_after_light s line (r - 3))) → (x || y) ≡ (u && is_found s line r)
 unfolding is_found
 found-bit s line r u x y e f = search arith

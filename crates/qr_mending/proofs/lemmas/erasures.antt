@@ -1,6 +1,6 @@
--- Erased codewords. Each error is multiplied by the value of a polynomial that has a root for each erased codeword. Then
--- only as many errors are left as codewords were misread. A polynomial that locates the errors left, times those roots,
--- locates all errors.
+-- Erased codewords. Each error is multiplied by the value of a polynomial that has a root for each erased codeword.
+-- Then only as many errors are left as codewords were misread. A polynomial that locates the errors left, times those
+-- roots, locates all errors.
 use Rattle.qr_field.proofs.lemmas.galois.{ByteLemmas.{product-by_zero, product-of_zero}, FieldLemmas.{product-factor, sum-none}, PowerLemmas.power-lt}
 use Rattle.qr_field.proofs.lemmas.laws.DistanceLemmas.{weight, difference-same, difference-alike, errors-read}
 use Rattle.qr_field.{proofs.lemmas.polynomial.ListLemmas.{length-plus, bytes-plus}, specs.Distance.{difference, differences, erasures, errors}}

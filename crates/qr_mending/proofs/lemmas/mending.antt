@@ -126,7 +126,8 @@ module _ (unknown g : Grid) where
   mended-unparsed v l mask message changed unparsed.Cut h k = search (arith, fault-read)
   mended-unparsed v l mask message changed unparsed.BadValue h k = search (arith, fault-read)
 
-  -- not all blocks can be mended with a level and a mask if the codewords, read with these, are a damaged form of no message
+  -- not all blocks can be mended with a level and a mask if the codewords, read with these, are a damaged form of no
+  -- message
   pub holds-none : (v : ℕ) (l : Level) (m : ℕ) (cw : List ℕ) → IsRead v m g cw →
       ((message changed : List ℕ) → IsMendedIn unknown v l cw message changed → ⊥) → HoldsNone unknown v l m g
   holds-none v l m cw r none = λ message changed d.

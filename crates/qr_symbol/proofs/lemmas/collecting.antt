@@ -44,8 +44,8 @@ kept-bit : (t : Bool) (f : Place → Bool) (m : Place) (ms : List Place) → map
 kept-bit true f m ms = refl
 kept-bit false f m ms = refl
 
--- the columns r say which places of a strip are in the region, and the columns y have the colours of the square g, which
--- is read with row and column exchanged
+-- the columns r say which places of a strip are in the region, and the columns y have the colours of the square g,
+-- which is read with row and column exchanged
 module _ (v s : ℕ) (g : Grid) (x : Strip) (r y : Columns)
     (right_in : (row : ℕ) → row < s → has r.right row ≡ is_in_region v row x.right) (left_in : (row : ℕ) → row < s → has r.left row ≡ is_in_region v row (x.right - 1))
     (right : (row : ℕ) → has y.right row ≡ colour g x.right row) (left : (row : ℕ) → has y.left row ≡ colour g (x.right - 1) row) where
@@ -54,8 +54,8 @@ module _ (v s : ℕ) (g : Grid) (x : Strip) (r y : Columns)
   strip-bits k zero l = refl
   strip-bits k (suc n) l = search (arith, at, append_assoc, kept-bit, strip-bits (k + 1) n (omega arith))
 
--- n rows of which all modules are in the region have the bits of a number with two bits for each row, of which the right
--- column has the higher one; the lowest bits are for the last row
+-- n rows of which all modules are in the region have the bits of a number with two bits for each row, of which the
+-- right column has the higher one; the lowest bits are for the last row
 pub run-bits : (s : ℕ) (x : Strip) (r y : Columns) (k n w : ℕ) → AreWholeRows s x k n r
     → ((m : ℕ) → m < n → has_bit w (2 * (n - 1 - m) + 1) ≡ has y.right (row_of s x (k + m)))
     → ((m : ℕ) → m < n → has_bit w (2 * (n - 1 - m)) ≡ has y.left (row_of s x (k + m)))

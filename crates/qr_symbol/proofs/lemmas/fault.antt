@@ -33,7 +33,8 @@ empty-short x e l = omega (arith, ap length e)
 pub long-has-no-version : (x : List ℕ) (l : Level) (b : Rule) (how : Interpretation) (smallest : ℕ) → 1 ≤ smallest → 7089 < length x → HasNoVersion smallest l b how x
 long-has-no-version x l b how smallest least long v a c fits = omega (arith, version-short v l b how x (omega arith) c fits)
 
--- bytes that are not empty and not more than 7,089 are refused exactly if they fit no version, unless memory was refused
+-- bytes that are not empty and not more than 7,089 are refused exactly if they fit no version, unless memory was
+-- refused
 pub refused-some : {X : Type 0} (smallest : ℕ) (l : Level) (b : Rule) (how : Interpretation) (x : List ℕ) (r : Result X EncodeFault)
     → length x ≢ 0 → length x ≤ 7089 → MatchResult r (λ _. HasNoVersion smallest l b how x → ⊥)
     (λ e. (e ≡ fault.Memory) ⊎ ((e ≡ fault.TooLong) × HasNoVersion smallest l b how x)) → IsRefusedExactly smallest l b how x r

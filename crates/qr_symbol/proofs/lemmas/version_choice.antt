@@ -19,8 +19,8 @@ segmentation-same u v rule how xs ys segs same h = search (arith, bits-same)
 pub interpretation-most : (how : Interpretation) → interpretation_bits how ≤ 28
 interpretation-most how = grind arith
 
--- The bytes fit a version exactly if it has room for the bits of their segments in a version of the same widths, and for
--- what says the interpretation.
+-- The bytes fit a version exactly if it has room for the bits of their segments in a version of the same widths, and
+-- for what says the interpretation.
 pub fits-bits : (u v : ℕ) (l : Level) (rule : Rule) (how : Interpretation) (xs ys : List ℕ) (segs : List Segment) → 1 ≤ v → v ≤ 40
     → ((m : Mode) → count_width v m ≡ count_width u m) → IsLeastSegmentation how u rule xs ys segs
     → (FitsVersion v l rule how xs → interpretation_bits how + bits u segs ≤ capacity_of v l)

@@ -11,7 +11,8 @@ under a b n h = omega arith
 swap : (a b n : ℕ) → min a (min b n) ≡ min b (min a n)
 swap a b n = omega arith
 
--- the least choice in a state, as the least of the four modes, if the choice of its own mode is no more than at the start
+-- the least choice in a state, as the least of the four modes, if the choice of its own mode is no more than at the
+-- start
 minima : (n a b k d c2 c1 b1 k1 : ℕ) → d ≤ n → c1 ≤ a → b1 ≤ b → k1 ≤ k → let s = min n (min a (min b k)) in
     (min d s ≡ min d (min a (min b k))) × (min c2 (min n (min b k)) ≡ min n (min c2 (min b k))) × (min c1 s ≡ min n (min c1 (min b k))) × (min b1 s ≡ min n (min a (min b1 k))) × (min k1 s ≡ min n (min a (min b k1)))
 minima n a b k d c2 c1 b1 k1 h i j l = (

@@ -9,8 +9,8 @@ use Rattle.qr_bits.specs.Interpretation.{character_for, characters_gs1, doubled_
 use Rattle.qr_bits.specs.Steps.{BestModes.{AreFlagged, follow_in, mode_at}, RunState.{state_after, state_in, state_on}, Segmentation.{append_mode, is_escaped, one_segment}}
 use Rattle.qr_bits.proofs.lemmas.{interpretation.{written-append, written-one}, segmentation.BackLemmas.runs_of-push}
 
--- of the bytes `xs` the first `i`, whose modes were read, have the segments `found` and one of `n` characters, and their
--- characters are `chars` and the bytes from `copied` on; `rows` are left of the table
+-- of the bytes `xs` the first `i`, whose modes were read, have the segments `found` and one of `n` characters, and
+-- their characters are `chars` and the bytes from `copied` on; `rows` are left of the table
 pub record IsWritten (xs : List ℕ) (all : List Mode) (i : ℕ) (found : List Segment) (m : Mode) (n : ℕ) (p : RunState) (rows : List ℕ) (chars : List ℕ) (copied : ℕ) : Type 0 where
   pub modes : List Mode
   pub many : length modes ≡ i

@@ -60,7 +60,8 @@ product-of_zero = search (arith, same-below)
 pub carryless-two : (a : ℕ) → a < 256 → carryless 8 2 a ≡ 2 * a
 carryless-two = same-below 256 (λ a. carryless 8 2 a) (λ a. 2 * a) doubles
 
--- a product of 2 is a shift by one bit, and where that loses the highest bit, the rest of the prime modulus polynomial is added
+-- a product of 2 is a shift by one bit, and where that loses the highest bit, the rest of the prime modulus polynomial
+-- is added
 pub product-of_two : (a : ℕ) → a < 256 → bit_xor (a % 2 ^ 7 * 2) (a / 2 ^ 7 * 29) ≡ product 2 a
 product-of_two = same-below 256 (λ a. bit_xor (a % 2 ^ 7 * 2) (a / 2 ^ 7 * 29)) (λ a. product 2 a) left-two
 

@@ -187,7 +187,8 @@ pub erasures-read : (xs : List ℕ) → erasures (map (λ x. Some x) xs) ≡ 0
 erasures-read [] = refl
 erasures-read (x ∷ xs) = erasures-read xs
 
--- if every codeword of xs was read, then the number of errors of xs against ys is the number of differences of xs and ys
+-- if every codeword of xs was read, then the number of errors of xs against ys is the number of differences of xs and
+-- ys
 pub errors-read : (xs ys : List ℕ) → errors (map (λ x. Some x) xs) ys ≡ differences xs ys
 errors-read [] ys = refl
 errors-read (x ∷ xs) [] = ap suc (length-map xs (λ x. Some x))

@@ -45,7 +45,8 @@ value-plus i k (x ∷ xs) (y ∷ ys) e a b =
     let head = product-xor x y (power (i * length ys)) lx (All-head IsByte y ys b) in
     search (arith, product-xor, product-lt, value-lt, xor-swap, length-plus, value-plus i k xs ys f lxs (All-tail IsByte y ys b), power-add (i * length xs) (i * k))
 
--- the value of the product of q and a ∷ g at 2 to the power i is the product of the values of q and of a ∷ g at this power
+-- the value of the product of q and a ∷ g at 2 to the power i is the product of the values of q and of a ∷ g at this
+-- power
 value-times : (i : ℕ) (q : List ℕ) (a : ℕ) (g : List ℕ) → All IsByte q → All IsByte (a ∷ g) →
     value_at i (times q (a ∷ g)) ≡ product (value_at i q) (value_at i (a ∷ g))
 value-times i [] a g bq bg = search (arith, value-zeros, product-of_zero, value-lt)

@@ -50,8 +50,8 @@ module _ (f g : ℕ → ℕ) (l r : ℕ) (before : (c : ℕ) → c < l → g c �
     | inr n ↦ let e = after k n in let d = sum-after k h n in omega arith
   ]
 
--- p' columns are free before column c without those from l to before r; with these, p are free before c, pl before l and
--- pr before r
+-- p' columns are free before column c without those from l to before r; with these, p are free before c, pl before l
+-- and pr before r
 record IsWithout (l r pl pr c p p' : ℕ) : Type 0 where
   pub before : c ≤ l → p' ≡ p
   pub inside : l ≤ c → c ≤ r → p' ≡ pl

@@ -1,4 +1,5 @@
--- The function patterns are their own transposes, if just bit 7 of the format information, opposite the dark module, is set.
+-- The function patterns are their own transposes, if just bit 7 of the format information, opposite the dark module, is
+-- set.
 use Rattle.std.{proofs.{lemmas.Bool.{eqb-true, Decides.nat_tests}, Math.Bool.{and_comm, or_comm}}, specs.{List.find, Option.option_map_or}}
 use Rattle.std.proofs.Common.{◌≡◌, ℕ, ◌-◌, ◌%◌, ◌<◌, ◌≤◌, Bool, true, not, ◌&&◌, ◌||◌, cond, eqb, min, List, [], ◌∷◌, Option, None, Some, refl, ◌∙◌, arith}
 use Rattle.qr_layout.specs.{declared.role.Role.{Role, TheVariants.{Fixed, FormatBit, VersionBit, Region}}, Version.side_of}

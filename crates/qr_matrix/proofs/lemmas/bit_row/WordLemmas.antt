@@ -58,7 +58,8 @@ three-high n m x e f = search (arith, pow-add, pow_pos)
 
 -- ---- a shift up by one bit
 
--- the disjunction of the word b, shifted up by one bit, and of the highest bit of the word a is the sum of these numbers
+-- the disjunction of the word b, shifted up by one bit, and of the highest bit of the word a is the sum of these
+-- numbers
 up-low : (b a : ℕ) → a < 2 ^ 64 → bit_or (b * 2 % 2 ^ 64) (a / 2 ^ 63) ≡ b * 2 % 2 ^ 64 + a / 2 ^ 63
 up-low b a h =
     let e : b * 2 % 2 ^ 64 ≡ b % 2 ^ 63 * 2 ^ 1 = omega arith in

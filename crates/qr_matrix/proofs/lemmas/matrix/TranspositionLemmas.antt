@@ -115,7 +115,8 @@ module _ (s first row : ℕ) (w b : List ℕ) (u v : ℕ) (next : AreNext s firs
         | inr q ↦ search (arith, two-other)
       ]
 
-  -- if the lower rows before `row + s` are exchanged in w, and v is the exchanged word of `row + s`, this row is exchanged too
+  -- if the lower rows before `row + s` are exchanged in w, and v is the exchanged word of `row + s`, this row is
+  -- exchanged too
   pub lower-more : ((c : ℕ) → c < 64 → has_bit v c ≡ cond (ltb (c % (2 * s)) s) (has_bit (get_or w row 0) (c + s)) (has_bit (get_or w (row + s) 0) c))
       → AreExchanged s w b (first + s) (row + s) → AreExchanged s (set (set w row u) (row + s) v) b (first + s) (row + 1 + s)
   unfolding bit_in
@@ -207,7 +208,8 @@ chosen s t f h = square s (λ r c. cond (t r c) (f r c) (h r c))
 pub row-more : (band row r : ℕ) (q : Bool) → row < 64 → ((eqb r (64 * band + row) && q) || ((eqb (r / 64) band && ltb r (64 * band + row)) && q)) ≡ ((eqb (r / 64) band && ltb r (64 * band + (row + 1))) && q)
 row-more band row r q l = grind (arith, nat_tests)
 
--- the tile b has the colours of the square g in the rows of band `word` and the columns of word `band`, where there are any
+-- the tile b has the colours of the square g in the rows of band `word` and the columns of word `band`, where there are
+-- any
 abbrev pub IsTileOf : ℕ → ℕ → ℕ → List ℕ → Grid → Type 0
 IsTileOf word band s b g = Agree 64 (bit_in b) (λ r c. ltb (64 * word + r) s && colour g (64 * word + r) (64 * band + c))
 

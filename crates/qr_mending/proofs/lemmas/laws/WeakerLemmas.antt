@@ -1,5 +1,5 @@
--- A block with more error correction codewords is also one with fewer, since the generator polynomial of fewer divides that of
--- more.
+-- A block with more error correction codewords is also one with fewer, since the generator polynomial of fewer divides
+-- that of more.
 use Rattle.qr_field.proofs.lemmas.laws.DistanceLemmas.{difference-most, differences-none, weight-none, weight-plus}
 use Rattle.qr_field.{proofs.lemmas.polynomial.{ListLemmas.{length-plus, bytes-plus}, PolynomialLemmas.correction-some}, specs.Distance.differences}
 use Rattle.{qr_field.specs.Polynomial.{IsByte, plus}, qr_mending.{proofs.lemmas.block.{bytes-block, errors-value, root-block}, specs.Block.IsBlock}}
@@ -18,8 +18,8 @@ differences-rest : (zs us vs : List ℕ) → differences (zs ++ us) (zs ++ vs) �
 differences-rest [] us vs = refl
 differences-rest (z ∷ zs) us vs = grind (arith, nat_tests, differences-rest zs us vs)
 
--- the block differs in at most n codewords from the one whose last n codewords protect the others, and both have the first n
--- powers of 2 as roots
+-- the block differs in at most n codewords from the one whose last n codewords protect the others, and both have the
+-- first n powers of 2 as roots
 pub weaker-block : (n m : ℕ) (block : List ℕ) → 1 ≤ n → n ≤ m → length block ≤ 255 → IsBlock m block → IsBlock n block
 weaker-block n m block some less few b =
     let k = length block - n in

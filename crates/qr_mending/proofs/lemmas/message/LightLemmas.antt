@@ -1,5 +1,5 @@
--- A symbol of which all modules were read: its marks are 0, no codeword is erased, and its blocks are mended as blocks of
--- which every codeword was read.
+-- A symbol of which all modules were read: its marks are 0, no codeword is erased, and its blocks are mended as blocks
+-- of which every codeword was read.
 use Rattle.{qr_bits.{proofs.Facts.length-bits_of, specs.Bits.{bits_of, field}}, qr_field.proofs.lemmas.laws.DistanceLemmas.{erasures-read, errors-read}}
 use Rattle.{qr_field.specs.{Distance.differences, Polynomial.IsCorrection}, qr_layout.proofs.Facts.{col-in, order-length, row-in}}
 use Rattle.qr_layout.specs.{Blocks.{blocks_of, correctable_of}, Region.InRegion, Version.{side_of, total_codewords_of}, declared.blocks.Blocks.Blocks}
@@ -121,7 +121,8 @@ all-read s places cw (k ∷ ks) = cc (none-unread s (modules_of places k), all-r
 
 -- ---- blocks
 
--- block `i`, of which every codeword was read, can be mended to block `i` of `message`: at most `t` of its codewords differ
+-- block `i`, of which every codeword was read, can be mended to block `i` of `message`: at most `t` of its codewords
+-- differ
 pub record IsUnerasedBlock (b : Blocks) (t : ℕ) (d e message : List ℕ) (changed i : ℕ) : Type 0 where
   pub correction : List ℕ
   pub corrects : IsCorrection (part_of (data_sizes b) message i) b.ec_len correction

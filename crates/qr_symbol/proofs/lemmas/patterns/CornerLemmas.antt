@@ -39,7 +39,8 @@ at-first v r c i k1 k2 l e f = cc (format-first v i k1 k2 l)
 at-second : (v r c i : ℕ) → 1 ≤ v → v ≤ 40 → i < 15 → (second_place (side_of v) i).row ≡ r → (second_place (side_of v) i).col ≡ c → role_of v r c ≡ FormatBit i
 at-second v r c i k1 k2 l e f = cc (format-second v i k1 k2 l)
 
--- the places beside the finder patterns, but for the timing modules and the dark module, have bits of the format information
+-- the places beside the finder patterns, but for the timing modules and the dark module, have bits of the format
+-- information
 column-painted : (v r format : ℕ) (w : Bool) → 1 ≤ v → v ≤ 40 → (9 ≤ r → side_of v - 8 < r)
     → r < side_of v → (r ≡ 6 → ⊥) → format_or format (role_of v r 8) w ≡ paint_of v format r 8
 column-painted v r format w k1 k2 n l o = elim (cases_lt r 6) [

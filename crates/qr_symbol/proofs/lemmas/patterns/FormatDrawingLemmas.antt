@@ -73,7 +73,8 @@ format-end v format g0 g e h = search (arith, square-same, all-bits)
 
 -- ---- in two squares: column 8, and then row 8
 
--- the bits before bit n are drawn in all rows but row 8. In row 8 a module may have its colour of the format information
+-- the bits before bit n are drawn in all rows but row 8. In row 8 a module may have its colour of the format
+-- information
 abbrev pub FormatDown : ℕ → ℕ → ℕ → Grid → Grid → Type 0
 FormatDown v format n g0 g = (r c : ℕ) → r < side_of v → c < side_of v
     → (r ≢ 8 → colour g r c ≡ format_bits_or n format (role_of v r c) (colour g0 r c)) × (format_or format (role_of v r c) (colour g r c) ≡ format_or format (role_of v r c) (colour g0 r c))

@@ -19,7 +19,8 @@ ring-four : (v r c : ℕ) → finder_ring (side_of v) r c ≡ 4 → role_of v r 
 unfolding role_of pattern_colour
 ring-four v r c e = rw e refl
 
--- of the places of row 6, or column 6, of a square of side s, those at both ends are in ring 3, and those beside them in ring 4
+-- of the places of row 6, or column 6, of a square of side s, those at both ends are in ring 3, and those beside them
+-- in ring 4
 record AreRingsOfSix (s at ring : ℕ) : Type 0 where
   pub near : at < 7 → ring ≡ 3
   pub far : s - 7 ≤ at → ring ≡ 3

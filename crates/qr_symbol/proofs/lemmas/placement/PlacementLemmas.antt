@@ -10,7 +10,8 @@ use Rattle.qr_symbol.specs.{Steps.Spans.row_of, Symbol.{colour_of, grid_of}}
 use Rattle.std.proofs.Common.{◌≡◌, ℕ, zero, suc, ◌+◌, ◌-◌, ◌⊎◌, ◌<◌, ◌≤◌, Bool, true, false, cond, List, [], ◌∷◌, ◌++◌, length, length-append, refl, sym, ◌∙◌, ap, inl, inr, subst, append_assoc, append-nil, arith}
 use Rattle.std.proofs.lemmas.Bool.{cases_eq, false≢true}
 
--- drawing the strip x changes the transposed square from `before` to `after`; the strip has the bits from `first` to before `next`
+-- drawing the strip x changes the transposed square from `before` to `after`; the strip has the bits from `first` to
+-- before `next`
 pub record IsStripDrawn (v : ℕ) (cw : List ℕ) (x : Strip) (first : ℕ) (before : Grid) (next : ℕ) (after : Grid) : Type 0 where
   pub number : next ≡ number_at v x first (side_of v)
   pub square : IsSquare (side_of v) after

@@ -6,8 +6,8 @@ use Rattle.qr_symbol.specs.{Steps.{Spans.{row_of, top_row, AreOutside, AreWholeR
 use Rattle.std.proofs.Common.{◌≡◌, ℕ, ◌+◌, ◌-◌, ◌*◌, ◌/◌, ◌^◌, ◌<◌, ◌≤◌, true, false, leb, ltb, ◌&&◌, ◌||◌, List, refl, sym, ◌∙◌, ap, arith}
 use Rattle.std.proofs.lemmas.Bool.Decides.{nat_tests}
 
--- drawing the `n` rows from row `k` on changes the columns from `old` to `new`, and the bits from `number` on are drawn, to
--- before `after`
+-- drawing the `n` rows from row `k` on changes the columns from `old` to `new`, and the bits from `number` on are
+-- drawn, to before `after`
 pub record IsSpanDrawn (v : ℕ) (cw : List ℕ) (x : Strip) (first k n number after : ℕ) (old new : Columns) : Type 0 where
   pub few : after ≤ number + 2 * n
   pub next : after ≡ number_at v x first (k + n)

@@ -1,4 +1,5 @@
--- Every input has parts: it is decidable whether a prefix fits, so there is a longest one. Inputs that are too long have no series.
+-- Every input has parts: it is decidable whether a prefix fits, so there is a longest one. Inputs that are too long
+-- have no series.
 use Rattle.qr_bits.{proofs.Facts.{CoversInTurn, assignment-length, empty-fits, from-turn, in-turn}, specs.Interpretation.{characters_in, doubled, MayWrite}}
 use Rattle.qr_bits.specs.{Modes.may_use, Padding.room_of, Segmentation.{bits, runs_of, Covers, IsAssignment, HasFit, IsLongestFit}}
 use Rattle.qr_bits.specs.declared.{interpretation.Interpretation.Interpretation, modes.Mode.{Mode, TheVariants.{Numeric, Alphanumeric, Byte, Kanji}}}

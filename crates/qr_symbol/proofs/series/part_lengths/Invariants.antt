@@ -2,8 +2,8 @@ use Rattle.{qr_bits.specs.Interpretation.MayWrite, qr_symbol.specs.{Series.ArePa
 use Rattle.std.proofs.Common.{ℕ, ◌+◌, ◌≤◌, List, ◌++◌, length}
 use Rattle.qr_symbol.proofs.series.part_lengths.Given as goal
 
--- the lengths found and those of the rest are the lengths of the input, which has at least as many parts as lengths found
--- and parts of the rest together
+-- the lengths found and those of the rest are the lengths of the input, which has at least as many parts as lengths
+-- found and parts of the rest together
 abbrev pub invariant-loop-rest : goal.invariant-loop-rest
 invariant-loop-rest l = record {
   short : length l.rest ≤ length l.fn.input;

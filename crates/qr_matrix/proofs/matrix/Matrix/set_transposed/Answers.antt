@@ -36,7 +36,8 @@ pub exchange-requires-in-loop-word-5-clause-masks : goal.exchange-requires-in-lo
 unfolding has_bit
 exchange-requires-in-loop-word-5-clause-masks c = mask-at 0x5555555555555555 1 refl
 
--- a bit after one row more is written: `e` says that the place is in this row, `p` and `n` that it is in the rows before, and in all with this one
+-- a bit after one row more is written: `e` says that the place is in this row, `p` and `n` that it is in the rows
+-- before, and in all with this one
 one-more : (e p n q x b d y : Bool) → ((e && q) || (p && q)) ≡ (n && q) → (e ≡ true → x ≡ b) → (e ≡ true → d ≡ cond (p && q) b y) → cond e (cond q x d) (cond (p && q) b y) ≡ cond (n && q) b y
 one-more e p n q x b d y h i j = grind (arith, nat_tests)
 
