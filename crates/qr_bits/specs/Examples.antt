@@ -44,11 +44,12 @@ middle = record { position = 1; last = 2; parity = 0x48 }
 abbrev pub middle_data : List ℕ
 middle_data = 0x31 ∷ 0x24 ∷ 0x84 ∷ 0x03 ∷ 0x46 ∷ 0x47 ∷ 0x48 ∷ 0x00 ∷ 0xEC ∷ []
 
--- Codewords of five symbols with ECI headers or FNC1, each with its items, its ECIs and its bytes. The first has Greek
--- letters after ECI 9, as in an example of the standard. The second has `A` and `B` among three ECI headers, whose
--- designators have one, two and three codewords. The third has FNC1 in second position, with the application indicator
--- 37, and `AA12`. The fourth has FNC1 in first position before ECI 3, as other encoders write it. The fifth has FNC1,
--- the characters `A%B%%C`, which are two fields, and then two `%` in byte mode under ECI 26 [own]
+-- Codewords of five symbols with ECI headers or FNC1, each with its items, its ECIs and its bytes. The first symbol has
+-- Greek letters after ECI 9, as in an example of the standard. The second symbol has `A` and `B` among three ECI
+-- headers, whose designators have one, two and three codewords. The third symbol has FNC1 in second position, with the
+-- application indicator 37, and `AA12`. The fourth symbol has FNC1 in first position before ECI 3, as other encoders
+-- write it. The fifth symbol has FNC1, the characters `A%B%%C`, which are two fields, and then two `%` in byte mode
+-- under ECI 26 [own]
 abbrev pub interpreted : List (List ℕ × List Item × List EciChange × List ℕ)
 interpreted = (
   0x70 ∷ 0x94 ∷ 0x05 ∷ 0xA1 ∷ 0xA2 ∷ 0xA3 ∷ 0xA4 ∷ 0xA5 ∷ 0x00 ∷ [],
@@ -83,10 +84,10 @@ interpreted = (
 
 -- Lists of codewords that cannot be read in version 1, each with its fault. The first six have a number that is too
 -- large: 1000 for three digits, 100 for two digits, 10 for one digit, 2025 for two characters, 45 for one character,
--- and hexadecimal BD in kanji mode. The next three end within the data, within the character count indicator, and
--- within the header. The tenth has a mode indicator that is not defined, and the eleventh a second header. The last
--- five have half a designator, a designator that begins with the bits 111, the ECI number 1000000, the application
--- indicator 100, and FNC1 after a segment [own]
+-- and hexadecimal BD in kanji mode. The next three lists end within the data, within the character count indicator, and
+-- within the header. The tenth list has a mode indicator that is not defined, and the eleventh has a second header. The
+-- last five lists have, in turn, only four bits of a designator, a designator that begins with the bits 111, the ECI
+-- number 1000000, the application indicator 100, and FNC1 after a segment [own]
 abbrev pub unreadable : List (List ℕ × ParseFault)
 unreadable =
     (0x10 ∷ 0x0F ∷ 0xE8 ∷ [], BadValue)

@@ -172,9 +172,9 @@ meant_bytes fnc1 (Eci d ∷ is) xs = meant_bytes fnc1 is xs
 meant_bytes fnc1 (Fnc1First ∷ is) xs = meant_bytes true is xs
 meant_bytes fnc1 (Fnc1Second a ∷ is) xs = meant_bytes true is xs
 
--- The ECI headers among the items, each with the number of bytes of the symbol before it. What comes before all items
--- is given: `n` bytes, and FNC1 if `fnc1` is true. Each segment takes the next of the characters `xs` (ISO/IEC
--- 18004:2015, 7.4.2.2)
+-- The ECI headers among the items, each with the number of bytes that the symbol has before this header. What comes
+-- before all items is given: `n` bytes, and FNC1 if `fnc1` is true. Each segment takes the next of the characters `xs`
+-- (ISO/IEC 18004:2015, 7.4.2.2)
 unfoldable pub eci_changes : Bool → ℕ → List Item → List ℕ → List EciChange
 eci_changes fnc1 n [] xs = []
 eci_changes fnc1 n (Data s ∷ is) xs = eci_changes fnc1 (n + length (meant fnc1 s.mode (take s.len xs))) is (drop s.len xs)

@@ -81,8 +81,8 @@ abbrev pub FittingInputsAreShort : Type 0
 FittingInputsAreShort =
     (i : Interpretation) (v : ℕ) (l : Level) (r : Rule) (xs : List ℕ) → 1 ≤ v → v ≤ 40 → HasFit i v r xs (capacity_of v l) → length xs ≤ 7089
 
--- Let `segs` be the segments of fewest bits of an input. They cover the characters that are written for the input. They
--- take at most n bits exactly if some valid assignment takes at most n bits [own]
+-- Let `segs` be the segments of fewest bits of an input. They cover the characters that are written for the input. The
+-- segments take at most n bits exactly if some valid assignment takes at most n bits [own]
 abbrev pub LeastSegmentationsFit : Type 0
 LeastSegmentationsFit =
     (i : Interpretation) (v : ℕ) (r : Rule) (xs ys : List ℕ) (segs : List Segment) → IsLeastSegmentation i v r xs ys segs →

@@ -1,5 +1,6 @@
 -- What each read, write or flush adds to the counts `c` of a device, and which counts show a fault. `returned` is the
--- result of the call. At most 999 interrupted calls (EINTR) are tried again for each input or text.
+-- result of the call. At most 999 interrupted reads or writes (EINTR) are tried again while one input is read or one
+-- text is written.
 use Rattle.std.specs.Prelude.{◌≡◌, ◌+◌, ◌-◌, ◌^◌, ◌≤◌, ◌++◌, ◌==◌, ◌||◌, ◌&&◌, ℕ, Bool, false, nat_lt, nat_le, min, max, List, Option, Result, Ok, Err, is_ok, if◌then◌else◌}
 use Rattle.std.specs.Io.KnownBytes.{Appends}
 use Rattle.qr_devices.specs.declared.device.TheConstants.{INTERRUPTIONS_MAX}
@@ -75,8 +76,8 @@ flush_counted returned c = record c {
 abbrev pub IsBeginning : List ℕ → List ℕ → Type 0
 IsBeginning prefix whole = (rest : List ℕ) × (prefix ++ rest ≡ whole)
 
--- `old` are the bytes that a device had accepted before some calls, and `new` those that it has accepted after them. If
--- contracts know these bytes, the calls appended a prefix of `whole` [own]
+-- `old` are the bytes that a device had accepted before some calls, and `new` are all bytes that it had accepted at the
+-- end of these calls. If contracts know these bytes, the calls appended a prefix of `whole` [own]
 abbrev pub AppendsBeginning : Option (List ℕ) → Option (List ℕ) → List ℕ → Type 0
 AppendsBeginning old new whole = (prefix : List ℕ) × IsBeginning prefix whole × Appends old new prefix
 
@@ -89,7 +90,7 @@ is_read_fault c = nat_lt 0 c.failed || nat_le 1000 c.interrupted
 abbrev pub is_write_fault : WriteCounts → Bool
 is_write_fault c = nat_lt 0 c.failed || (nat_lt 0 c.zeros || nat_le 1000 c.interrupted)
 
--- At most one call went wrong: it failed, or it was a write that accepted no byte. At most 1,000 writes were
+-- At most one call failed, or was a write that accepted none of the offered bytes. At most 1,000 writes were
 -- interrupted. This holds of the counts if writing stops at the first fault [own]
 pub record IsWrittenWithin (c : WriteCounts) : Type 0 where
   pub faults : c.failed + c.zeros ≤ 1

@@ -15,16 +15,16 @@ bytes_left t = drop t.position t.bytes.items
 abbrev pub bytes_held : Trial → List ℕ
 bytes_held t = t.bytes.items
 
--- What a read or write returns on a device with the faults `m`. `call` is the number of the read or write, counted from
--- 0, and at most `there` bytes can be moved. The result is an interruption if `call` is below `interruptions`, and
--- otherwise a failure if `call` is at least `fails_from`. In all other cases as many bytes are moved as `there` and
--- `at_most` allow. An `at_most` of 0 counts as 1 [own]
+-- What a read or write returns on a device with the faults `m`. `call` is the number of the read among all reads, or of
+-- the write among all writes and flushes, counted from 0. At most `there` bytes can be moved. The result is an
+-- interruption if `call` is below `interruptions`, and otherwise a failure if `call` is at least `fails_from`. In all
+-- other cases as many bytes are moved as `there` and `at_most` allow. An `at_most` of 0 counts as 1 [own]
 abbrev pub moved : Faults → ℕ → ℕ → Result ℕ Trouble
 moved m call there =
     if nat_lt call m.interruptions then Err Interrupted else
     (if nat_le m.fails_from call then Err Failed else Ok (min there (max m.at_most 1)))
 
--- How many more bytes can be written to the device. The writes and flushes are numbered from 0, and from the number
--- `stops_from` on, the device has room for no byte [own]
+-- How many more bytes can be written to the device. Writes and flushes are numbered together, from 0. From the call
+-- with the number `stops_from` on, the device has room for no byte [own]
 abbrev pub free_of : Trial → ℕ
 free_of t = if nat_lt t.writes.calls t.faults.stops_from then t.room - length t.bytes.items else 0

@@ -1,5 +1,5 @@
--- Laws about the distance between symbols of version `v` and level `l`. The distance between two blocks is the number
--- of codewords in which they differ.
+-- Laws about the distance between the blocks of symbols of version `v` and level `l`. The distance between two blocks
+-- is the number of codewords in which they differ.
 use Rattle.std.specs.Prelude.{◌≡◌, ℕ, ◌+◌, ◌*◌, ◌<◌, ◌≤◌, Option, List, [], ◌++◌, slice_index_or}
 use Rattle.qr_field.specs.Distance.{differences, erasures, errors}
 use Rattle.qr_layout.specs.declared.level.Level.{Level}

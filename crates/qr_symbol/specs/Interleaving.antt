@@ -32,8 +32,8 @@ codeword_count c = start_of c (block_count c)
 abbrev pub data_sizes : Blocks → BlockSizes
 data_sizes b = record { short = b.short; short_len = b.short_len; long = b.long }
 
--- The sizes of the blocks `b`, counted in error correction codewords. Each block has equally many of them, so all
--- blocks count as short (ISO/IEC 18004:2015, 7.5.1)
+-- The sizes of the blocks `b`, counted in error correction codewords. All blocks have equally many of them, so each
+-- block counts as short (ISO/IEC 18004:2015, 7.5.1)
 abbrev pub correction_sizes : Blocks → BlockSizes
 correction_sizes b = record { short = b.short + b.long; short_len = b.ec_len; long = 0 }
 

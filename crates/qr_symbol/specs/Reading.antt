@@ -73,7 +73,7 @@ pub record IsFormat (g : Grid) (l : Level) (mask : ℕ) : Type 0 where
   pub in_range : mask < 8
   pub bits : (i : ℕ) → i < 15 → format_bit g i ≡ has_bit (format_word_of l mask) i
 
--- The square has the side of version `v`, from 1 to 40 (ISO/IEC 18004:2015, 6.3.2, 12)
+-- The square has the side of version `v`, and `v` is from 1 to 40 (ISO/IEC 18004:2015, 6.3.2, 12)
 pub record IsOfVersion (g : Grid) (v : ℕ) : Type 0 where
   pub least : 1 ≤ v
   pub most : v ≤ 40

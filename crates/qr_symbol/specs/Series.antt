@@ -1,5 +1,5 @@
--- The series of symbols of the bytes `x` at version `v` and level `l`, the standard's Structured Append. `rule`
--- determines the allowed modes, and `i` how the bytes are to be interpreted.
+-- The series of symbols of the bytes `x` at version `v` and level `l`. The standard calls such a series Structured
+-- Append. `rule` determines the allowed modes, and `i` how the bytes are to be interpreted.
 use Rattle.std.specs.Prelude.{◌≡◌, ◌⊎◌, ℕ, ◌+◌, ◌-◌, ◌<◌, ◌≤◌, List, [], ◌∷◌, length, take, drop, map, Option, None, Some}
 use Rattle.std.specs.List.{All, concat}
 use Rattle.qr_layout.specs.declared.level.Level.{Level}
@@ -18,8 +18,8 @@ use Rattle.qr_symbol.specs.VersionChoice.{FitsVersion}
 abbrev pub squares_of : List Symbol → List Grid
 squares_of symbols = map (λ s. s.matrix) symbols
 
--- `x` is cut into these parts, and none of them is empty. Each part begins where the part before it ends, and is the
--- longest possible part that fits a symbol with a structured append header [own]
+-- The given list has the parts into which `x` is cut, and none of them is empty. Each part begins where the part before
+-- it ends, and is the longest possible part that fits a symbol with a structured append header [own]
 unfoldable pub AreParts : ℕ → Level → Rule → Interpretation → List ℕ → List (List ℕ) → Type 0
 AreParts v l rule i x [] = x ≡ []
 AreParts v l rule i x (p ∷ ps) = (n : ℕ) × (0 < n) × IsLongestFit i v rule x (room_of v l i) n × (p ≡ take n x)

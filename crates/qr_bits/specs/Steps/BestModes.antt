@@ -68,12 +68,13 @@ shift_of WholePair = 16
 unfoldable pub mode_at : ℕ → RunState → Mode
 mode_at row p = ranked (row / 2 ^ shift_of p % 4)
 
--- The flag of the row is set. It is bit 18, the bit above those of the nine states; `AreFlagged` says what it means
+-- The flag of the row is set. It is bit 18, the bit above those of the nine states. A row for a byte of GS1 data has
+-- this flag if alphanumeric mode does not write the byte as the byte itself
 abbrev pub is_flagged : ℕ → Bool
 is_flagged row = nat_le 262144 row
 
 -- `rows` has a row of the table for each byte of `xs`, which are GS1 data. The flag of a row is set exactly if
--- alphanumeric mode writes its byte as other characters
+-- alphanumeric mode does not write the row's byte as the byte itself
 abbrev pub AreFlagged : List ℕ → List ℕ → Type 0
 AreFlagged xs rows = map is_flagged rows ≡ map (is_escaped Alphanumeric) xs
 

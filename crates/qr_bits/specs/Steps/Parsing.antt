@@ -17,9 +17,9 @@ IsFaultOf e read = (e ≡ Memory) ⊎ (read ≡ Err e)
 abbrev pub prepend_read : List ℕ → Result (List ℕ) ParseFault → Result (List ℕ) ParseFault
 prepend_read prefix read = read >>= λ xs. Ok (prefix ++ xs)
 
--- If the code succeeds, it has taken the first `width` of `bits`, so that `rest` is left, and has appended the bytes of
--- `read` to `out`, which has become `new`. Otherwise the code returns the fault `Memory`, or `read` is the fault that
--- the code returns
+-- If the code succeeds, it has taken the first `width` bits of `bits`, so that `rest` is left, and has appended the
+-- bytes of `read` to `out`, which has become `new`. Otherwise the code returns the fault `Memory`, or `read` is the
+-- fault that the code returns
 abbrev pub IsReadOf : Result (Unit {0}) ParseFault → Result (List ℕ) ParseFault → ℕ → List ℕ → List ℕ → List Bool → List Bool → Type 0
 IsReadOf r read width out new bits rest =
     MatchResult r (λ _. (prepend_read out read ≡ Ok new) × (rest ≡ drop width bits)) (λ e. IsFaultOf e (prepend_read out read))

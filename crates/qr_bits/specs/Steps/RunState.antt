@@ -96,7 +96,7 @@ unfoldable pub cost_of : ℕ → RunState → List Mode → ℕ
 cost_of v p [] = 0
 cost_of v p (m ∷ ms) = byte_cost v p m + cost_of v (state_after p m) ms
 
--- The bytes are GS1 data
+-- The interpretation says that the bytes are GS1 data
 abbrev pub is_gs1 : Interpretation → Bool
 is_gs1 written.Gs1 = true
 is_gs1 _ = false
@@ -139,7 +139,7 @@ pub record IsBestRest (i : Interpretation) (v : ℕ) (r : Rule) (test : ℕ → 
   pub first : (ks : List Mode) → IsTrue (allowed_in i r test p xs ks) → cost_of_all i v p xs ks ≡ n → IsNotAfter ms ks
 
 -- `m` is the best mode that the byte `x` may have after the state `p`. With `m`, this byte and all later bytes add `n`
--- bits together, and with no other mode of this byte they can add fewer. Of all modes of this byte with which they add
+-- bits together, and with no other mode of this byte can they add fewer. Of all modes of this byte with which they add
 -- `n` bits, `m` has the lowest rank. The later bytes add `cost q` bits if the state after `x` is `q`
 pub record IsChoice (i : Interpretation) (v : ℕ) (r : Rule) (p : RunState) (x : ℕ) (pair : Bool) (cost : RunState → ℕ) (m : Mode) (n : ℕ) : Type 0 where
   pub is_allowed : IsTrue (may_take_in i r p x pair m)

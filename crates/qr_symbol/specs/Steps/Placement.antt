@@ -94,7 +94,8 @@ masked_grid v l mask region unmasked = square (side_of v) (masked_colour v (form
 abbrev pub region_grid : ℕ → Grid
 region_grid v = square (side_of v) (is_in_region v)
 
--- The symbol that contains the codewords `cw`, before a mask is applied. Of its format information only bit 7 is dark.
+-- The symbol that contains the codewords `cw`, before a mask is applied. Of its format information only the modules of
+-- bit 7 are dark.
 abbrev pub unmasked_grid : ℕ → List ℕ → Grid
 unmasked_grid v cw = square (side_of v) (placed_colour v cw (paint_of v symmetric_format))
 
