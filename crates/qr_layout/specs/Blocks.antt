@@ -76,8 +76,8 @@ abbrev pub longest_of : Blocks → ℕ
 longest_of b = b.short_len + min b.long 1 + b.ec_len
 
 -- A percentage p for each level. If at most p percent of the codewords of a block are misread, and none is erased, then
--- what was read determines the block. This holds because in every version t is at least p percent of the codewords of a
--- block, where t is half the number of its error correction codewords, rounded down [own]
+-- what was read determines the block. This holds because, in every version, half the number of error correction
+-- codewords of a block, rounded down, is at least p percent of all its codewords [own]
 abbrev pub damage_of : Level → ℕ
 damage_of L = 9
 damage_of M = 17

@@ -31,8 +31,8 @@ printed_errors Q = 6 ∷ 11 ∷ 9 ∷ 13 ∷ 9 ∷ 12 ∷ 9 ∷ 11 ∷ 10 ∷ 12
 printed_errors H = 8 ∷ 14 ∷ 11 ∷ 8 ∷ 11 ∷ 14 ∷ 13 ∷ 13 ∷ 12 ∷ 14 ∷ 12 ∷ 14 ∷ 11 ∷ 12 ∷ 12 ∷ 15 ∷ 14 ∷ 14 ∷ 13 ∷ 14 ∷ 15 ∷ 12 ∷ 15 ∷ 15 ∷ 15 ∷ 15 ∷ 15 ∷ 15 ∷ 15 ∷ 15 ∷ 15 ∷ 15 ∷ 15 ∷ 15 ∷ 15 ∷ 15 ∷ 15 ∷ 15 ∷ 15 ∷ 15 ∷ []
 
 -- The number of error correction codewords in a block, computed from the number of misread codewords that the standard
--- says can be corrected. Each of these uses up two error correction codewords, and the others, those for misdecode
--- protection, only detect errors (ISO/IEC 18004:2015, 7.5.1, Table 9)
+-- says can be corrected. Each misread codeword uses up two error correction codewords, and the remaining ones, those
+-- for misdecode protection, only detect errors (ISO/IEC 18004:2015, 7.5.1, Table 9)
 abbrev pub printed_correction : Level → ℕ → ℕ
 printed_correction l v = 2 * slice_index_or (printed_errors l) (v - 1) 0 + protection_of v l
 
@@ -49,9 +49,9 @@ gap_between v k = if v == 32 then 26 else 2 * ((side_of v - 13 + 2 * (k - 1) - 1
 abbrev pub spaced_centres : ℕ → List ℕ
 spaced_centres v = 6 ∷ map (λ i. side_of v - 7 - gap_between v (v / 7 + 2) * (v / 7 - i)) (range_with_len 0 (v / 7 + 1))
 
--- How many modules belong to an alignment pattern but not to a timing pattern, if there are `k` rows of centres; then
--- there are `k ^ 2 - 3` alignment patterns of 25 modules each. Of these patterns `2 * (k - 2)` lie across a timing
--- pattern, and each of them shares five modules with it (ISO/IEC 18004:2015, 6.3.5, 6.3.6)
+-- How many modules belong to an alignment pattern but not to a timing pattern, if there are `k` rows of centres; if `k`
+-- is at least 2, there are `k ^ 2 - 3` alignment patterns of 25 modules each. Of these patterns `2 * (k - 2)` lie
+-- across a timing pattern, and each of them shares five modules with it (ISO/IEC 18004:2015, 6.3.5, 6.3.6)
 abbrev pub alignment_size : ℕ → ℕ
 alignment_size k = if nat_lt k 2 then 0 else 25 * (k ^ 2 - 3) - 10 * (k - 2)
 
@@ -62,8 +62,8 @@ version_size v = if nat_lt v 7 then 0 else 36
 
 -- How many modules the region has. From the number of all modules of the symbol the numbers of four kinds are
 -- subtracted: the modules of the three corners with a finder pattern (81, 72 and 72, together 225), those of the two
--- timing patterns between the corners, the other modules of the alignment patterns, and those of the version
--- information (ISO/IEC 18004:2015, 6.3.7, 7.7.3)
+-- timing patterns between the corners, those of the alignment patterns outside the timing patterns, and those of the
+-- version information (ISO/IEC 18004:2015, 6.3.7, 7.7.3)
 abbrev pub region_size : ℕ → ℕ
 region_size v =
     side_of v ^ 2 - 225 - 2 * (side_of v - 17) - alignment_size (length (centres_of v)) - version_size v

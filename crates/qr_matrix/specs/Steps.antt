@@ -22,7 +22,7 @@ pub record NeedsWords (side words : ℕ) : Type 0 where
   pub most : side ≤ 64 * words
   pub three : words ≤ 3
 
--- The number of columns of a bit row, from 0 to 191, for which `bit` is true
+-- For how many of the columns 0 to 191 of a bit row `bit` is true
 unfoldable pub set_count : (ℕ → Bool) → ℕ
 set_count bit = count_below 192 bit
 
@@ -94,8 +94,8 @@ is_near_five join r = (begin_five join r || (nat_lt 0 r && begin_five join (r - 
 
 -- What the code knows of a column when it has compared `n` modules, from row 0 on, each with the module below it. For
 -- the comparison `k`, counted from 0, `join k` says whether the modules in the rows `k` and `k + 1` have the same
--- colour. `same` is true if the last comparison was true, `threes` if the last two were, and `fives` if the last four
--- were. `earlier_threes` and `earlier_fives` are what `threes` and `fives` were one comparison earlier
+-- colour. `same` is true if the last comparison found equal colours, `threes` if the last two did, and `fives` if the
+-- last four did. `earlier_threes` and `earlier_fives` are what `threes` and `fives` were one comparison earlier
 pub record IsAbove (join : ℕ → Bool) (n : ℕ) (same threes earlier_threes fives earlier_fives : Bool) : Type 0 where
   pub same_is : same ≡ (nat_lt 0 n && join (n - 1))
   pub threes_are : threes ≡ (nat_lt 1 n && (join (n - 2) && join (n - 1)))

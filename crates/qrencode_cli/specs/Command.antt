@@ -89,8 +89,8 @@ pub record DrawnWhole (settled : Bool) (old new : Writer) (drawing : List ℕ) :
   pub flushed : new.counts.flushes ≡ counted (old.counts.flushes + 1)
   pub ended : new.counts.settled ≡ settled
 
--- There are two cases. The writer received a prefix of the drawing, and was not flushed; or it received the whole
--- drawing, and its one flush failed [own]
+-- Either the writer received a prefix of the drawing, and was not flushed, or it received the whole drawing, and its
+-- one flush failed [own]
 abbrev pub DrawnInPart : Writer → Writer → List ℕ → Type 0
 DrawnInPart old new drawing =
     (AppendsBeginning old.taken new.taken drawing × (new.counts.flushes ≡ old.counts.flushes)

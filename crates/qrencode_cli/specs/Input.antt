@@ -5,7 +5,7 @@ use Rattle.qr_devices.specs.declared.device.ReadCounts.{ReadCounts}
 use Rattle.qr_devices.specs.declared.device.TheConstants.{INTERRUPTIONS_MAX}
 
 -- `input` is what a run takes from a device: all bytes of the device, or the first `INPUT_MAX` if it has more. If
--- contracts do not know the bytes of the device, `input` may be any [own]
+-- contracts do not know the bytes of the device, `input` may be any list of bytes [own]
 abbrev pub IsInputOf : Option (List ℕ) → List ℕ → Type 0
 IsInputOf bytes input = IfSome bytes (λ all. input ≡ take INPUT_MAX all)
 

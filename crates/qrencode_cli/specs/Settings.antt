@@ -92,7 +92,7 @@ abbrev pub checked_series : SettingsView → Result SettingsView Reason
 checked_series s = if s.structured && is_none s.smallest then Err needs_version else Ok s
 
 -- The settings that `rows` ask for, or the first reason to refuse them. The level is checked first, and is L if -l is
--- not given. Then the type of drawing is checked. Last it is checked that -v is given if -S is given [own]
+-- not given. Then the type of drawing is checked. Last it is checked that -v gives a version if -S is given [own]
 abbrev pub settings_of : List Row → Result SettingsView Reason
 settings_of rows =
     option_map_or (λ l. option_map_or (λ kind. checked_series (settings_with rows l kind))

@@ -43,7 +43,7 @@ pub record TellsDamage (m : QrprovedMended) (changed : List ℕ) (side : ℕ) (m
 
 -- The square is mended and read, which yields `content`. After the call one buffer begins with the bytes of the
 -- content, and the other with its ECI headers, or with as many of these as the buffer has room for. `m` has the number
--- of the bytes and of the headers. It also has the version, the level, the mask, the structured append header, FNC1 and
+-- of the bytes and of all headers. It also has the version, the level, the mask, the structured append header, FNC1 and
 -- the damage [own]
 pub record IsGivenMended (modules : List ℕ) (side : ℕ) (before after : List ℕ) (ecis_before ecis_after : List QrprovedEci) (m : QrprovedMended) : Type 0 where
   pub all_modules : AreModules modules side

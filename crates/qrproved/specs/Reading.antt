@@ -23,7 +23,7 @@ TellsHeader (Some h) has_header position last parity = (has_header ≡ 1) × (po
 
 -- The square is read, which yields `content`. After the call one buffer begins with the bytes of the content, and the
 -- other with its ECI headers, or with as many of these as the buffer has room for. `c` has the number of the bytes and
--- of the headers. It also has the version, the structured append header and FNC1 [own]
+-- of all headers. It also has the version, the structured append header and FNC1 [own]
 pub record IsGiven (modules : List ℕ) (side : ℕ) (before after : List ℕ) (ecis_before ecis_after : List QrprovedEci) (c : QrprovedContent) : Type 0 where
   pub whole : side * side ≤ length modules
   pub content : Content

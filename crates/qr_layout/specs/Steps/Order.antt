@@ -1,7 +1,7 @@
 -- The walk through a symbol with `s` modules on a side. It goes from cursor to cursor, and yields the places that are
 -- in the region. A cursor has the number of its strip (`strips_left`), a row, and one of the two columns of the strip.
--- The strips are numbered from 1 at the left. The walk goes through them from right to left, so this number is also how
--- many strips are left, and 0 is the end.
+-- The strips are numbered from 1 at the left. The walk goes through them from right to left, so the number of a strip
+-- is also how many strips the walk has still to visit, this one included, and 0 is the end.
 use Rattle.std.specs.Prelude.{ℕ, ◌+◌, ◌-◌, ◌*◌, ◌/◌, ◌%◌, ◌<◌, ◌≤◌, Bool, true, false, ◌==◌, if◌then◌else◌, List, [], ◌∷◌}
 use Prim.Native.Nat.{zero, suc}
 use Rattle.qr_layout.specs.declared.region.Place.{Place}

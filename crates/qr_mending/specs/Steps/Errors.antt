@@ -36,10 +36,10 @@ pub record AreErrors (n : ℕ) (p s e : List ℕ) : Type 0 where
   pub located : IsLocated p e
   pub values : HasValues s e
 
--- What always holds of `removal` when the codewords at the locations below `left` have still to be tried. It is the
--- state of Chien's search, which here computes sixteen values of the locator at once from a table. The list `values`
--- was computed from an earlier locator, before some roots were divided out. For each location m from `first` to `left -
--- 1` it has the value of that earlier locator at 2^m. If this value is 0, 2^m is still a root of the locator.
+-- `removal` is a state of Chien's search in which the codewords at the locations below `left` have still to be tried.
+-- The search here computes sixteen values of the locator at once from a table. The list `values` was computed from an
+-- earlier locator, before some roots were divided out. For each location m from `first` to `left - 1` it has the value
+-- of that earlier locator at 2^m. If this value is 0, 2^m is still a root of the locator.
 pub record IsRemoval (left : ℕ) (removal : Removal) : Type 0 where
   pub leading : HasLeadingOne removal.locator.items
   pub enough : array_vec_len removal.locator ≤ array_vec_len removal.syndromes + 1

@@ -41,7 +41,7 @@ AreWhole b (by_block.Each lists) = (length lists.data.items ≡ codeword_count (
     × (length lists.checks.items ≡ codeword_count (correction_sizes b))
 
 -- The marks of the codewords of block `i`, counted from 0. If no list of marks was made, since every module was read,
--- this list is empty. A codeword without a mark counts as read
+-- the result is empty. A codeword without a mark counts as read
 abbrev pub marks_at : Blocks → MarksInBlocks → ℕ → List ℕ
 marks_at b by_block.AllZero i = []
 marks_at b (by_block.Each lists) i = received b lists.data.items lists.checks.items i

@@ -1,7 +1,7 @@
 -- Sixteen sums of products in the field of 256 elements, which are computed at once. One factor of each product is cut
 -- into four digits to the base 4, which have the weights 64, 16, 4 and 1, and each digit is multiplied by the other
--- factor. The results for digits of equal weight are added up, which yields four sums. From these the sum of the
--- products is put together.
+-- factor. For each of the sixteen, the results for digits of equal weight are added up, which yields four sums. From
+-- these the sum of the products is put together.
 use Rattle.std.specs.Prelude.{ℕ, bit_xor}
 use Rattle.std.specs.Int.{byte_at}
 use Rattle.qr_field.specs.Galois.{product}

@@ -11,8 +11,8 @@ use Rattle.qr_parsing.specs.Parsing.{IsDrawingOf}
 use Rattle.qr_parsing.specs.Steps.{Svg.{painted_bytes, numbers_in}, Text.{cells_in, first_line, has_block}}
 
 -- In the sheet of a drawing of this type, the index of the byte that shows the module in row `y` and column `x` of the
--- raster `k`. If two bytes show the module, it is the index of the first. All are counted from 0, and a raster is
--- `width` modules wide
+-- raster `k`. If two bytes show the module, it is the index of the first. Rasters, rows and columns are counted from 0,
+-- and a raster is `width` modules wide
 abbrev pub index_of : Drawing → ℕ → ℕ → ℕ → ℕ → ℕ
 index_of Ascii width k y x = (k * width + y) * (2 * width + 1) + 2 * x
 index_of AsciiInverse width k y x = (k * width + y) * (2 * width + 1) + 2 * x
@@ -47,7 +47,7 @@ pub record ShowsOn (kind : Drawing) (width count : ℕ) (bytes : List ℕ) (marg
   pub places : (k y x : ℕ) → k < count → y < width → x < width
       → is_dark_on kind width bytes k y x ≡ is_dark_at margin (square_at squares k) y x
 
--- If a text is a drawing, this is its type. A text that begins with `<` can only be an SVG document, and one with a
+-- The type of the drawing, if the text is one. A text that begins with `<` can only be an SVG document, and one with a
 -- block character only a UTF8 text. In the other two types byte 14, counted from 0, belongs to a light module. So it is
 -- a space if the text is an ASCII text, and another byte if the text is an inverse ASCII text
 abbrev pub kind_in : List ℕ → Drawing
@@ -80,9 +80,9 @@ count_in AsciiInverse text = length text / (width_in AsciiInverse text * (2 * wi
 count_in Utf8 text = length (cells_in text) / ((width_in Utf8 text + 1) / 2 * (width_in Utf8 text + 1))
 count_in Svg text = slice_index_or (numbers_in text) 10 0 / width_in Svg text
 
--- The code makes this sheet from the text. `kind` is the type of the drawing, `width` the width of each raster in
--- modules, `count` the number of rasters, and `bytes` lists the bytes of the sheet. If the text is no drawing, `bytes`
--- may be anything
+-- `bytes` lists the bytes of the sheet that the code makes from the text. `kind` is the type of the drawing, `width`
+-- the width of each raster in modules, and `count` the number of rasters. If the text is no drawing, `bytes` may be
+-- anything
 pub record IsSheetOf (kind : Drawing) (width count : ℕ) (bytes text : List ℕ) : Type 0 where
   pub kind_is : kind ≡ kind_in text
   pub width_is : width ≡ width_in kind text
