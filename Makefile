@@ -16,7 +16,7 @@
 ## make page           the web page, in out/web
 ## make dist           archives and packages of all of them, in out/dist
 ## make test           runs the tests, and proves only what they are built of (20 minutes after make all lib)
-## make check          the gate (60 to 80 minutes)
+## make check          the gate (45 to 75 minutes)
 ## make check-each     tries each wrong body by itself
 ## make bench          counts instructions and memory
 ## make clean          removes what was built, the kept proofs too
