@@ -13,8 +13,8 @@ indicator Alphanumeric = 2
 indicator Byte = 4
 indicator Kanji = 8
 
--- The terminator, as a number. Its four bits come in the place of the next mode indicator if no item follows (ISO/IEC
--- 18004:2015, 7.4.1, Table 2)
+-- The terminator, as a number. Its four bits, or as many of them as there is room for, come in the place of the next
+-- mode indicator if no item follows (ISO/IEC 18004:2015, 7.4.1, Table 2)
 abbrev pub terminator : ℕ
 terminator = 0
 

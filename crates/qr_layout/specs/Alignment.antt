@@ -19,8 +19,8 @@ centre_table =
 unfoldable pub centres_of : ℕ → List ℕ
 centres_of v = slice_index_or centre_table (v - 1) []
 
--- Row `a` and column `b` meet in a corner with a finder pattern, so no alignment pattern has its centre there, even if
--- the row and the column both contain centres (ISO/IEC 18004:2015, 6.3.6)
+-- Row `a` and column `b`, which both contain centres, meet in a corner with a finder pattern, so no alignment pattern
+-- has its centre there (ISO/IEC 18004:2015, 6.3.6)
 abbrev pub is_corner_pair : ℕ → ℕ → ℕ → Bool
 is_corner_pair s a b = (a == 6 && b == 6) || (a == 6 && b == s - 7) || (a == s - 7 && b == 6)
 

@@ -32,8 +32,8 @@ abbrev pub alignment_rectangles : ℕ → List ℕ → List Rectangle
 alignment_rectangles s cs = map rectangle_around (alignment_places s cs)
 
 -- The list that `fixed_rectangles` returns for version `v`. Its rectangles are the three corners (each with a finder
--- pattern, its separator and format information), the two timing patterns, and from version 7 on the two copies of the
--- version information
+-- pattern, its separator and format information, and one with the dark module), the two timing patterns, and from
+-- version 7 on the two copies of the version information
 abbrev pub fixed_list : ℕ → List Rectangle
 fixed_list v =
     let s = side_of v in
