@@ -327,7 +327,8 @@ pub(crate) fn best_modes(
 }
 
 // Returns the table for GS1 data, under a rule that allows more than byte mode: a row for each byte of `input`, from
-// the last byte to the first. A row has its flag if alphanumeric mode writes its byte as other characters.
+// the last byte to the first. A row has its flag exactly if alphanumeric mode does not write its byte as the byte
+// itself. Like `best_modes`, this function is not inlined, so that its loop has all registers to itself.
 #[inline(never)]
 pub(crate) fn best_gs1_modes(
     alloc: Global,

@@ -174,8 +174,8 @@ fn index_of(character: u8) -> Option<usize>
     CHARACTERS.iter().position(|other| *other == character)
 }
 
-// For `kanji_value`: a number is subtracted from a kanji pair, and the high byte of the difference is multiplied by
-// this factor (ISO/IEC 18004:2015, 7.4.6).
+// `kanji_value` subtracts a number from a kanji pair, and multiplies the high byte of the difference by this factor.
+// `kanji_pair` in `parsing.rt` undoes this (ISO/IEC 18004:2015, 7.4.6).
 pub(crate) const KANJI_FACTOR: u16 = 0xC0;
 
 // The number of 13 bits that is written for a kanji pair (ISO/IEC 18004:2015, 7.4.6). First 8140 is subtracted from a

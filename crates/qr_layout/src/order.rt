@@ -132,9 +132,9 @@ impl Iterator for Places {
     }
 }
 
-/// Returns an iterator over all places of the region (the places outside the function patterns, the format information
-/// and the version information), each once, in the order in which they are filled. The places of the codewords come
-/// first, and those of the remainder bits last (ISO/IEC 18004:2015, 7.7.3).
+/// Returns an iterator over all places of the region (the places outside the function patterns, the dark module, the
+/// format information and the version information), each once, in the order in which they are filled. The places of the
+/// codewords come first, and those of the remainder bits last (ISO/IEC 18004:2015, 7.7.3).
 pub fn walk(version: Version) -> Places
     ensures order { IsOrder version result }
     ensures count { length result ≡ module_count_of version }

@@ -86,8 +86,8 @@ impl Iterator for Strips {
     }
 }
 
-/// Returns all strips of a version, from right to left, which is the order in which codewords fill them. Modules of a
-/// strip that are outside the region are passed over (ISO/IEC 18004:2015, 7.7.3).
+/// Returns all strips of a version, from right to left, which is the order in which codewords fill them. In a strip,
+/// codewords and remainder bits fill only the modules that are in the region (ISO/IEC 18004:2015, 7.7.3).
 pub fn all_strips(version: Version) -> Strips
     ensures order { IsOrder version (in_region_of version (places_of (side_of version) result)) }
     ensures inside { All (λ x. (1 ≤ x.right) × (x.right < side_of version)) result }

@@ -47,8 +47,8 @@ pub(crate) trait Rows: Copy
         ensures { (second : Bool) (c : ℕ) → c < 192
             → bit result second c ≡ (nat_lt 0 c && bit self second (c - 1)) };
 
-    // Whether no bit is set in the row, or in both rows if there are two squares. The answer only saves time, so the
-    // contract says nothing of the answer `false`.
+    // Whether no bit is set in the row or, if there are two squares, in either of the two rows. The answer only saves
+    // time, so the contract says nothing of the answer `false`.
     fn is_empty(self) -> bool
         ensures { result ≡ true → (second : Bool) (c : ℕ) → bit self second c ≡ false };
 

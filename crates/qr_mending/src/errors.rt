@@ -3,14 +3,14 @@
 //! error polynomial. `syndromes` lists the values of this polynomial at 2^0, 2^1 and so on. The locator is a polynomial
 //! with the root 2^location for each misread or erased codeword.
 //!
-//! The codewords are tried one by one, from the first of the block on, until at most one error is left. A codeword is
-//! tried by testing whether the locator is 0 at 2^location. This is Chien's search, with one difference: instead of
-//! computing each value of the locator from the terms of the value before, the code computes sixteen values at once,
-//! from a table (`sums.rt`). When 2^location is found to be a root, the locator is divided by x + 2^location. The
-//! divided locator still has a root for each error that is yet to be found. Now each of its coefficients is multiplied
-//! by the syndrome at the same index, and these products are added up. The errors that are yet to be found contribute 0
-//! to this sum. So the sum is the error at this location, multiplied by the value of the divided locator at 2^location.
-//! This is a form of Forney's formula. Last, the error that was found is taken out of the syndromes.
+//! The codewords are tried one by one, from the first of the block on, until the locator has at most one root left. A
+//! codeword is tried by testing whether the locator is 0 at 2^location. This is Chien's search, with one difference:
+//! instead of computing each value of the locator from the terms of the value before, the code computes sixteen values
+//! at once, from a table (`sums.rt`). When 2^location is found to be a root, the locator is divided by x + 2^location.
+//! The divided locator still has a root for each error that is yet to be found. Now each of its coefficients is
+//! multiplied by the syndrome at the same index, and these products are added up. The errors that are yet to be found
+//! contribute 0 to this sum. So the sum is the error at this location, multiplied by the value of the divided locator
+//! at 2^location. This is a form of Forney's formula. Last, the error that was found is taken out of the syndromes.
 
 ghost use Rattle.std.specs.Prelude.{◌≡◌, ◌≢◌, ℕ, ◌+◌, ◌*◌, ◌<◌, ◌≤◌, List, ◌∷◌, length, bit_xor, slice_index};
 ghost use Rattle.std.specs.List.{All};
@@ -166,9 +166,9 @@ impl Removal {
 }
 
 // Returns the codewords without their errors. Adding an error to its codeword removes the error, since equal elements
-// of the field add up to 0. The search ends as soon as at most one error is left. When the search starts, no value of
-// the locator has been computed yet. So `removal.first` is above all locations, and the first call of `next_error`
-// computes values.
+// of the field add up to 0. The search ends as soon as the locator has at most one root left. When the search starts,
+// no value of the locator has been computed yet. So `removal.first` is above all locations, and the first call of
+// `next_error` computes values.
 //
 // The lists have room for what is copied into them, so `try_extend_from_slice` cannot fail. `removal` is made here,
 // because if a function made it and returned it, the stack would have it twice.

@@ -210,9 +210,9 @@ pub fn formats_are_found()
 {}
 
 /// Unless memory is refused, a damaged symbol is mended to exactly its input if its blocks can be mended, and if its
-/// level and mask are found. (`formats_are_found` says when they are found.) Modules that belong neither to a
-/// codeword nor to the format information may have any colour. The numbers of misread codewords and of wrong modules
-/// are exact.
+/// level and mask are found. (`formats_are_found` states two cases in which they are found.) Modules that belong
+/// neither to a codeword nor to the format information may have any colour. The numbers of misread codewords and of
+/// wrong modules are exact.
 pub fn damaged_symbols_are_mended(
     alloc: Global,
     damaged: &Matrix,

@@ -38,8 +38,8 @@ pub(crate) struct MendedSquare {
     pub(crate) blocks: MendedBlocks,
 }
 
-// Mends all blocks with the level and the mask `near`. Returns `None` if `near` is `None`, or if a block has too many
-// wrong codewords.
+// Mends all blocks with the level and the mask `near`. Returns `None` if `near` is `None`, or if this is not possible
+// for one of them.
 fn mend_with(
     alloc: Global,
     scan: &Scan,
@@ -67,8 +67,8 @@ fn mend_with(
     }
 }
 
-// Returns true only if both arguments are the same: one pair of level and mask, or `None`. `==` says this too, but with
-// it the WebAssembly file has 400 bytes more.
+// Returns whether both arguments are the same: one pair of level and mask, or `None`. `==` says this too, but with it
+// the WebAssembly file has 400 bytes more.
 fn is_same_format(a: Option<(Level, u8)>, b: Option<(Level, u8)>) -> bool
     ensures { OnTrue result (a ≡ b) }
 {

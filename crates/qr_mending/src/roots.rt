@@ -32,8 +32,8 @@ fn with_root(polynomial: &[u8], root: u8) -> ArrayVec<u8, 31>
 }
 
 // The product of `polynomial` and a factor x + 2^location for each erased codeword. The loop runs from the last
-// codeword to the first, because the definition `rooted` is recursive, and computes its value for a list of codewords
-// from that for the tail of the list. The list `product` has room for `polynomial`, so `try_extend_from_slice` cannot
+// codeword to the first, because the definition `rooted` is recursive, and computes its value for the list `erased`
+// from that for the tail of this list. The list `product` has room for `polynomial`, so `try_extend_from_slice` cannot
 // fail.
 #[tactic(auto, using(crate::proofs::Named::root_facts))]
 pub(crate) fn with_roots(erased: &[bool], polynomial: &[u8]) -> ArrayVec<u8, 31>

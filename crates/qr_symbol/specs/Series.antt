@@ -1,5 +1,5 @@
--- The series of symbols of the bytes `x` at version `v` and level `l`. The standard calls such a series Structured
--- Append. `rule` determines the allowed modes, and `i` how the bytes are to be interpreted.
+-- The series of symbols of the bytes `x` at version `v` and level `l`. In the standard the feature that makes such a
+-- series is Structured Append (8). `rule` determines the allowed modes, and `i` how the bytes are to be interpreted.
 use Rattle.std.specs.Prelude.{◌≡◌, ◌⊎◌, ℕ, ◌+◌, ◌-◌, ◌<◌, ◌≤◌, List, [], ◌∷◌, length, take, drop, map, Option, None, Some}
 use Rattle.std.specs.List.{All, concat}
 use Rattle.qr_layout.specs.declared.level.Level.{Level}

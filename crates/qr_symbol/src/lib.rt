@@ -17,8 +17,8 @@
 //! margin of four modules on each side.
 //!
 //! In this crate the message is the data codewords of a symbol, and the final sequence is all its codewords,
-//! interleaved. The region is all modules outside the function patterns, the format information and the version
-//! information. A plain symbol is one without a structured append header.
+//! interleaved. The region is all modules outside the function patterns, the dark module, the format information and
+//! the version information. A plain symbol is one without a structured append header.
 #![tactic(auto)]
 
 mod canvas;

@@ -27,14 +27,15 @@ pub struct QrprovedSeries {
 /// Encodes `input` as a series of symbols of the version `version`, or as one plain symbol if it fits one (ISO/IEC
 /// 18004:2015, 8). The modules are written to `modules`, one symbol after the other. The byte of `modules` with the
 /// index `(number * side + row) * side + column` is 1 if the module in this row and column of symbol `number` is dark,
-/// and 0 if it is light. Symbols, rows and columns are counted from 0. `level` is 0 to 3 for L, M, Q and H. `rule` is 0
-/// for all modes but kanji mode, 1 for byte mode alone, and 2 for all modes. `interpretation` is 0 to 999,999 for the
-/// ECI with this number, 1,000,000 for no interpretation, and 1,000,001 for GS1 data. In GS1 data the byte 1D
-/// (hexadecimal) separates fields. Each symbol states the interpretation.
+/// and 0 if it is light. Symbols, rows and columns are counted from 0. `version` is 1 to 40, and `level` is 0 to 3 for
+/// L, M, Q and H. `rule` is 0 for all modes but kanji mode, 1 for byte mode alone, and 2 for all modes.
+/// `interpretation` is 0 to 999,999 for the ECI with this number, 1,000,000 for no interpretation, and 1,000,001 for
+/// GS1 data. In GS1 data the byte 1D (hexadecimal) separates fields. Each symbol states the interpretation.
 ///
 /// On status 0 the buffer begins with exactly the modules of the symbols, and `series` has their number and side.
 /// Reading and joining the symbols yields the input, and each symbol is read with the interpretation. If kanji mode is
-/// not allowed, no series of the input in this version and level has fewer symbols.
+/// not allowed, no series of the input in this version and level, with this interpretation and in the modes that `rule`
+/// allows, has fewer symbols.
 ///
 /// # Errors
 ///

@@ -119,8 +119,8 @@ pub fn large(alloc: Global, count: u64, seed: u64, digest: &mut Digest) -> Resul
     Ok(())
 }
 
-// Makes the text of one series: JSON records or runs of 1 to 44 kB for version 40, words of 500 to 1,600 bytes for
-// versions 5 to 10, or kanji pairs in Shift JIS for version 7 or 40.
+// Makes the text of one series: JSON records of 1 to 44 kB or runs of 1 to 30 kB for version 40, words of 500 to 1,600
+// bytes for versions 5 to 10, or kanji pairs in Shift JIS for version 7 or 40.
 fn series_text(alloc: Global, kind: u64, random: &mut Random) -> Result<Text, AllocError> {
     let mut text = Text::new(alloc);
     let (least, most) = match kind {
@@ -255,9 +255,9 @@ fn add_awkward(
     }
 }
 
-/// Takes awkward inputs of these five kinds. Some consist of runs for which a segment of their own saves few bits or
-/// none. Some have kanji pairs that begin after an odd number of bytes. Some have one byte more than version 9 or 26
-/// holds, some are drawn as series of version 1, and some would take more than 16 symbols.
+/// Takes awkward inputs. Some consist of runs for which a segment of their own saves few bits or none; some of these
+/// are drawn as series of version 1. Some have kanji pairs that begin after an odd number of bytes. Some have one byte
+/// more than version 9 or 26 holds, and some would take more than 16 symbols.
 pub fn awkward(
     alloc: Global,
     count: u64,

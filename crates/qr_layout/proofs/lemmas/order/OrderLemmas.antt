@@ -43,8 +43,7 @@ sizes-agree : below 40 (λ i. eqb (module_count_of (i + 1)) (region_size (i + 1)
 unfolding centres_of total_codewords_of remainder_bits_of
 sizes-agree = refl
 
--- the codewords and remainder bits fill all modules outside the function patterns, the format and the version
--- information
+-- the codewords and remainder bits fill all modules of the region
 pub size-at : (v : ℕ) → 1 ≤ v → v ≤ 40 → module_count_of v ≡ region_size v
 size-at v l h = eqb-true _ _ (below-from 40 1 (λ v. eqb (module_count_of v) (region_size v)) sizes-agree v l (omega arith))
 

@@ -46,8 +46,8 @@ is-number a b e = grind (arith, nat_tests)
 abbrev pub AreMoved : (ℕ → ℕ) → ℕ → ℕ → Type 0
 AreMoved from a b = (i : ℕ) → i < 64 → has_bit b i ≡ has_bit a (from i)
 
--- the test that a bit, back through six exchanges, comes from places in the word, and in the end from the place `from
--- i`
+-- the test that a bit, back through six exchanges, comes from places in the word, and in the end from the
+-- place `from i`
 is-moved : (p q r s t u from : ℕ → ℕ) → ℕ → Bool
 is-moved p q r s t u from i =
     (ltb (u i) 64 && (ltb (t (u i)) 64 && ltb (s (t (u i))) 64)) && ((ltb (r (s (t (u i)))) 64 && ltb (q (r (s (t (u i))))) 64) && eqb (p (q (r (s (t (u i)))))) (from i))
