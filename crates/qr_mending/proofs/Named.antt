@@ -2,7 +2,7 @@
 use Rattle.qr_field.proofs.lemmas.{galois.{ByteLemmas.product-of_zero, PowerLemmas.{power-lt, product-of_powers}}, laws.DistanceLemmas.difference-same}
 use Rattle.{qr_field.proofs.lemmas.polynomial.ListLemmas.length-plus, qr_layout.proofs.Facts.{blocks-sound, laws-of}}
 use Rattle.qr_mending.proofs.lemmas.block.{erasures-one, differences-same, mended-same}
-use Rattle.qr_mending.proofs.lemmas.{erasures.{errors-more, modified-more, erasures-marked, length-read, errors-self}, errors.RemovalLemmas.sum-more}
+use Rattle.qr_mending.proofs.lemmas.{erasures.{erased-more, erased-self, errors-more, modified-more, erasures-marked, length-read, errors-self}, errors.RemovalLemmas.sum-more}
 use Rattle.qr_mending.proofs.lemmas.{format.{near-one, near-two}, laws.{DistanceLemmas.symbols-apart, WeakerLemmas.weaker-block}}
 use Rattle.qr_mending.proofs.lemmas.locator.{add-all, add-begins, add-leading, add-more, add-skip, search-begins, shift-more, shift-leading}
 use Rattle.qr_mending.proofs.lemmas.{mending.unmended-one, roots.{length-rooted, length-rooted_rest, divided-more, quotient-value-more_divided, value-more_divided}}
@@ -34,7 +34,7 @@ pub ruleset division_facts = (All-from_get_or, divided-more, quotient-value-more
 
 pub ruleset block_facts = (differences-same, mended-same)
 
-pub ruleset erasure_facts = (difference-same, errors-more, modified-more, take_rest)
+pub ruleset erasure_facts = (difference-same, erased-more, errors-more, modified-more, take_rest)
 
 pub ruleset series_facts = (err_from_is_err_and, readings-none, unjoined-next)
 
@@ -42,6 +42,6 @@ pub ruleset law_facts = (near-one, near-two, unmended-one, weaker-block)
 
 pub ruleset distance_facts = (symbols-apart)
 
-pub ruleset mend_with_erasures_facts = (erasures-marked, length-read, errors-self, erasures-one)
+pub ruleset mend_with_erasures_facts = (erased-self, erasures-marked, length-read, errors-self, erasures-one)
 
 pub ruleset size_facts = (blocks-sound, data-sizes-whole, laws-of, sizes-whole)

@@ -1,8 +1,9 @@
 -- How a damaged block, some of whose codewords may be erased, is mended. In the list of what was read, `None` stands
 -- for an erased codeword.
 use Rattle.std.specs.Prelude.{◌≡◌, ℕ, ◌+◌, ◌*◌, ◌≤◌, Bool, true, false, Option, None, Some, List, [], ◌∷◌, length}
-use Rattle.qr_field.specs.Distance.{erasures, errors}
+use Rattle.qr_field.specs.Distance.{difference, erasures, errors}
 use Rattle.qr_mending.specs.Block.{IsBlock}
+use Rattle.qr_mending.specs.declared.erasures.Changes.{Changes}
 
 -- The given codewords as they were read: `None` where `erased` is true at the same index, and otherwise the codeword.
 -- If the list `erased` is shorter, the codewords past its end were read [own]
@@ -19,3 +20,18 @@ pub record IsMendedWithErasures (n spare : ℕ) (read : List (Option ℕ)) (mend
   pub block : IsBlock n mended
   pub long : length mended ≡ length read
   pub few : erasures read + 2 * errors read mended ≤ spare
+
+-- How many erased codewords have another value in the block `ys` than in `xs`, the values of all codewords as they were
+-- read. The first list is what was read. An index at which one of the lists has no item is not counted [own]
+abbrev pub erased_errors : List (Option ℕ) → List ℕ → List ℕ → ℕ
+erased_errors [] xs ys = 0
+erased_errors (r ∷ rs) [] ys = 0
+erased_errors (r ∷ rs) (x ∷ xs) [] = 0
+erased_errors (None ∷ rs) (x ∷ xs) (y ∷ ys) = difference x y + erased_errors rs xs ys
+erased_errors (Some z ∷ rs) (x ∷ xs) (y ∷ ys) = erased_errors rs xs ys
+
+-- The changes with which `read`, which is what was read of a block, becomes the block `mended`. `values` are the values
+-- of all codewords as they were read, also of the erased ones [own]
+abbrev pub changes_of : List (Option ℕ) → List ℕ → List ℕ → Changes
+changes_of read values mended =
+    record { misread = errors read mended; erased = erasures read; erased_wrong = erased_errors read values mended }

@@ -1,7 +1,7 @@
 -- How a damaged symbol is mended and read. `g` is the square of modules as it was read, and `unknown` is dark where a
 -- module was not read. `v`, `l` and `mask` are the version, the level and the mask of the symbol, `message` its data
--- codewords, and `changed` lists for each block how many codewords were misread; erased ones do not count. A level and
--- a mask are near to a copy of the format information if the copy costs at most 6 with them.
+-- codewords, and `changed` counts for each block the codewords that were misread and erased. A level and a mask are near
+-- to a copy of the format information if the copy costs at most 6 with them.
 use Rattle.std.specs.Prelude.{◌≡◌, ◌≢◌, ℕ, ◌+◌, ◌*◌, ◌≤◌, ◌||◌, Result, Ok, Err, List}
 use Rattle.qr_layout.specs.declared.level.Level.{Level}
 use Rattle.qr_layout.specs.Format.{format_word_of}
@@ -17,15 +17,16 @@ use Rattle.qr_symbol.specs.declared.fault.ReadFault.TheVariants as unread
 use Rattle.qr_symbol.specs.Symbol.{grid_of}
 use Rattle.qr_symbol.specs.Interleaving.{IsInterleaved}
 use Rattle.qr_symbol.specs.Reading.{IsOfVersion, IsRead}
+use Rattle.qr_mending.specs.declared.erasures.Changes.{Changes}
 use Rattle.qr_mending.specs.declared.format.FormatCopy.{FormatCopy}
 use Rattle.qr_mending.specs.declared.format.FormatCopy.TheVariants.{First, Second}
 use Rattle.qr_mending.specs.Format.{format_cost, misread_bits, unread_bits, IsNearFormat}
 use Rattle.qr_mending.specs.Message.{IsMendedIn}
 
 -- The square `g` is read at level `l`, with the mask `mask` undone. Then its blocks can be mended to the data codewords
--- `message`. Item i of `changed` is the number of misread codewords in block i, counted from 0 (ISO/IEC 18004:2015,
--- 7.5.1, 7.6, 7.7.3, 12)
-pub record HoldsDamaged (unknown : Grid) (v : ℕ) (l : Level) (mask : ℕ) (g : Grid) (message changed : List ℕ) : Type 0 where
+-- `message`. Item i of `changed` counts the codewords of block i, counted from 0, that are misread and erased (ISO/IEC
+-- 18004:2015, 7.5.1, 7.6, 7.7.3, 12)
+pub record HoldsDamaged (unknown : Grid) (v : ℕ) (l : Level) (mask : ℕ) (g : Grid) (message : List ℕ) (changed : List Changes) : Type 0 where
   pub codewords : List ℕ
   pub held : IsRead v mask g codewords
   pub mended : IsMendedIn unknown v l codewords message changed
@@ -34,7 +35,7 @@ pub record HoldsDamaged (unknown : Grid) (v : ℕ) (l : Level) (mask : ℕ) (g :
 -- 18004:2015, 7.5.1, 7.9.1, 12)
 abbrev pub IsOfNoUse : Grid → FormatCopy → ℕ → Grid → Type 0
 IsOfNoUse unknown copy v g = (l : Level) (mask : ℕ) → IsNearFormat unknown copy g l mask
-    → (message changed : List ℕ) → HoldsDamaged unknown v l mask g message changed → ⊥
+    → (message : List ℕ) (changed : List Changes) → HoldsDamaged unknown v l mask g message changed → ⊥
 
 -- The number by which a pair of a level and a mask is compared with other pairs. The pair is near to the given copy,
 -- and both copies together cost `cost` with it. Of the pairs with which all blocks can be mended, the one that has the
@@ -51,26 +52,26 @@ pub record HasFormat (unknown : Grid) (v : ℕ) (g : Grid) (l : Level) (mask : �
   pub copy : FormatCopy
   pub near : IsNearFormat unknown copy g l mask
   pub least : (other : FormatCopy) (k : Level) (n : ℕ) → IsNearFormat unknown other g k n
-      → (message changed : List ℕ) → HoldsDamaged unknown v k n g message changed
+      → (message : List ℕ) (changed : List Changes) → HoldsDamaged unknown v k n g message changed
       → compared_cost copy (format_cost unknown g l mask) ≤ compared_cost other (format_cost unknown g k n)
 
 -- The square `g` is a damaged form of a symbol of version `v` with the data codewords `message`. It has the side of
 -- this version. `l` and `mask` are the level and the mask with which it is read (`HasFormat`). If it is read so, its
 -- blocks can be mended to `message` (ISO/IEC 18004:2015, 7.5.1, 7.9.1, 12)
-pub record IsDamagedForm (unknown g : Grid) (v : ℕ) (l : Level) (mask : ℕ) (message changed : List ℕ) : Type 0 where
+pub record IsDamagedForm (unknown g : Grid) (v : ℕ) (l : Level) (mask : ℕ) (message : List ℕ) (changed : List Changes) : Type 0 where
   pub sized : IsOfVersion g v
   pub format : HasFormat unknown v g l mask
   pub damaged : HoldsDamaged unknown v l mask g message changed
 
 -- The square `g` is mended to data codewords from which parsing yields `outcome`, a content or a fault (ISO/IEC
 -- 18004:2015, 12)
-pub record IsMendedAs (unknown g : Grid) (v : ℕ) (l : Level) (mask : ℕ) (outcome : Result Content ParseFault) (changed : List ℕ) : Type 0 where
+pub record IsMendedAs (unknown g : Grid) (v : ℕ) (l : Level) (mask : ℕ) (outcome : Result Content ParseFault) (changed : List Changes) : Type 0 where
   pub message : List ℕ
   pub form : IsDamagedForm unknown g v l mask message changed
   pub parsed : parse v (bits_of message) ≡ outcome
 
 -- The square `g` is mended, and read as `content` (ISO/IEC 18004:2015, 12)
-abbrev pub IsMendedReading : Grid → Grid → ℕ → Level → ℕ → Content → List ℕ → Type 0
+abbrev pub IsMendedReading : Grid → Grid → ℕ → Level → ℕ → Content → List Changes → Type 0
 IsMendedReading unknown g v l mask content changed = IsMendedAs unknown g v l mask (Ok content) changed
 
 -- How many of the 15 modules of a copy were not read or are misread, if the undamaged symbol has the level `l` and the
@@ -97,7 +98,7 @@ pub record DiffersFromSymbol (unknown g : Grid) (v : ℕ) (l : Level) (mask : �
 
 -- The square `g` is a damaged form of a symbol, and `wrong` is the number of its modules that were not read or have
 -- another colour than in this symbol (ISO/IEC 18004:2015, 7.5.2, 7.6, 7.7, 7.8)
-pub record HasWrongModules (unknown g : Grid) (v : ℕ) (l : Level) (mask : ℕ) (changed : List ℕ) (wrong : ℕ) : Type 0 where
+pub record HasWrongModules (unknown g : Grid) (v : ℕ) (l : Level) (mask : ℕ) (changed : List Changes) (wrong : ℕ) : Type 0 where
   pub message : List ℕ
   pub form : IsDamagedForm unknown g v l mask message changed
   pub differs : DiffersFromSymbol unknown g v l mask message wrong
@@ -122,5 +123,5 @@ IsUnmended unknown g unread.Memory = Unit {0}
 IsUnmended unknown g unread.Side = (v : ℕ) → IsOfVersion g v → ⊥
 IsUnmended unknown g unread.Format = (v : ℕ) × IsOfVersion g v × ((copy : FormatCopy) (l : Level) (mask : ℕ) → IsNearFormat unknown copy g l mask → ⊥)
 IsUnmended unknown g unread.Check = IsBeyondMending unknown g
-IsUnmended unknown g (unread.Segments e) = (e ≢ unparsed.Memory) × (v : ℕ) × (l : Level) × (mask : ℕ) × (changed : List ℕ) × IsMendedAs unknown g v l mask (Err e) changed
+IsUnmended unknown g (unread.Segments e) = (e ≢ unparsed.Memory) × (v : ℕ) × (l : Level) × (mask : ℕ) × (changed : List Changes) × IsMendedAs unknown g v l mask (Err e) changed
 IsUnmended unknown g unread.Series = ⊥

@@ -7,12 +7,13 @@ use Rattle.qr_matrix.specs.Grid.{Grid, light}
 use Rattle.qr_symbol.specs.declared.fault.ReadFault.{ReadFault}
 use Rattle.qr_symbol.specs.Reading.{IsFormat, IsMessage, IsOfVersion}
 use Rattle.qr_symbol.specs.Joining.{IsJoinedBy, IsUnjoinedBy}
+use Rattle.qr_mending.specs.declared.erasures.Changes.{Changes}
 use Rattle.qr_mending.specs.Mending.{IsDamagedForm, IsMendedReading, IsUnmended}
 
 -- The square `g`, of which all modules were read, is mended with some version, level and mask, and read as `content`
 -- (ISO/IEC 18004:2015, 12)
 abbrev pub IsMendedContent : Grid → Content → Type 0
-IsMendedContent g content = (v : ℕ) × (l : Level) × (mask : ℕ) × (changed : List ℕ) × IsMendedReading (light g.side) g v l mask content changed
+IsMendedContent g content = (v : ℕ) × (l : Level) × (mask : ℕ) × (changed : List Changes) × IsMendedReading (light g.side) g v l mask content changed
 
 -- The squares can be mended and read. Either there is one content, which is plain, or the contents are those of a whole
 -- series. `bytes` are the bytes of all contents, one content after the other (ISO/IEC 18004:2015, 8.1 to 8.3, 12)
@@ -33,7 +34,7 @@ pub record IsDamagedSquare (damaged whole : Grid) : Type 0 where
   pub level : Level
   pub mask : ℕ
   pub message : List ℕ
-  pub changed : List ℕ
+  pub changed : List Changes
   pub sized : IsOfVersion whole version
   pub format : IsFormat whole level mask
   pub holds : IsMessage version level mask whole message

@@ -4,12 +4,13 @@
 //! The erasure locator is a polynomial with a root for each erased codeword, and the error locator one with a root for
 //! each misread codeword. The root of a codeword is 2^location.
 
-ghost use Rattle.std.specs.Prelude.{◌≡◌, ℕ, ◌+◌, ◌≤◌, List, length, IfSome, IfNone};
+ghost use Rattle.std.specs.Prelude.{◌≡◌, ℕ, ◌+◌, ◌/◌, ◌≤◌, List, length, IfSome, IfNone};
 ghost use Rattle.std.specs.List.{All, count_by};
 ghost use Rattle.arrayvec.specs.ArrayVec.{array_vec_len};
 ghost use Rattle.qr_field.specs.Polynomial.{IsByte};
-ghost use Rattle.qr_field.specs.Distance.{errors};
-ghost use Rattle.qr_mending.specs.Erasures.{read_of, IsMendedWithErasures};
+ghost use Rattle.qr_field.specs.Distance.{differences, errors};
+ghost use Rattle.qr_mending.specs.Block.{IsMended};
+ghost use Rattle.qr_mending.specs.Erasures.{changes_of, erased_errors, read_of, IsMendedWithErasures};
 ghost use Rattle.qr_mending.specs.Steps.Sums.{HasValues, HasSameValues};
 ghost use Rattle.qr_mending.specs.Steps.Errors.{weighted};
 
@@ -87,9 +88,63 @@ fn count_misread(codewords: &[u8], erased: &[bool], mended: &[u8]) -> usize
     count
 }
 
+// Counts the erased codewords whose value differs from that in the mended block. The loop runs from the last index to
+// the first for the same reason as that of `count_misread`.
+#[tactic(auto, using(crate::proofs::Named::erasure_facts))]
+fn count_erased_wrong(codewords: &[u8], erased: &[bool], mended: &[u8]) -> usize
+    requires marks { length erased.now ≡ length codewords.now }
+    requires long { length mended.now ≡ length codewords.now }
+    ensures { result ≡ erased_errors (read_of codewords.now erased.now) codewords.now mended.now }
+{
+    let mut count = 0;
+    for k in (0..codewords.len()).rev() {
+        if erased[k] && codewords[k] != mended[k] {
+            count += 1;
+        }
+    }
+    count
+}
+
+/// How many codewords of a damaged block were misread and erased.
+#[derive(Drop)]
+pub struct Changes {
+    /// The number of codewords that were not erased, but read with a wrong value.
+    pub misread: usize,
+    /// The number of codewords that were erased.
+    pub erased: usize,
+    /// The number of erased codewords whose value, as it was passed, is not that in the mended block.
+    pub erased_wrong: usize,
+}
+
+// Mends a block of which no codeword is erased, so that up to half of the codewords to spare may be misread.
+pub(crate) fn mend_unerased(
+    divisor: &Divisor,
+    spare: usize,
+    codewords: &mut [u8],
+) -> Option<Changes>
+    requires spare { spare ≤ divisor.now }
+    requires least { divisor.now ≤ length codewords.old }
+    requires most { length codewords.old ≤ 255 }
+    ensures mended { IfSome result (λ changes. IsMended divisor.now (spare / 2) codewords.old codewords.new
+        × (changes ≡ record { misread = differences codewords.old codewords.new; erased = 0; erased_wrong = 0 })) }
+    ensures only { IfSome result (λ _. (mended : List ℕ) → IsMended divisor.now (spare / 2) codewords.old mended
+        → mended ≡ codewords.new) }
+    ensures refused { IfNone result ((mended : List ℕ) → IsMended divisor.now (spare / 2) codewords.old mended → ⊥) }
+    ensures same { IfNone result (codewords.new ≡ codewords.old) }
+{
+    let Some(misread) = mend(divisor, spare / 2, codewords) else {
+        return None;
+    };
+    Some(Changes {
+        misread,
+        erased: 0,
+        erased_wrong: 0,
+    })
+}
+
 /// Mends a damaged block of at most 255 codewords, some of which are erased: known to be unreadable. A codeword is
-/// erased if `erased` is true at its index, and its value then has no effect. Returns how many of the other codewords
-/// were misread (ISO/IEC 18004:2015, 7.5.1 and Annex B).
+/// erased if `erased` is true at its index, and its value then has no effect on the mended block. Returns how many
+/// codewords were misread and erased (ISO/IEC 18004:2015, 7.5.1 and Annex B).
 ///
 /// An erased codeword uses up one error correction codeword, and a misread one uses up two. If the block needs more
 /// than `spare` of them, returns `None` and changes nothing. `divisor` determines the number of error correction
@@ -100,14 +155,14 @@ pub fn mend_with_erasures(
     spare: usize,
     erased: &[bool],
     codewords: &mut [u8],
-) -> Option<usize>
+) -> Option<Changes>
     requires spare { spare ≤ divisor.now }
     requires least { divisor.now ≤ length codewords.old }
     requires most { length codewords.old ≤ 255 }
     requires marks { length erased.now ≡ length codewords.old }
-    ensures mended { IfSome result (λ misread.
+    ensures mended { IfSome result (λ changes.
         IsMendedWithErasures divisor.now spare (read_of codewords.old erased.now) codewords.new
-        × (misread ≡ errors (read_of codewords.old erased.now) codewords.new)) }
+        × (changes ≡ changes_of (read_of codewords.old erased.now) codewords.old codewords.new)) }
     ensures only { IfSome result (λ _. (mended : List ℕ)
         → IsMendedWithErasures divisor.now spare (read_of codewords.old erased.now) mended → mended ≡ codewords.new) }
     ensures refused { IfNone result ((mended : List ℕ)
@@ -119,16 +174,25 @@ pub fn mend_with_erasures(
         return None;
     }
     if erasures == 0 {
-        return mend(divisor, spare / 2, codewords);
+        return mend_unerased(divisor, spare, codewords);
     }
     let Some(remainder) = remainder(divisor, codewords) else {
-        return Some(0);
+        return Some(Changes {
+            misread: 0,
+            erased: erasures,
+            erased_wrong: 0,
+        });
     };
     let mended = candidate(remainder.as_slice(), spare, erased, codewords);
     let misread = count_misread(codewords, erased, mended.as_slice());
     if erasures + 2 * misread > spare || !is_block(divisor, mended.as_slice()) {
         return None;
     }
+    let erased_wrong = count_erased_wrong(codewords, erased, mended.as_slice());
     codewords.copy_from_slice(mended.as_slice());
-    Some(misread)
+    Some(Changes {
+        misread,
+        erased: erasures,
+        erased_wrong,
+    })
 }

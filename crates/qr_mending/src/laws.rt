@@ -23,12 +23,13 @@ ghost use Rattle.qr_symbol.specs.Series.{squares_of, IsSeries};
 ghost use Rattle.qr_matrix.specs.BitRow.{has_bit};
 ghost use Rattle.qr_symbol.specs.Symbol.{grid_of};
 ghost use Rattle.qr_mending.specs.Block.{IsBlock, IsMended};
+ghost use Rattle.qr_mending.specs.declared.erasures.Changes.{Changes};
 ghost use Rattle.qr_mending.specs.Erasures.{read_of, IsMendedWithErasures};
 ghost use Rattle.qr_mending.specs.Distance.{SymbolsLieApart};
 ghost use Rattle.qr_mending.specs.declared.format.FormatCopy.{FormatCopy};
 ghost use Rattle.qr_mending.specs.Format.{bit_differences, copy_cost, copy_place, format_cost, IsNearFormat};
-ghost use Rattle.qr_layout.specs.Blocks.{correctable_of};
-ghost use Rattle.qr_mending.specs.Message.{IsMendedIn};
+ghost use Rattle.qr_layout.specs.Blocks.{correctable_of, spare_of};
+ghost use Rattle.qr_mending.specs.Message.{no_changes, IsMendedIn};
 ghost use Rattle.qr_mending.specs.Mending.{wrong_format_modules, wrong_modules, HasFormat, HasWrongModules, HoldsDamaged, IsMendedReading, IsUnmended};
 ghost use Rattle.qr_mending.specs.Modules.{DifferInFewModules};
 ghost use Rattle.qr_mending.specs.Series.{AreDamagedSquares, IsUnmendedSeries};
@@ -115,30 +116,30 @@ pub fn format_costs_compute()
 {}
 
 /// With a given version and level, the codewords of a damaged symbol are mended to at most one message. For each block,
-/// the number of its misread codewords has at most one possible value.
+/// the counts of its misread and erased codewords have at most one possible value.
 pub fn mended_messages_are_one(version: Version, level: Level)
-    ensures { (unknown : Grid) (cw m n x y : List ℕ) → IsMendedIn unknown version level cw m x
+    ensures { (unknown : Grid) (cw m n : List ℕ) (x y : List Changes) → IsMendedIn unknown version level cw m x
         → IsMendedIn unknown version level cw n y
         → (m ≡ n) × (x ≡ y) }
 {}
 
 /// Reading a damaged symbol has at most one result, whether or not all modules of the symbol were read. The result is a
-/// version, a level, a mask, a content, and for each block the number of its misread codewords.
+/// version, a level, a mask, a content, and for each block the counts of its misread and erased codewords.
 pub fn mended_readings_are_one()
-    ensures { (unknown : Grid) (g : Grid) (v w : ℕ) (l k : Level) (m n : ℕ) (p q : Content) (x y : List ℕ)
+    ensures { (unknown : Grid) (g : Grid) (v w : ℕ) (l k : Level) (m n : ℕ) (p q : Content) (x y : List Changes)
         → IsMendedReading unknown g v l m p x → IsMendedReading unknown g w k n q y
         → (v ≡ w) × (l ≡ k) × (m ≡ n) × (p ≡ q) × (x ≡ y) }
 {}
 
 /// The number of wrong modules of a damaged symbol has at most one possible value.
 pub fn wrong_modules_are_one()
-    ensures { (unknown : Grid) (g : Grid) (v w : ℕ) (l k : Level) (m n : ℕ) (x y : List ℕ) (a b : ℕ)
+    ensures { (unknown : Grid) (g : Grid) (v w : ℕ) (l k : Level) (m n : ℕ) (x y : List Changes) (a b : ℕ)
         → HasWrongModules unknown g v l m x a → HasWrongModules unknown g w k n y b → a ≡ b }
 {}
 
 /// If every module was read, the number of wrong modules is 0 exactly if the square is the undamaged symbol.
 pub fn sound_squares_are_symbols()
-    ensures { (g : Grid) (v : ℕ) (l : Level) (mask : ℕ) (changed : List ℕ) (wrong : ℕ)
+    ensures { (g : Grid) (v : ℕ) (l : Level) (mask : ℕ) (changed : List Changes) (wrong : ℕ)
         → IsSquare g.side g → (w : HasWrongModules (light g.side) g v l mask changed wrong)
         → (wrong ≡ 0) ↔ (g ≡ grid_of v l mask w.differs.codewords) }
 {}
@@ -146,22 +147,27 @@ pub fn sound_squares_are_symbols()
 /// A square that can be read without mending is mended to the same content, and no codeword changes.
 pub fn readings_are_mended_readings()
     ensures { (g : Grid) (p : Content) → (h : IsReading g p)
-        → IsMendedReading (light g.side) g h.version h.level h.mask p (replicate (blocks_in h.version h.level) 0) }
+        → IsMendedReading (light g.side) g h.version h.level h.mask p (replicate (blocks_in h.version h.level) no_changes) }
 {}
 
-/// Mending yields a number of misread codewords for each block, and there is at least one block. None of the numbers is
-/// above `Version::correctable`, which is from 2 to 15 for every version and level.
+/// Mending counts the misread and the erased codewords of each block, and there is at least one block. In none of them
+/// more codewords are misread than `Version::correctable` returns, which is from 2 to 15 for every version and level.
+/// The number of erased codewords, plus twice that of misread ones, is at most `Version::spare`, which is at most 30.
 pub fn changes_are_bounded()
-    ensures some { (unknown : Grid) (g : Grid) (v : ℕ) (l : Level) (m : ℕ) (p : Content) (x : List ℕ)
+    ensures some { (unknown : Grid) (g : Grid) (v : ℕ) (l : Level) (m : ℕ) (p : Content) (x : List Changes)
         → IsMendedReading unknown g v l m p x → 1 ≤ length x }
-    ensures few { (unknown : Grid) (g : Grid) (v : ℕ) (l : Level) (m : ℕ) (p : Content) (x : List ℕ)
-        → IsMendedReading unknown g v l m p x → All (λ n. n ≤ correctable_of v l) x }
+    ensures few { (unknown : Grid) (g : Grid) (v : ℕ) (l : Level) (m : ℕ) (p : Content) (x : List Changes)
+        → IsMendedReading unknown g v l m p x → All (λ c. c.misread ≤ correctable_of v l) x }
+    ensures spent { (unknown : Grid) (g : Grid) (v : ℕ) (l : Level) (m : ℕ) (p : Content) (x : List Changes)
+        → IsMendedReading unknown g v l m p x → All (λ c. (c.erased + 2 * c.misread ≤ spare_of v l)
+        × (c.erased_wrong ≤ c.erased)) x }
+    ensures spare { (v : ℕ) (l : Level) → 1 ≤ v → v ≤ 40 → spare_of v l ≤ 30 }
     ensures correctable { (v : ℕ) (l : Level) → 1 ≤ v → v ≤ 40 → (2 ≤ correctable_of v l) × (correctable_of v l ≤ 15) }
 {}
 
 /// A damaged symbol that can be mended and read is refused only for lack of memory.
 pub fn mended_readings_are_not_refused()
-    ensures { (unknown : Grid) (g : Grid) (v : ℕ) (l : Level) (m : ℕ) (p : Content) (x : List ℕ) (e : ReadFault)
+    ensures { (unknown : Grid) (g : Grid) (v : ℕ) (l : Level) (m : ℕ) (p : Content) (x : List Changes) (e : ReadFault)
         → IsMendedReading unknown g v l m p x → IsUnmended unknown g e → e ≡ ReadFault.Memory }
 {}
 
@@ -204,15 +210,15 @@ pub fn formats_are_found()
         → HasFormat unknown v g l mask }
     ensures alone { (unknown : Grid) (v : ℕ) (g : Grid) (l : Level) (mask : ℕ) (copy : FormatCopy)
         → IsNearFormat unknown copy g l mask
-        → ((other : FormatCopy) (k : Level) (n : ℕ) → IsNearFormat unknown other g k n → (message changed : List ℕ)
+        → ((other : FormatCopy) (k : Level) (n : ℕ) → IsNearFormat unknown other g k n → (message : List ℕ) (changed : List Changes)
         → HoldsDamaged unknown v k n g message changed → (k ≡ l) × (n ≡ mask))
         → HasFormat unknown v g l mask }
 {}
 
 /// Unless memory is refused, a damaged symbol is mended to exactly its input if its blocks can be mended, and if its
 /// level and mask are found. (`formats_are_found` states two cases in which they are found.) Modules that belong
-/// neither to a codeword nor to the format information may have any colour. The numbers of misread codewords and of
-/// wrong modules are exact.
+/// neither to a codeword nor to the format information may have any colour. The counts of misread and erased codewords
+/// and the number of wrong modules are exact.
 pub fn damaged_symbols_are_mended(
     alloc: Global,
     damaged: &Matrix,
@@ -220,13 +226,13 @@ pub fn damaged_symbols_are_mended(
 ) -> Result<Mended, ReadFault>
     requires { unknown.now.side ≡ damaged.now.side }
     ensures { (smallest : ℕ) (l : Level) (rule : Rule) (i : Interpretation) (x : List ℕ) (v mask : ℕ) (g : Grid)
-        (misread : List ℕ) → 1 ≤ smallest → MayWrite i x → (s : IsSymbol smallest l rule i x v mask g) → damaged.now.side ≡ g.side
+        (changed : List Changes) → 1 ≤ smallest → MayWrite i x → (s : IsSymbol smallest l rule i x v mask g) → damaged.now.side ≡ g.side
         → HasFormat unknown.now v damaged.now l mask
-        → HoldsDamaged unknown.now v l mask damaged.now s.made.message misread
+        → HoldsDamaged unknown.now v l mask damaged.now s.made.message changed
         → MatchResult result
         (λ m. (m.version ≡ v) × (m.level ≡ l) × (m.mask ≡ mask)
         × (m.parsed ≡ interpreted_content i None s.made.segments x)
-        × (m.changed.items ≡ misread) × (m.wrong_modules ≡ wrong_modules unknown.now damaged.now g)
+        × (m.changed.items ≡ changed) × (m.wrong_modules ≡ wrong_modules unknown.now damaged.now g)
         × (m.wrong_format_modules ≡ wrong_format_modules unknown.now damaged.now l mask)) (λ e. e ≡ ReadFault.Memory) }
 {
     mend_symbol_with_unknown(alloc, damaged, unknown)

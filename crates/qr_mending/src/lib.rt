@@ -19,6 +19,6 @@ mod series;
 mod sums;
 
 pub use block::mend;
-pub use erasures::mend_with_erasures;
+pub use erasures::{Changes, mend_with_erasures};
 pub use mending::{Mended, mend_symbol, mend_symbol_with_unknown};
 pub use series::mend_series;

@@ -14,6 +14,7 @@ ghost use Rattle.qr_mending.specs.Format.{format_cost};
 ghost use Rattle.qr_mending.specs.Steps.{Mending.{IsMendedBy, IsMendedByEither, IsMendedWith}, Message.{list_of}};
 ghost use Rattle.qr_mending.specs.Mending.{wrong_format_modules, wrong_modules, HasWrongModules, IsMendedReading, IsOfNoUse, IsUnmended};
 
+use crate::erasures::Changes;
 use crate::format::{FormatCopy, format_cost, near_format_of, wrong_format_modules};
 use crate::message::{Marks, MendedBlocks, interleaved, mend_blocks, read_marks};
 use crate::scan::Scan;
@@ -205,8 +206,8 @@ pub struct Mended {
     /// How many modules of the whole symbol are misread or were not read. Those of function patterns, version
     /// information and remainder bits count too.
     pub wrong_modules: u32,
-    /// For each block, the number of misread codewords. Erased ones do not count.
-    pub changed: Vec<usize>,
+    /// For each block, how many of its codewords were misread and erased.
+    pub changed: Vec<Changes>,
 }
 
 /// Reads a damaged symbol and corrects its damage (ISO/IEC 18004:2015, 7.5.1, 7.9.1 and 12). A module that was not read

@@ -3,19 +3,18 @@
 
 ghost use Rattle.std.specs.Prelude.{◌≡◌, ℕ, ◌+◌, ◌<◌, ◌≤◌, ◌==◌, ◌⊎◌, ◌++◌, [], false, not, map, List, length, Err, IfOk, IfErr, IfSome, IfNone};
 ghost use Rattle.std.specs.Bool.{OnTrue};
-ghost use Rattle.qr_field.specs.Distance.{errors};
 ghost use Rattle.qr_layout.specs.Blocks.{blocks_of, spare_of};
 ghost use Rattle.qr_layout.specs.Version.{side_of, total_codewords_of};
 ghost use Rattle.qr_matrix.specs.Grid.{colour};
 ghost use Rattle.qr_symbol.specs.declared.fault.ReadFault.{ReadFault};
 ghost use Rattle.qr_symbol.specs.Interleaving.{block_count, block_len, codeword_count, data_sizes, correction_sizes, IsInterleaved};
 ghost use Rattle.qr_symbol.specs.Reading.{IsReadUnmasked};
-ghost use Rattle.qr_mending.specs.Erasures.{read_of, IsMendedWithErasures};
+ghost use Rattle.qr_mending.specs.declared.erasures.Changes.{Changes};
+ghost use Rattle.qr_mending.specs.Erasures.{changes_of, read_of, IsMendedWithErasures};
 ghost use Rattle.qr_mending.specs.Message.{received, AreInBlocks};
 ghost use Rattle.qr_mending.specs.Steps.Message.{list_of, marks_at, AreMarksInBlocks, AreWhole, HasCorrections, IsMendedMessage};
 
-use crate::block::mend;
-use crate::erasures::mend_with_erasures;
+use crate::erasures::{Changes, mend_unerased, mend_with_erasures};
 use qr_field::Divisor;
 use qr_layout::{Blocks, Level, Version};
 use qr_matrix::Matrix;
@@ -182,37 +181,37 @@ fn erased_of(
     Ok(erased)
 }
 
-// Mends one block, and returns how many of its codewords were misread, or `None` if the block cannot be mended. If
-// `erased` is empty, no codeword is erased.
+// Mends one block, and returns how many of its codewords were misread and erased, or `None` if the block cannot be
+// mended. If `erased` is empty, no codeword is erased.
 fn mend_block(
     divisor: &Divisor,
     spare: usize,
     erased: &[bool],
     codewords: &mut [u8],
-) -> Option<usize>
+) -> Option<Changes>
     requires spare { spare ≤ divisor.now }
     requires least { divisor.now ≤ length codewords.old }
     requires most { length codewords.old ≤ 255 }
     requires marks { (erased.now ≡ []) ⊎ (length erased.now ≡ length codewords.old) }
-    ensures mended { IfSome result (λ misread.
+    ensures mended { IfSome result (λ changes.
         IsMendedWithErasures divisor.now spare (read_of codewords.old erased.now) codewords.new
-        × (misread ≡ errors (read_of codewords.old erased.now) codewords.new)) }
+        × (changes ≡ changes_of (read_of codewords.old erased.now) codewords.old codewords.new)) }
     ensures refused { IfNone result ((mended : List ℕ)
         → IsMendedWithErasures divisor.now spare (read_of codewords.old erased.now) mended → ⊥) }
 {
     if erased.is_empty() {
-        return mend(divisor, spare / 2, codewords);
+        return mend_unerased(divisor, spare, codewords);
     }
     mend_with_erasures(divisor, spare, erased, codewords)
 }
 
 // The mended data codewords of all blocks, the error correction codewords that belong to them, and how many codewords
-// of each block were misread. In each list the blocks come in their order.
+// of each block were misread and erased. In each list the blocks come in their order.
 #[derive(Drop)]
 pub(crate) struct MendedBlocks {
     pub message: Vec<u8>,
     pub corrections: Vec<u8>,
-    pub changed: Vec<usize>,
+    pub changed: Vec<Changes>,
 }
 
 // Mends one block after the other, and ends at the first that cannot be mended. `codewords` and `marks` are still
@@ -230,9 +229,9 @@ pub(crate) fn mend_blocks(
     ensures mended { IfOk result (λ m. IsMendedMessage (blocks_of version level) (spare_of version level)
         codewords.now (list_of (total_codewords_of version) marks.now) m.message.items m.changed.items) }
     ensures corrections { IfOk result (λ m. HasCorrections version level m.message.items m.corrections.items) }
-    ensures refused { result ≡ Err ReadFault.Check → (message misread : List ℕ)
+    ensures refused { result ≡ Err ReadFault.Check → (message : List ℕ) (changed : List Changes)
         → IsMendedMessage (blocks_of version level) (spare_of version level) codewords.now
-        (list_of (total_codewords_of version) marks.now) message misread
+        (list_of (total_codewords_of version) marks.now) message changed
         → ⊥ }
     ensures fault { IfErr result (λ e. (e ≡ ReadFault.Memory) ⊎ (e ≡ ReadFault.Check)) }
 {
@@ -248,13 +247,13 @@ pub(crate) fn mend_blocks(
     for block in 0..count {
         let mut mended = block_of(alloc, blocks, &received, block)?;
         let erased = erased_of(alloc, blocks, &unread, block)?;
-        let Some(misread) = mend_block(&divisor, spare, &erased, mended.as_mut_slice()) else {
+        let Some(changes) = mend_block(&divisor, spare, &erased, mended.as_mut_slice()) else {
             return Err(ReadFault::Check);
         };
         let (data, checks) = mended.split_at(mended.len() - divisor.count());
         message.extend_from_slice(data)?;
         corrections.extend_from_slice(checks)?;
-        changed.push(misread)?;
+        changed.push(changes)?;
     }
     Ok(MendedBlocks {
         message,

@@ -2,12 +2,13 @@
 -- Then only as many errors are left as codewords were misread. A polynomial that locates the errors left, times those
 -- roots, locates all errors.
 use Rattle.qr_field.proofs.lemmas.galois.{ByteLemmas.{product-by_zero, product-of_zero}, FieldLemmas.{product-factor, sum-none}, PowerLemmas.power-lt}
-use Rattle.qr_field.proofs.lemmas.laws.DistanceLemmas.{weight, difference-same, difference-alike, errors-read}
+use Rattle.qr_field.proofs.lemmas.laws.DistanceLemmas.{weight, difference-same, difference-alike, difference-most, erasures-read, errors-read}
 use Rattle.qr_field.{proofs.lemmas.polynomial.ListLemmas.{length-plus, bytes-plus}, specs.Distance.{difference, differences, erasures, errors}}
 use Rattle.{qr_field.specs.Polynomial.{IsByte, plus, power}, qr_mending.proofs.lemmas.block.{bytes-block, errors-values, mended-read, plus-cancel, read-mended}}
 use Rattle.qr_mending.proofs.lemmas.errors.WeightLemmas.{length-weighted, bytes-weighted, difference-product, weighted-value, coefficient-lt, coefficient-weighted}
 use Rattle.qr_mending.proofs.lemmas.{locator.weight-zeros, roots.{count-more, bytes-rooted, eval-rooted, has-roots, rooted-roots}, sums.{dot-blend, eval-lt}}
-use Rattle.qr_mending.specs.{Block.IsMended, Erasures.{read_of, IsMendedWithErasures}, Steps.Errors.{coefficient, weighted, AreFewErrors, AreErrors, IsLocated}}
+use Rattle.qr_mending.specs.declared.erasures.Changes.{Changes}
+use Rattle.qr_mending.specs.{Block.IsMended, Erasures.{changes_of, erased_errors, read_of, IsMendedWithErasures}, Steps.Errors.{coefficient, weighted, AreFewErrors, AreErrors, IsLocated}}
 use Rattle.qr_mending.specs.Steps.{Roots.rooted, Sums.{dot_of, eval, HasValues}}
 use Rattle.std.proofs.Common.{◌≡◌, ℕ, zero, suc, ◌+◌, ◌-◌, ◌/◌, ◌<◌, ◌≤◌, Bool, true, false, Option, None, Some, List, [], ◌∷◌, ◌++◌, length, map, replicate, drop, get_or, refl, sym, ap, ◌∙◌, arith, lit<, bit_xor}
 use Rattle.std.proofs.lemmas.List.{get_or_push, length_push, get_or_append_left, drop_more, Elements.{All-nil, All-cons, All-head, All-tail}}
@@ -64,15 +65,59 @@ pub errors-more : (xs ys : List ℕ) (es : List Bool) (k : ℕ) (b : Bool) → 0
     errors (read_of (drop (k - 1) xs) (drop (k - 1) es)) (drop (k - 1) ys) ≡ misread b (get_or xs (k - 1) 0) (get_or ys (k - 1) 0) + errors (read_of (drop k xs) (drop k es)) (drop k ys)
 errors-more xs ys es k b some l he hy h = search (arith, drop_more)
 
+-- 1 if a codeword is erased and has another value than it should have, 0 otherwise
+abbrev pub erased_difference : Bool → ℕ → ℕ → ℕ
+erased_difference true x y = difference x y
+erased_difference false x y = 0
+
+-- as `errors-more`, of erased codewords
+pub erased-more : (xs ys : List ℕ) (es : List Bool) (k : ℕ) (b : Bool) → 0 < k → k ≤ length xs → length es ≡ length xs →
+    length ys ≡ length xs → get_or es (k - 1) false ≡ b →
+    erased_errors (read_of (drop (k - 1) xs) (drop (k - 1) es)) (drop (k - 1) xs) (drop (k - 1) ys)
+    ≡ erased_difference b (get_or xs (k - 1) 0) (get_or ys (k - 1) 0)
+    + erased_errors (read_of (drop k xs) (drop k es)) (drop k xs) (drop k ys)
+erased-more xs ys es k b some l he hy h = search (arith, drop_more)
+
+-- no erased codeword has another value than it had itself
+pub erased-self : (xs : List ℕ) (es : List Bool) → erased_errors (read_of xs es) xs xs ≡ 0
+erased-self [] es = refl
+erased-self (x ∷ xs) [] = erased-self xs []
+erased-self (x ∷ xs) (true ∷ es) = omega (arith, difference-same x x refl, erased-self xs es)
+erased-self (x ∷ xs) (false ∷ es) = erased-self xs es
+
+-- there are at most as many erased codewords of another value as there are erased ones
+pub erased-few : (rs : List (Option ℕ)) (xs ys : List ℕ) → erased_errors rs xs ys ≤ erasures rs
+erased-few [] xs ys = omega arith
+erased-few (r ∷ rs) [] ys = omega arith
+erased-few (r ∷ rs) (x ∷ xs) [] = omega arith
+erased-few (None ∷ rs) (x ∷ xs) (y ∷ ys) = omega (arith, difference-most x y, erased-few rs xs ys)
+erased-few (Some z ∷ rs) (x ∷ xs) (y ∷ ys) = erased-few rs xs ys
+
 -- ---- blocks of which no codeword is erased
 
+-- the changes of a block of which `n` codewords were misread and none is erased
+abbrev pub unerased : ℕ → Changes
+unerased n = record { misread = n; erased = 0; erased_wrong = 0 }
+
+-- if every codeword was read, none is erased with another value
+erased-none : (xs vs ys : List ℕ) → erased_errors (map (λ x. Some x) xs) vs ys ≡ 0
+erased-none [] vs ys = refl
+erased-none (x ∷ xs) [] ys = refl
+erased-none (x ∷ xs) (v ∷ vs) [] = refl
+erased-none (x ∷ xs) (v ∷ vs) (y ∷ ys) = erased-none xs vs ys
+
+-- the changes of a block of which every codeword was read
+pub changes-unerased : (xs vs ys : List ℕ) → changes_of (map (λ x. Some x) xs) vs ys ≡ unerased (differences xs ys)
+changes-unerased xs vs ys = cc (errors-read xs ys, erasures-read xs, erased-none xs vs ys)
+
 -- what is mended without erasures is mended with them
-pub unerased-mended : (n spare : ℕ) (old new : List ℕ) (es : List Bool) (o : Option ℕ) →
+pub unerased-mended : (n spare : ℕ) (old new : List ℕ) (es : List Bool) (o : Option Changes) →
     read_of old es ≡ map (λ x. Some x) old →
-    IfSome o (λ changed. IsMended n (spare / 2) old new × (changed ≡ differences old new)) →
-    IfSome o (λ misread. IsMendedWithErasures n spare (read_of old es) new × (misread ≡ errors (read_of old es) new))
+    IfSome o (λ changes. IsMended n (spare / 2) old new × (changes ≡ unerased (differences old new))) →
+    IfSome o (λ changes. IsMendedWithErasures n spare (read_of old es) new × (changes ≡ changes_of (read_of old es) old new))
 unerased-mended n spare old new es None same h = tt
-unerased-mended n spare old new es (Some x) same h = rw same (read-mended n spare old new h.0, h.1 ∙ sym (errors-read old new))
+unerased-mended n spare old new es (Some x) same h =
+    rw same (read-mended n spare old new h.0, h.1 ∙ sym (changes-unerased old old new))
 
 -- what is mended with erasures is mended without
 unerased-read : (n spare : ℕ) (old mended : List ℕ) (es : List Bool) → read_of old es ≡ map (λ x. Some x) old →
@@ -80,7 +125,7 @@ unerased-read : (n spare : ℕ) (old mended : List ℕ) (es : List Bool) → rea
 unerased-read n spare old mended es same m = mended-read n spare old mended (rw same at m)
 
 -- so it is mended to no other block
-pub unerased-only : (n spare : ℕ) (old new : List ℕ) (es : List Bool) (o : Option ℕ) →
+pub unerased-only : (n spare : ℕ) (old new : List ℕ) (es : List Bool) (o : Option Changes) →
     read_of old es ≡ map (λ x. Some x) old →
     IfSome o (λ _. (mended : List ℕ) → IsMended n (spare / 2) old mended → mended ≡ new) →
     IfSome o (λ _. (mended : List ℕ) → IsMendedWithErasures n spare (read_of old es) mended → mended ≡ new)
@@ -88,7 +133,7 @@ unerased-only n spare old new es None same h = tt
 unerased-only n spare old new es (Some x) same h = search (arith, unerased-read)
 
 -- and is refused with erasures if it is refused without
-pub unerased-refused : (n spare : ℕ) (old : List ℕ) (es : List Bool) (o : Option ℕ) →
+pub unerased-refused : (n spare : ℕ) (old : List ℕ) (es : List Bool) (o : Option Changes) →
     read_of old es ≡ map (λ x. Some x) old →
     IfNone o ((mended : List ℕ) → IsMended n (spare / 2) old mended → ⊥) →
     IfNone o ((mended : List ℕ) → IsMendedWithErasures n spare (read_of old es) mended → ⊥)

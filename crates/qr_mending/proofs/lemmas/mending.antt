@@ -1,6 +1,7 @@
 -- A square with damage is read as at most one content, and then it is not refused.
 use Rattle.qr_bits.{proofs.Facts.fault-read, specs.{Bits.bits_of, Parsing.{Content, parse, IsResultOf}, declared.fault.ParseFault.ParseFault}}
 use Rattle.{qr_layout.{proofs.Facts.laws-of, specs.declared.level.Level.Level}, qr_matrix.specs.Grid.Grid}
+use Rattle.qr_mending.specs.declared.erasures.Changes.{Changes}
 use Rattle.qr_mending.proofs.lemmas.{format.{near-one, each-copy, sure-one}, message.BlocksLemmas.beside-one}
 use Rattle.qr_mending.specs.Format.{copy_cost, format_cost, IsNearFormat}
 use Rattle.qr_mending.specs.Mending.{compared_cost, HasFormat, HoldsDamaged, IsBeyondMending, IsDamagedForm, IsMendedAs, IsMendedReading, IsOfNoUse, IsUnmended}
@@ -13,7 +14,7 @@ use Rattle.qr_bits.specs.declared.fault.ParseFault.TheVariants as unparsed
 use Rattle.qr_symbol.specs.declared.fault.ReadFault.TheVariants as fault
 
 -- codewords are a damaged form of at most one message
-pub mended-one : (unknown : Grid) (v : ℕ) (l : Level) → 1 ≤ v → v ≤ 40 → (cw m n x y : List ℕ) →
+pub mended-one : (unknown : Grid) (v : ℕ) (l : Level) → 1 ≤ v → v ≤ 40 → (cw m n : List ℕ) (x y : List Changes) →
     IsMendedIn unknown v l cw m x → IsMendedIn unknown v l cw n y → (m ≡ n) × (x ≡ y)
 mended-one unknown v l h k cw m n x y p q =
     let w = laws-of l v h k in
@@ -30,14 +31,14 @@ beside Second = First
 
 module _ (unknown g : Grid) where
   -- under one level and mask, a square contains a damaged form of at most one message
-  damaged-one : (v : ℕ) (l : Level) (mask : ℕ) (m n x y : List ℕ) → 1 ≤ v → v ≤ 40 →
+  damaged-one : (v : ℕ) (l : Level) (mask : ℕ) (m n : List ℕ) (x y : List Changes) → 1 ≤ v → v ≤ 40 →
       HoldsDamaged unknown v l mask g m x → HoldsDamaged unknown v l mask g n y → (m ≡ n) × (x ≡ y)
   damaged-one v l mask m n x y least most p q =
       let same = read-one v mask g p.codewords q.codewords p.held q.held in
       mended-one unknown v l least most q.codewords m n x y (rw same at p.mended) q.mended
 
   -- a square that contains damaged messages under two levels and masks has the same level and mask in both cases
-  format-one : (v : ℕ) (l k : Level) (m n : ℕ) (p q x y : List ℕ) → HasFormat unknown v g l m →
+  format-one : (v : ℕ) (l k : Level) (m n : ℕ) (p q : List ℕ) (x y : List Changes) → HasFormat unknown v g l m →
       HasFormat unknown v g k n →
       HoldsDamaged unknown v l m g p x → HoldsDamaged unknown v k n g q y → (l ≡ k) × (m ≡ n)
   format-one v l k m n p q x y a b h j =
@@ -46,7 +47,7 @@ module _ (unknown g : Grid) where
       near-one unknown a.copy g l k m n a.near (rw same b.near)
 
   -- a square is a damaged form of at most one symbol
-  pub form-one : (v w : ℕ) (l k : Level) (m n : ℕ) (p q x y : List ℕ) → IsDamagedForm unknown g v l m p x →
+  pub form-one : (v w : ℕ) (l k : Level) (m n : ℕ) (p q : List ℕ) (x y : List Changes) → IsDamagedForm unknown g v l m p x →
       IsDamagedForm unknown g w k n q y → (v ≡ w) × (l ≡ k) × (m ≡ n) × (p ≡ q) × (x ≡ y)
   form-one v w l k m n p q x y h j =
       let vs : v ≡ w = omega arith in
@@ -56,28 +57,28 @@ module _ (unknown g : Grid) where
       (vs, f.0, f.1, one.0, one.1)
 
   -- the parse of the mended message of a square has at most one outcome
-  outcome-one : (v w : ℕ) (l k : Level) (m n : ℕ) (p q : Result Content ParseFault) (x y : List ℕ) →
+  outcome-one : (v w : ℕ) (l k : Level) (m n : ℕ) (p q : Result Content ParseFault) (x y : List Changes) →
       IsMendedAs unknown g v l m p x → IsMendedAs unknown g w k n q y → (v ≡ w) × (l ≡ k) × (m ≡ n) × (p ≡ q) × (x ≡ y)
   outcome-one v w l k m n p q x y h j =
       let o = form-one v w l k m n h.message j.message x y h.form j.form in
       (o.0, o.1, o.2, cc, o.4)
 
   -- a square with its damage mended is read as at most one content
-  pub mended-reading-one : (v w : ℕ) (l k : Level) (m n : ℕ) (p q : Content) (x y : List ℕ) →
+  pub mended-reading-one : (v w : ℕ) (l k : Level) (m n : ℕ) (p q : Content) (x y : List Changes) →
       IsMendedReading unknown g v l m p x → IsMendedReading unknown g w k n q y → (v ≡ w) × (l ≡ k) × (m ≡ n) × (p ≡ q) × (x ≡ y)
   mended-reading-one v w l k m n p q x y h j =
       let o = outcome-one v w l k m n (Ok p) (Ok q) x y h j in
       (o.0, o.1, o.2, cc o.3, o.4)
 
   -- a damaged form is not beyond mending
-  form-of-use : (v : ℕ) (l : Level) (m : ℕ) (p x : List ℕ) → IsDamagedForm unknown g v l m p x →
+  form-of-use : (v : ℕ) (l : Level) (m : ℕ) (p : List ℕ) (x : List Changes) → IsDamagedForm unknown g v l m p x →
       IsBeyondMending unknown g → ⊥
   form-of-use v l m p x h u =
       let vs : u.version ≡ v = omega arith in
       (rw vs at u.useless) h.format.copy l m h.format.near p x h.damaged
 
   -- a square that can be read with its damage mended is refused only for lack of memory
-  pub mended-not-refused : (v : ℕ) (l : Level) (m : ℕ) (p : Content) (x : List ℕ) (e : ReadFault) →
+  pub mended-not-refused : (v : ℕ) (l : Level) (m : ℕ) (p : Content) (x : List Changes) (e : ReadFault) →
       IsMendedReading unknown g v l m p x → IsUnmended unknown g e → e ≡ fault.Memory
   mended-not-refused v l m p x fault.Memory h u = refl
   mended-not-refused v l m p x fault.Side h u = absurd (u v h.form.sized)
@@ -119,7 +120,7 @@ module _ (unknown g : Grid) where
   unmended-one fault.Series f a b = absurd a
 
   -- if the mended message cannot be parsed, the square is not mended
-  pub mended-unparsed : (v : ℕ) (l : Level) (mask : ℕ) (message changed : List ℕ) (e : ParseFault) →
+  pub mended-unparsed : (v : ℕ) (l : Level) (mask : ℕ) (message : List ℕ) (changed : List Changes) (e : ParseFault) →
       IsDamagedForm unknown g v l mask message changed → IsResultOf (Err e) (parse v (bits_of message)) → IsUnmended unknown g (unread_for e)
   mended-unparsed v l mask message changed unparsed.Memory h k = tt
   mended-unparsed v l mask message changed unparsed.BadMode h k = search (arith, fault-read)
@@ -129,7 +130,7 @@ module _ (unknown g : Grid) where
   -- not all blocks can be mended with a level and a mask if the codewords, read with these, are a damaged form of no
   -- message
   pub holds-none : (v : ℕ) (l : Level) (m : ℕ) (cw : List ℕ) → IsRead v m g cw →
-      ((message changed : List ℕ) → IsMendedIn unknown v l cw message changed → ⊥) → HoldsNone unknown v l m g
+      ((message : List ℕ) (changed : List Changes) → IsMendedIn unknown v l cw message changed → ⊥) → HoldsNone unknown v l m g
   holds-none v l m cw r none = λ message changed d.
       none message changed (rw (read-one v m g d.codewords cw d.held r) at d.mended)
 
@@ -160,7 +161,7 @@ module _ (unknown g : Grid) where
 
   -- no level and mask that are near to a copy and mend the square have a lower compared cost
   abbrev NoneBelow : ℕ → ℕ → FormatCopy → Type 0
-  NoneBelow cost v copy = (k : Level) (n : ℕ) → IsNearFormat unknown copy g k n → (message changed : List ℕ) →
+  NoneBelow cost v copy = (k : Level) (n : ℕ) → IsNearFormat unknown copy g k n → (message : List ℕ) (changed : List Changes) →
       HoldsDamaged unknown v k n g message changed → cost ≤ compared_cost copy (format_cost unknown g k n)
 
   -- if the other copy gives none of a lower compared cost, the level and the mask have the least compared cost
@@ -253,14 +254,14 @@ module _ (unknown g : Grid) where
 
   -- a level and a mask near to the first copy have to be used if no other pair that is near to a copy mends the square
   alone-first : (v : ℕ) (l : Level) (m : ℕ) → IsNearFormat unknown First g l m →
-      ((other : FormatCopy) (k : Level) (n : ℕ) → IsNearFormat unknown other g k n → (message changed : List ℕ) →
+      ((other : FormatCopy) (k : Level) (n : ℕ) → IsNearFormat unknown other g k n → (message : List ℕ) (changed : List Changes) →
       HoldsDamaged unknown v k n g message changed → (k ≡ l) × (n ≡ m)) → HasFormat unknown v g l m
   alone-first v l m f alone = best First v l m f (λ k n h q x d.
       let e = alone Second k n h q x d in rw (e.0, e.1) (omega arith))
 
   -- as `alone-first`, for a level and a mask that are near to either copy
   pub alone-format : (v : ℕ) (l : Level) (m : ℕ) (copy : FormatCopy) → IsNearFormat unknown copy g l m →
-      ((other : FormatCopy) (k : Level) (n : ℕ) → IsNearFormat unknown other g k n → (message changed : List ℕ) →
+      ((other : FormatCopy) (k : Level) (n : ℕ) → IsNearFormat unknown other g k n → (message : List ℕ) (changed : List Changes) →
       HoldsDamaged unknown v k n g message changed → (k ≡ l) × (n ≡ m)) → HasFormat unknown v g l m
   alone-format v l m First f alone = alone-first v l m f alone
   alone-format v l m Second f alone = elim (cases_lt (copy_cost unknown First g l m) 7) [

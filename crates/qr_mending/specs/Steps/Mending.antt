@@ -3,6 +3,7 @@
 use Rattle.std.specs.Prelude.{◌≡◌, ℕ, List, Option, Some, IfSome, MatchOption}
 use Rattle.qr_layout.specs.declared.level.Level.{Level}
 use Rattle.qr_matrix.specs.Grid.{Grid}
+use Rattle.qr_mending.specs.declared.erasures.Changes.{Changes}
 use Rattle.qr_mending.specs.declared.format.FormatCopy.{FormatCopy}
 use Rattle.qr_mending.specs.declared.mending.MendedSquare.{MendedSquare}
 use Rattle.qr_mending.specs.Format.{IsNearFormat}
@@ -11,11 +12,11 @@ use Rattle.qr_mending.specs.Steps.Message.{HasCorrections}
 
 -- With the level `l` and the mask `mask`, some block of the square cannot be mended.
 abbrev pub HoldsNone : Grid → ℕ → Level → ℕ → Grid → Type 0
-HoldsNone unknown v l mask g = (message changed : List ℕ) → HoldsDamaged unknown v l mask g message changed → ⊥
+HoldsNone unknown v l mask g = (message : List ℕ) (changed : List Changes) → HoldsDamaged unknown v l mask g message changed → ⊥
 
 -- With the level and the mask in `m`, all blocks of the square can be mended. `m` also has the mended data codewords,
--- the number of misread codewords in each block, and the error correction codewords that belong to the mended data
--- codewords.
+-- the counts of misread and erased codewords in each block, and the error correction codewords that belong to the
+-- mended data codewords.
 pub record IsMendedSquare (unknown : Grid) (v : ℕ) (g : Grid) (m : MendedSquare) : Type 0 where
   pub held : HoldsDamaged unknown v m.level m.mask g m.blocks.message.items m.blocks.changed.items
   pub corrections : HasCorrections v m.level m.blocks.message.items m.blocks.corrections.items

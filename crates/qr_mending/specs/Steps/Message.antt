@@ -2,7 +2,7 @@
 -- bit is 1 if the module was not read, so a mark is 0 exactly if its codeword is not erased. `b` has the sizes of the
 -- blocks. `d` and `e` list the data codewords and the error correction codewords as they were read, in the order of the
 -- blocks.
-use Rattle.std.specs.Prelude.{◌≡◌, ℕ, ◌<◌, ◌==◌, not, Option, List, [], map, length, slice_index}
+use Rattle.std.specs.Prelude.{◌≡◌, ℕ, ◌<◌, ◌==◌, not, Option, List, [], map, length, slice_index_or}
 use Rattle.qr_layout.specs.declared.{blocks.Blocks.{Blocks}, level.Level.{Level}}
 use Rattle.qr_layout.specs.Blocks.{blocks_of, data_codewords_of}
 use Rattle.qr_field.specs.Polynomial.{zeros}
@@ -12,7 +12,8 @@ use Rattle.qr_mending.specs.declared.message.{Marks.{Marks}, MarksInBlocks.{Mark
 use Rattle.qr_mending.specs.declared.message.Marks.TheVariants as interleaved
 use Rattle.qr_mending.specs.declared.message.MarksInBlocks.TheVariants as by_block
 use Rattle.qr_mending.specs.Erasures.{read_of}
-use Rattle.qr_mending.specs.Message.{received, AreInBlocks, IsMendedBlock}
+use Rattle.qr_mending.specs.declared.erasures.Changes.{Changes}
+use Rattle.qr_mending.specs.Message.{no_changes, received, AreInBlocks, IsMendedBlock}
 
 -- What was read of the given codewords of a block: `None` for a codeword whose mark is not 0, and the codeword itself
 -- otherwise
@@ -47,23 +48,24 @@ marks_at b by_block.AllZero i = []
 marks_at b (by_block.Each lists) i = received b lists.data.items lists.checks.items i
 
 -- `message` has the mended data codewords of the first `n` blocks, each of which was mended by at most `spare` error
--- correction codewords. Item i of `misread` is the number of misread codewords of block i, and `marks i` are the marks
--- of this block
-pub record AreMended (b : Blocks) (spare : ℕ) (d e : List ℕ) (marks : ℕ → List ℕ) (n : ℕ) (message misread : List ℕ) : Type 0 where
+-- correction codewords. Item i of `changed` counts the codewords of block i that are misread and erased, and `marks i`
+-- are the marks of this block
+pub record AreMended (b : Blocks) (spare : ℕ) (d e : List ℕ) (marks : ℕ → List ℕ) (n : ℕ) (message : List ℕ) (changed : List Changes) : Type 0 where
   pub long : length message ≡ start_of (data_sizes b) n
-  pub many : length misread ≡ n
-  pub each : (i : ℕ) → i < n → IsMendedBlock b spare (read_by (received b d e i) (marks i)) message (slice_index misread i) i
+  pub many : length changed ≡ n
+  pub each : (i : ℕ) → i < n → IsMendedBlock b spare (read_by (received b d e i) (marks i))
+      (received b d e i) message (slice_index_or changed i no_changes) i
 
 -- The interleaved codewords `cw` with the marks `marks` can be mended to the data codewords `message`. Item i of
--- `misread` is the number of misread codewords of block i, counted from 0
-pub record IsMendedMessage (b : Blocks) (spare : ℕ) (cw marks message misread : List ℕ) : Type 0 where
+-- `changed` counts the codewords of block i, counted from 0, that are misread and erased
+pub record IsMendedMessage (b : Blocks) (spare : ℕ) (cw marks message : List ℕ) (changed : List Changes) : Type 0 where
   pub codewords : List ℕ
   pub checks : List ℕ
   pub unread : List ℕ
   pub unread_checks : List ℕ
   pub in_blocks : AreInBlocks b cw codewords checks
   pub marked : AreInBlocks b marks unread unread_checks
-  pub mended : AreMended b spare codewords checks (received b unread unread_checks) (block_count (data_sizes b)) message misread
+  pub mended : AreMended b spare codewords checks (received b unread unread_checks) (block_count (data_sizes b)) message changed
 
 -- `corrections` lists the error correction codewords of all blocks, block by block, if `message` lists their data
 -- codewords

@@ -1,4 +1,4 @@
-use Rattle.std.proofs.Common.{rules, ◌∙◌, length, ap, arith}
+use Rattle.std.proofs.Common.{rules, ◌∙◌, length, sym, ap, arith}
 use Rattle.qr_mending.{specs.Erasures.{read_of, IsMendedWithErasures}, proofs.lemmas.block.erasures-one}
 use Rattle.qr_mending.proofs.lemmas.erasures.{read-none, length-read, erasures-marked, errors-self, unerased-mended, unerased-only, unerased-refused}
 use Rattle.qr_mending.proofs.erasures.mend_with_erasures.Goals as goal
@@ -36,12 +36,14 @@ returns-then-erasures-misread-clause-refused c = λ mended h.
 pub returns-clause-mended : goal.returns-clause-mended
 returns-clause-mended c =
     let codewords = c.args.codewords.now in
-    let after = c.copy_from_slice.ensures.after ∙ c.as_slice-3.ensures.value in
-    let misread = rw (c.as_slice-2.ensures.value, ← after) at c.count_misread-misread.ensures.value in (
+    let after = c.copy_from_slice.ensures.after ∙ c.as_slice-4.ensures.value in
+    let misread = rw (c.as_slice-2.ensures.value, ← after) at c.count_misread-misread.ensures.value in
+    let wrong = rw (c.as_slice-3.ensures.value, ← after) at c.count_erased_wrong-erased_wrong.ensures in
+    let marked = c.count_erased-erasures.ensures ∙ sym (erasures-marked codewords c.args.erased.now c.requires.marks) in (
       record {
         block = search rules;
         long = search (rules, length-read);
         few = search (rules, erasures-marked);
       },
-      misread,
+      cc (misread, wrong, marked),
     )

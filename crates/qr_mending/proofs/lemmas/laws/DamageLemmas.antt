@@ -1,6 +1,7 @@
 -- A damaged symbol of an input is mended to the input.
 use Rattle.qr_bits.specs.{Interpretation.MayWrite, Parsing.Content, declared.{interpretation.Interpretation.Interpretation, modes.Rule.Rule}}
 use Rattle.{qr_layout.specs.declared.level.Level.Level, qr_matrix.specs.Grid.Grid}
+use Rattle.qr_mending.specs.declared.erasures.Changes.{Changes}
 use Rattle.qr_mending.proofs.lemmas.{laws.SoundnessLemmas.wrong-one, mending.{mended-reading-one, mended-not-refused}}
 use Rattle.qr_mending.specs.Mending.{wrong_format_modules, wrong_modules, HasFormat, HasWrongModules, HoldsDamaged, IsDamagedForm, IsMendedReading, IsUnmended}
 use Rattle.qr_mending.specs.declared.mending.Mended.{Mended}
@@ -9,7 +10,7 @@ use Rattle.std.{proofs.Common.{◌≡◌, ℕ, ◌≤◌, List, arith}, specs.Pr
 use Rattle.qr_symbol.specs.declared.fault.ReadFault.TheVariants as fault
 
 -- a square that can be read with its damage mended is read so, unless memory is refused
-pub symbol-mended-as : (unknown : Grid) (g : Grid) (v : ℕ) (l : Level) (mask : ℕ) (content : Content) (changed : List ℕ) (r : Result Mended ReadFault) →
+pub symbol-mended-as : (unknown : Grid) (g : Grid) (v : ℕ) (l : Level) (mask : ℕ) (content : Content) (changed : List Changes) (r : Result Mended ReadFault) →
     IsMendedReading unknown g v l mask content changed →
     MatchResult r (λ m. IsMendedReading unknown g m.version m.level m.mask m.parsed m.changed.items) (IsUnmended unknown g) →
     MatchResult r (λ m. (m.version ≡ v) × (m.level ≡ l) × (m.mask ≡ mask) × (m.parsed ≡ content)) (λ e. e ≡ fault.Memory)
@@ -21,7 +22,7 @@ symbol-mended-as unknown g v l mask content changed (Err e) h k = search (arith,
 
 -- `g` is the symbol of the input `x`, and `h` a damaged form of it
 module _ (unknown : Grid) (smallest : ℕ) (l : Level) (rule : Rule) (how : Interpretation) (x : List ℕ) (v mask : ℕ) (g h : Grid)
-    (changed : List ℕ)
+    (changed : List Changes)
     (least : 1 ≤ smallest) (may : MayWrite how x) (s : IsSymbol smallest l rule how x v mask g) (side : h.side ≡ g.side)
     (f : HasFormat unknown v h l mask)
     (d : HoldsDamaged unknown v l mask h s.made.message changed) where

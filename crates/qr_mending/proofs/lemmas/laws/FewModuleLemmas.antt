@@ -1,6 +1,8 @@
 -- A symbol with few wrong modules is a damaged form of the symbol that it was.
 use Rattle.{qr_field.specs.Distance.{difference, differences}, qr_layout.specs.{Blocks.blocks_of, Format.format_word_of, Version.total_codewords_of}}
 use Rattle.{qr_layout.specs.declared.level.Level.Level, qr_matrix.specs.{BitRow.has_bit, Grid.{Grid, light}}}
+use Rattle.qr_mending.specs.declared.erasures.Changes.{Changes}
+use Rattle.qr_mending.proofs.lemmas.erasures.{unerased}
 use Rattle.qr_mending.proofs.lemmas.{format.bits-alike, laws.{DistanceLemmas.shown, ModuleLemmas.{interleaved-differences, items-differences}}}
 use Rattle.qr_mending.proofs.lemmas.{laws.UndamagedLemmas.{copy-light, final-in-blocks}, mending.sure-format, message.LightLemmas.light-mended}
 use Rattle.qr_mending.proofs.lemmas.message.{MarkLemmas.codewords-many, MessageLemmas.{in-blocks-one, item, items-in-blocks, received-all, received-map}}
@@ -24,7 +26,7 @@ few-format v l mask cw g h p q e f w =
 
 -- a square that differs from a symbol in few modules contains a damaged form of its message
 pub few-damaged : (v : ℕ) (l : Level) (mask : ℕ) (g h : Grid) (d : List ℕ) → 1 ≤ v → v ≤ 40 → IsMessage v l mask h d →
-    DifferInFewModules v l g h → (changed : List ℕ) × HoldsDamaged (light g.side) v l mask g d changed
+    DifferInFewModules v l g h → (changed : List Changes) × HoldsDamaged (light g.side) v l mask g d changed
 few-damaged v l mask g h d p q m w =
     let b = blocks_of v l in
     let own = data_sizes b in
@@ -53,7 +55,7 @@ few-damaged v l mask g h d p q m w =
     let all = received-all b (λ k. difference (item cw k) (item sent k) ≤ codeword_differences g h w.places k) n ks js i
     (λ k r. interleaved-differences v mask g h w.places cw sent k p q w.order read.1 m.read r) w.inside in
     search (arith, items-differences) in (
-      changed,
+      map unerased changed,
       record {
         codewords = cw;
         held = read.1;

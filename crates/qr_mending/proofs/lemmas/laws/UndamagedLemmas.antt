@@ -2,13 +2,14 @@
 use Rattle.{qr_bits.specs.Parsing.Content, qr_field.{proofs.Facts.correction-one, specs.Polynomial.IsCorrection}}
 use Rattle.qr_layout.specs.{Blocks.blocks_of, Format.format_word_of, declared.{blocks.Blocks.Blocks, level.Level.Level}}
 use Rattle.qr_matrix.specs.{BitRow.has_bit, Grid.{Grid, light, is_same}, Sums.count_below}
+use Rattle.qr_mending.{proofs.lemmas.erasures.unerased, specs.Message.no_changes}
 use Rattle.qr_mending.proofs.lemmas.{block.differences-same, format.bits-alike, mending.best, message.LightLemmas.{colour-light, light-mended}}
 use Rattle.qr_mending.specs.{Format.{bit_differences, copy_bit, copy_cost, IsNearFormat}, Mending.{HasFormat, IsMendedReading}}
 use Rattle.qr_mending.specs.{Message.{AreInBlocks, IsMendedIn}, declared.format.FormatCopy.{FormatCopy, TheVariants.{First, Second}}}
 use Rattle.qr_symbol.{proofs.Facts.{start-none, part-at, positions-many, checks-push, map-each, data-sizes-whole}, specs.Distance.blocks_in}
 use Rattle.qr_symbol.specs.Interleaving.{block_count, codeword_count, IsPosition, codeword_at, data_sizes, correction_sizes, block_of, check_at, IsFinalMessage, part_of, IsChecks}
 use Rattle.qr_symbol.specs.Reading.{IsFormat, IsRead, IsReading}
-use Rattle.std.proofs.Common.{◌≡◌, ℕ, zero, suc, ◌+◌, ◌*◌, ◌<◌, ◌≤◌, Bool, false, not, ◌&&◌, List, [], ◌++◌, map, length, get_or, refl, ap, ◌∙◌, arith}
+use Rattle.std.proofs.Common.{◌≡◌, ℕ, zero, suc, ◌+◌, ◌*◌, ◌<◌, ◌≤◌, Bool, false, not, ◌&&◌, List, [], ◌∷◌, ◌++◌, map, length, get_or, refl, sym, ap, ◌∙◌, arith}
 use Rattle.std.proofs.lemmas.List.{length-map, take_all, take_at, drop_at, length-replicate, get_or-replicate}
 use lib.ListN.{replicate}
 
@@ -51,15 +52,20 @@ final-in-blocks b d cw n h =
     let rest = positions-many sizes h.check_positions h.check_order in
     search (arith, length-map, drop_at, take_at, take_all)
 
+-- the changes of blocks of which no codeword is misread or erased
+map-unerased : (n : ℕ) → map unerased (replicate n 0) ≡ replicate n no_changes
+map-unerased zero = refl
+map-unerased (suc n) = ap (λ t. no_changes ∷ t) (map-unerased n)
+
 -- a final sequence is a damaged form of its message in which no codeword is changed
 final-mended : (v mask s : ℕ) (l : Level) (g : Grid) (d cw : List ℕ) → 1 ≤ v → v ≤ 40 → IsRead v mask g cw →
     length d ≡ codeword_count (data_sizes (blocks_of v l)) → IsFinalMessage (blocks_of v l) d cw →
-    IsMendedIn (light s) v l cw d (replicate (block_count (data_sizes (blocks_of v l))) 0)
+    IsMendedIn (light s) v l cw d (replicate (block_count (data_sizes (blocks_of v l))) no_changes)
 final-mended v mask s l g d cw p q r n h =
     let b = blocks_of v l in
     let own = data_sizes b in
     let w = final-in-blocks b d cw n h in
-    light-mended v mask s l g cw d w.checks d (replicate (block_count own) 0) p q r w.inside (record {
+    rw (sym (map-unerased (block_count own))) (light-mended v mask s l g cw d w.checks d (replicate (block_count own) 0) p q r w.inside (record {
       long = n;
       many = length-replicate (block_count own) 0;
       each = λ i k.
@@ -71,7 +77,7 @@ final-mended v mask s l g d cw p q r n h =
             few = omega arith;
             count = cc (differences-same (part_of own d i ++ c), w.same i k);
           };
-    })
+    }))
 
 -- ---- format information
 
@@ -125,5 +131,5 @@ format-exact g v l mask h = best (light g.side) g First v l mask (format-near g.
 
 -- a square that is read is mended with no codeword changed
 pub reading-mended : (g : Grid) (p : Content) → (h : IsReading g p) →
-    IsMendedReading (light g.side) g h.version h.level h.mask p (replicate (blocks_in h.version h.level) 0)
+    IsMendedReading (light g.side) g h.version h.level h.mask p (replicate (blocks_in h.version h.level) no_changes)
 reading-mended g p h = search (arith, format-exact, final-mended, data-sizes-whole)

@@ -4,11 +4,12 @@ use Rattle.{qr_bits.{proofs.Facts.length-bits_of, specs.Bits.{bits_of, field}}, 
 use Rattle.{qr_field.specs.{Distance.differences, Polynomial.IsCorrection}, qr_layout.proofs.Facts.{col-in, order-length, row-in}}
 use Rattle.qr_layout.specs.{Blocks.{blocks_of, correctable_of}, Region.InRegion, Version.{side_of, total_codewords_of}, declared.blocks.Blocks.Blocks}
 use Rattle.{qr_layout.specs.declared.{level.Level.Level, region.Place.Place}, qr_matrix.specs.{BitRow.has_bit, Grid.{Grid, colour, light, rows_of}}}
+use Rattle.qr_mending.{proofs.lemmas.erasures.{changes-unerased, unerased}, specs.Message.no_changes}
 use Rattle.qr_mending.proofs.lemmas.message.{MarkLemmas.codewords-many, MessageLemmas.{in-blocks-one, indices-some, item, items-in-blocks, received-map}}
 use Rattle.{qr_mending.specs.Message.{modules_of, read_at, received, IsMendedIn, AreInBlocks}, qr_symbol.proofs.Facts.{map-each, read-some}}
 use Rattle.qr_symbol.specs.{Interleaving.{block_count, codeword_count, data_sizes, part_of}, Reading.{IsRead, IsReadUnmasked}}
 use Rattle.std.proofs.Common.{◌≡◌, ◌||◌, Bool, false, ℕ, zero, suc, ◌==◌, ◌*◌, ◌+◌, ◌-◌, ◌%◌, ◌^◌, ◌<◌, ◌≤◌, inl, inr, Some, List, [], ◌∷◌, ◌++◌, map, take, length, get_or, refl, sym, ap, ◌∙◌, arith}
-use Rattle.std.proofs.{Math.Nat.zero-div, lemmas.{Bool.cases_lt, List.{length-map, length-replicate, length-take, Elements.{All-replicate, All-take}}}}
+use Rattle.std.proofs.{Math.Nat.zero-div, lemmas.{Bool.cases_lt, List.{get_or-map, length-map, length-replicate, length-take, Elements.{All-replicate, All-take}}}}
 use Rattle.std.specs.List.{list_any, range_with_len}
 use lib.ListN.{replicate}
 
@@ -138,7 +139,7 @@ pub record AreUnerasedBlocks (b : Blocks) (t : ℕ) (d e message changed : List 
 -- codewords whose blocks can be mended so, if all modules were read
 pub light-mended : (v mask s : ℕ) (l : Level) (g : Grid) (cw d e message changed : List ℕ) → 1 ≤ v → v ≤ 40 → IsRead v mask g cw →
     AreInBlocks (blocks_of v l) cw d e → AreUnerasedBlocks (blocks_of v l) (correctable_of v l) d e message changed →
-    IsMendedIn (light s) v l cw message changed
+    IsMendedIn (light s) v l cw message (map unerased changed)
 light-mended v mask s l g cw d e message changed p q h inside m =
     let b = blocks_of v l in
     let some = indices-some v l p q in
@@ -153,10 +154,18 @@ light-mended v mask s l g cw d e message changed p q h inside m =
       checks = js;
       inside = some.2;
       long = m.long;
-      many = m.many;
+      many = length-map changed unerased ∙ m.many;
       each = λ i r.
           let read = received b ks js i in
           let all : map (read_at (light s) h.places cw) read ≡ map (λ x. Some x) (received b d e i) =
           cc (all-read s h.places cw read, received-map b (item cw) ks js i) in
-          search (arith, erasures-read, errors-read);
+          let at : get_or (map unerased changed) i no_changes ≡ unerased (get_or changed i 0) = search (arith, get_or-map) in
+          let block = m.each i r in
+          let values : map (item cw) read ≡ received b d e i = cc (received-map b (item cw) ks js i) in
+          rw (at, all, values) (record {
+            correction = block.correction;
+            corrects = block.corrects;
+            few = omega (arith, erasures-read (received b d e i), block.few);
+            count = cc (block.count, changes-unerased (received b d e i) (received b d e i) _);
+          });
     }

@@ -7,6 +7,7 @@ use Rattle.qr_layout.specs.{declared.{level.Level.Level, region.Place.Place}, Bl
 use Rattle.qr_layout.proofs.Facts.{below, below-at, only-order, order-length}
 use Rattle.qr_bits.{specs.Bits.{bits_of, field}, proofs.Facts.{length-bits_of, length-field}}
 use Rattle.{qr_matrix.{proofs.Facts.same-same, specs.Grid.{Grid, colour, is_same}}, qr_symbol.specs.Reading.{unmasked, IsRead, IsReadUnmasked}}
+use Rattle.qr_mending.specs.declared.erasures.Changes.{Changes}
 use Rattle.qr_mending.specs.{Erasures.read_of, Steps.Message.{read_by, IsMendedMessage}, Message.{modules_of, read_at, received, IsMendedIn, AreIndices}}
 use Rattle.qr_mending.proofs.lemmas.message.MessageLemmas.{in-blocks-one, indices-some, item, items-in-blocks, received-all, received-map}
 
@@ -132,10 +133,10 @@ block-marked v l unknown cw marks ks js i p q h inside =
 -- ---- mending by marks is mending with the modules that were not read
 
 -- codewords that can be mended without the modules that were not read can be mended by their marks
-pub by-marks : (v : ℕ) (l : Level) (unknown : Grid) (cw marks message misread : List ℕ) → 1 ≤ v → v ≤ 40 →
-    length cw ≡ total_codewords_of v → IsReadUnmasked v unknown marks → IsMendedIn unknown v l cw message misread →
-    IsMendedMessage (blocks_of v l) (spare_of v l) cw marks message misread
-by-marks v l unknown cw marks message misread p q long h m =
+pub by-marks : (v : ℕ) (l : Level) (unknown : Grid) (cw marks message : List ℕ) (changed : List Changes) → 1 ≤ v → v ≤ 40 →
+    length cw ≡ total_codewords_of v → IsReadUnmasked v unknown marks → IsMendedIn unknown v l cw message changed →
+    IsMendedMessage (blocks_of v l) (spare_of v l) cw marks message changed
+by-marks v l unknown cw marks message changed p q long h m =
     let ks = m.indices in
     let js = m.checks in
     record {
@@ -151,16 +152,17 @@ by-marks v l unknown cw marks message misread p q long h m =
         each = λ i r.
             rw (
               block-marked v l unknown cw marks ks js i p q h m.inside,
+              received-map (blocks_of v l) (item cw) ks js i,
               only-order v h.places m.places h.order m.order,
             ) (m.each i r);
       };
     }
 
 -- codewords that can be mended by their marks can be mended without the modules that were not read
-pub of-marks : (v : ℕ) (l : Level) (unknown : Grid) (cw marks message misread : List ℕ) → 1 ≤ v → v ≤ 40 →
+pub of-marks : (v : ℕ) (l : Level) (unknown : Grid) (cw marks message : List ℕ) (changed : List Changes) → 1 ≤ v → v ≤ 40 →
     length cw ≡ total_codewords_of v → IsReadUnmasked v unknown marks →
-    IsMendedMessage (blocks_of v l) (spare_of v l) cw marks message misread → IsMendedIn unknown v l cw message misread
-of-marks v l unknown cw marks message misread p q long h m =
+    IsMendedMessage (blocks_of v l) (spare_of v l) cw marks message changed → IsMendedIn unknown v l cw message changed
+of-marks v l unknown cw marks message changed p q long h m =
     let b = blocks_of v l in
     let n = total_codewords_of v in
     let some = indices-some v l p q in
@@ -179,5 +181,7 @@ of-marks v l unknown cw marks message misread p q long h m =
       inside = inside;
       long = m.mended.long;
       many = m.mended.many;
-      each = search (arith, block-marked);
+      each = λ i r.
+          rw (x.0, x.1, y.0, y.1, block-marked v l unknown cw marks ks js i p q h inside, received-map b (item cw) ks js i) at
+          (m.mended.each i r);
     }

@@ -40,7 +40,7 @@ loop-block-preserved c =
     let back = c.in_ok-extend_from_slice-2.ensures.items ∙ ap (λ z. c.loop-block.corrections.items ++ z) cs in
     record {
       so_far = rw (front, c.in_ok-push.ensures.items) (mended-more b c.from-spare.result d.«data».items d.checks.items _ k
-          c.new-divisor.result old new c.in-Some.misread block mended.0 mended.1 c.loop-block.message.items c.loop-block.changed.items i.so_far);
+          c.new-divisor.result old new c.in-Some.changes block mended.0 mended.1 c.loop-block.message.items c.loop-block.changed.items i.so_far);
       checks = rw (front, back) (checks-block b c.loop-block.message.items c.loop-block.corrections.items (take n new) (drop n new)
           k block.within i.so_far.long (length-take-le n new (omega arith))
           (mended-corrects b c.from-spare.result d.«data».items d.checks.items k c.new-divisor.result old _ new block mended.0) i.checks);
@@ -72,7 +72,7 @@ returns-clause-corrections c =
     }
 
 pub returns-in_default-clause-refused : goal.returns-in_default-clause-refused
-returns-in_default-clause-refused c = λ e message misread h.
+returns-in_default-clause-refused c = λ e message changed h.
     let i = c.loop-block.invariant in
     let b = c.blocks-blocks.result in
     let d = c.in_ok-received.received in
@@ -86,5 +86,5 @@ returns-in_default-clause-refused c = λ e message misread h.
       long = c.in_ok-mended.ensures.len;
     })
     (rw (c.as_mut_slice.ensures.value, c.deref.ensures.value, c.in_ok-erased.ensures) at c.in_default.ensures.refused))
-    message misread
+    message changed
     (rw (← c.blocks-blocks.ensures, ← c.spare.ensures, ← c.from-spare.ensures, ← c.requires.codewords) at h)
