@@ -2,7 +2,7 @@
 -- module was not read. `v`, `l` and `mask` are the version, the level and the mask of the symbol, `message` its data
 -- codewords, and `changed` counts for each block the codewords that were misread and erased. A level and a mask are near
 -- to a copy of the format information if the copy costs at most 6 with them.
-use Rattle.std.specs.Prelude.{◌≡◌, ◌≢◌, ℕ, ◌+◌, ◌*◌, ◌≤◌, ◌||◌, Result, Ok, Err, List}
+use Rattle.std.specs.Prelude.{◌≡◌, ◌≢◌, ℕ, ◌+◌, ◌*◌, ◌≤◌, ◌||◌, min, Result, Ok, Err, List}
 use Rattle.qr_layout.specs.declared.level.Level.{Level}
 use Rattle.qr_layout.specs.Format.{format_word_of}
 use Rattle.qr_bits.specs.Bits.{bits_of}
@@ -83,6 +83,11 @@ wrong_bits unknown copy g l mask = unread_bits unknown copy + misread_bits unkno
 -- symbol has the level `l` and the mask `mask` (ISO/IEC 18004:2015, 7.9.1)
 abbrev pub wrong_format_modules : Grid → Grid → Level → ℕ → ℕ
 wrong_format_modules unknown g l mask = wrong_bits unknown First g l mask + wrong_bits unknown Second g l mask
+
+-- How many modules of the format information were not read or are misread in the copy that has fewer of them, if the
+-- undamaged symbol has the level `l` and the mask `mask` (ISO/IEC 18004:2015, 7.9.1)
+abbrev pub wrong_format_least : Grid → Grid → Level → ℕ → ℕ
+wrong_format_least unknown g l mask = min (wrong_bits unknown First g l mask) (wrong_bits unknown Second g l mask)
 
 -- How many modules of `g` were not read or have another colour than in the undamaged symbol `h` [own]
 unfoldable pub wrong_modules : Grid → Grid → Grid → ℕ

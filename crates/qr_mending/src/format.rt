@@ -10,7 +10,7 @@ ghost use Rattle.qr_matrix.specs.{BitRow.{has_bit}, Grid.{Grid}, Sums.{count_bel
 ghost use Rattle.qr_mending.specs.declared.format.FormatCopy.{FormatCopy};
 ghost use Rattle.qr_mending.specs.Format.{copy_place, format_cost, misread_bits, unread_bits, IsNearFormat};
 ghost use Rattle.qr_mending.specs.Steps.Format.{AreBitsOf};
-ghost use Rattle.qr_mending.specs.Mending.{wrong_format_modules};
+ghost use Rattle.qr_mending.specs.Mending.{wrong_format_least, wrong_format_modules};
 
 use crate::scan::Scan;
 use qr_layout::{
@@ -132,14 +132,26 @@ fn wrong_bits(scan: &Scan, copy: FormatCopy, word: u16) -> u8
     damage.unread + damage.misread
 }
 
-// How many of the 30 modules of both copies were not read or are misread.
-pub(crate) fn wrong_format_modules(scan: &Scan, level: Level, mask: u8) -> u8
+// How many modules of the format information were not read or are misread: of the 30 modules of both copies, and of the
+// 15 modules of the copy that has fewer of them.
+#[derive(Clone, Copy)]
+pub(crate) struct WrongFormat {
+    pub(crate) both: u8,
+    pub(crate) least: u8,
+}
+
+pub(crate) fn wrong_format(scan: &Scan, level: Level, mask: u8) -> WrongFormat
     requires mask_in { mask < 8 }
-    ensures { result ≡ wrong_format_modules scan.now.unknown.now scan.now.matrix.now level mask }
+    ensures both { result.both ≡ wrong_format_modules scan.now.unknown.now scan.now.matrix.now level mask }
+    ensures least { result.least ≡ wrong_format_least scan.now.unknown.now scan.now.matrix.now level mask }
 {
     let word = format_word(level, mask);
     let first = wrong_bits(scan, FormatCopy::First, word);
-    first + wrong_bits(scan, FormatCopy::Second, word)
+    let second = wrong_bits(scan, FormatCopy::Second, word);
+    WrongFormat {
+        both: first + second,
+        least: first.min(second),
+    }
 }
 
 // The sum of the costs of both copies.

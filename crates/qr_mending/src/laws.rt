@@ -12,10 +12,11 @@ ghost use Rattle.qr_bits.specs.declared.modes.Rule.{Rule};
 ghost use Rattle.qr_bits.specs.declared.interpretation.Interpretation.{Interpretation};
 ghost use Rattle.qr_bits.specs.Interpretation.{MayWrite};
 ghost use Rattle.qr_bits.specs.Parsing.{Content};
+ghost use Rattle.qr_bits.specs.declared.stream.Header.{Header};
 ghost use Rattle.qr_matrix.specs.Grid.{Grid, IsSquare, light, square};
 ghost use Rattle.qr_symbol.specs.declared.fault.ReadFault.{ReadFault};
 ghost use Rattle.qr_symbol.specs.Distance.{blocks_in};
-ghost use Rattle.qr_symbol.specs.Encoding.{IsSymbol};
+ghost use Rattle.qr_symbol.specs.Encoding.{IsSymbolAt};
 ghost use Rattle.qr_symbol.specs.declared.symbol.Symbol.{Symbol};
 ghost use Rattle.qr_symbol.specs.Joining.{IsJoined};
 ghost use Rattle.qr_symbol.specs.Reading.{interpreted_content, IsReading};
@@ -30,7 +31,7 @@ ghost use Rattle.qr_mending.specs.declared.format.FormatCopy.{FormatCopy};
 ghost use Rattle.qr_mending.specs.Format.{bit_differences, copy_cost, copy_place, format_cost, IsNearFormat};
 ghost use Rattle.qr_layout.specs.Blocks.{correctable_of, spare_of};
 ghost use Rattle.qr_mending.specs.Message.{no_changes, IsMendedIn};
-ghost use Rattle.qr_mending.specs.Mending.{wrong_format_modules, wrong_modules, HasFormat, HasWrongModules, HoldsDamaged, IsMendedReading, IsUnmended};
+ghost use Rattle.qr_mending.specs.Mending.{wrong_format_least, wrong_format_modules, wrong_modules, HasFormat, HasWrongModules, HoldsDamaged, IsMendedReading, IsUnmended};
 ghost use Rattle.qr_mending.specs.Modules.{DifferInFewModules};
 ghost use Rattle.qr_mending.specs.Series.{AreDamagedSquares, IsUnmendedSeries};
 
@@ -109,7 +110,8 @@ pub fn format_costs_compute()
         → (copy_cost unknown FormatCopy.First (light 21) Level.M 0 ≡ 11)
         × (copy_cost unknown FormatCopy.Second (light 21) Level.M 0 ≡ 10)
         × (format_cost unknown (light 21) Level.M 0 ≡ 21)
-        × (wrong_format_modules unknown (light 21) Level.M 0 ≡ 11) }
+        × (wrong_format_modules unknown (light 21) Level.M 0 ≡ 11)
+        × (wrong_format_least unknown (light 21) Level.M 0 ≡ 5) }
     ensures places { map (copy_place FormatCopy.Second 21) (0 ∷ 7 ∷ 8 ∷ 14 ∷ [])
         ≡ record { row = 8; col = 20 } ∷ record { row = 8; col = 13 } ∷ record { row = 14; col = 8 }
         ∷ record { row = 20; col = 8 } ∷ [] }
@@ -216,7 +218,7 @@ pub fn formats_are_found()
 {}
 
 /// Unless memory is refused, a damaged symbol is mended to exactly its input if its blocks can be mended, and if its
-/// level and mask are found. (`formats_are_found` states two cases in which they are found.) Modules that belong
+/// level and mask are found. The symbol may be one of a series, with a structured append header. (`formats_are_found` states two cases in which they are found.) Modules that belong
 /// neither to a codeword nor to the format information may have any colour. The counts of misread and erased codewords
 /// and the number of wrong modules are exact.
 pub fn damaged_symbols_are_mended(
@@ -225,28 +227,31 @@ pub fn damaged_symbols_are_mended(
     unknown: &Matrix,
 ) -> Result<Mended, ReadFault>
     requires { unknown.now.side ≡ damaged.now.side }
-    ensures { (smallest : ℕ) (l : Level) (rule : Rule) (i : Interpretation) (x : List ℕ) (v mask : ℕ) (g : Grid)
-        (changed : List Changes) → 1 ≤ smallest → MayWrite i x → (s : IsSymbol smallest l rule i x v mask g) → damaged.now.side ≡ g.side
-        → HasFormat unknown.now v damaged.now l mask
-        → HoldsDamaged unknown.now v l mask damaged.now s.made.message changed
+    ensures { (v : ℕ) (l : Level) (rule : Rule) (i : Interpretation) (x : List ℕ) (h : Option Header) (mask : ℕ) (g : Grid)
+        (changed : List Changes) → 1 ≤ v → v ≤ 40 → MayWrite i x → (s : IsSymbolAt v l rule i x h mask g)
+        → damaged.now.side ≡ g.side → HasFormat unknown.now v damaged.now l mask
+        → HoldsDamaged unknown.now v l mask damaged.now s.message changed
         → MatchResult result
         (λ m. (m.version ≡ v) × (m.level ≡ l) × (m.mask ≡ mask)
-        × (m.parsed ≡ interpreted_content i None s.made.segments x)
+        × (m.parsed ≡ interpreted_content i h s.segments x)
         × (m.changed.items ≡ changed) × (m.wrong_modules ≡ wrong_modules unknown.now damaged.now g)
-        × (m.wrong_format_modules ≡ wrong_format_modules unknown.now damaged.now l mask)) (λ e. e ≡ ReadFault.Memory) }
+        × (m.wrong_format_modules ≡ wrong_format_modules unknown.now damaged.now l mask)
+        × (m.wrong_format_least ≡ wrong_format_least unknown.now damaged.now l mask)) (λ e. e ≡ ReadFault.Memory) }
 {
     mend_symbol_with_unknown(alloc, damaged, unknown)
 }
 
 /// Unless memory is refused, a symbol is mended to exactly its input if few of its modules are wrong: at most six of
 /// the 30 modules of format information, and in each block at most as many modules as `Version::correctable` returns.
+/// The symbol may be one of a series, with a structured append header.
 /// Modules of function patterns, version information and remainder bits may have any colour.
 pub fn few_wrong_modules_are_mended(alloc: Global, damaged: &Matrix) -> Result<Mended, ReadFault>
-    ensures { (smallest : ℕ) (l : Level) (rule : Rule) (i : Interpretation) (x : List ℕ) (v mask : ℕ) (g : Grid)
-        → 1 ≤ smallest → MayWrite i x → (s : IsSymbol smallest l rule i x v mask g) → damaged.now.side ≡ g.side → DifferInFewModules v l damaged.now g
+    ensures { (v : ℕ) (l : Level) (rule : Rule) (i : Interpretation) (x : List ℕ) (h : Option Header) (mask : ℕ) (g : Grid)
+        → 1 ≤ v → v ≤ 40 → MayWrite i x → (s : IsSymbolAt v l rule i x h mask g) → damaged.now.side ≡ g.side
+        → DifferInFewModules v l damaged.now g
         → MatchResult result
         (λ m. (m.version ≡ v) × (m.level ≡ l) × (m.mask ≡ mask)
-        × (m.parsed ≡ interpreted_content i None s.made.segments x)) (λ e. e ≡ ReadFault.Memory) }
+        × (m.parsed ≡ interpreted_content i h s.segments x)) (λ e. e ≡ ReadFault.Memory) }
 {
     mend_symbol(alloc, damaged)
 }

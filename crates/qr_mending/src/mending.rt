@@ -12,10 +12,10 @@ ghost use Rattle.qr_symbol.specs.{Reading.{IsOfVersion, IsReadUnmasked}, Symbol.
 ghost use Rattle.qr_mending.specs.declared.format.FormatCopy.{FormatCopy};
 ghost use Rattle.qr_mending.specs.Format.{format_cost};
 ghost use Rattle.qr_mending.specs.Steps.{Mending.{IsMendedBy, IsMendedByEither, IsMendedWith}, Message.{list_of}};
-ghost use Rattle.qr_mending.specs.Mending.{wrong_format_modules, wrong_modules, HasWrongModules, IsMendedReading, IsOfNoUse, IsUnmended};
+ghost use Rattle.qr_mending.specs.Mending.{wrong_format_least, wrong_format_modules, wrong_modules, HasWrongModules, IsMendedReading, IsOfNoUse, IsUnmended};
 
 use crate::erasures::Changes;
-use crate::format::{FormatCopy, format_cost, near_format_of, wrong_format_modules};
+use crate::format::{FormatCopy, format_cost, near_format_of, wrong_format};
 use crate::message::{Marks, MendedBlocks, interleaved, mend_blocks, read_marks};
 use crate::scan::Scan;
 use qr_bits::{Parsed, parse};
@@ -203,6 +203,9 @@ pub struct Mended {
     pub parsed: Parsed,
     /// How many of the 30 modules in both copies of the format information are misread or were not read.
     pub wrong_format_modules: u8,
+    /// How many of the 15 modules are misread or were not read in the copy of the format information that has fewer of
+    /// them.
+    pub wrong_format_least: u8,
     /// How many modules of the whole symbol are misread or were not read. Those of function patterns, version
     /// information and remainder bits count too.
     pub wrong_modules: u32,
@@ -243,6 +246,7 @@ pub fn mend_symbol_with_unknown(
         (λ m. IsMendedReading unknown.now matrix.now m.version m.level m.mask m.parsed m.changed.items)
         (IsUnmended unknown.now matrix.now) }
     ensures format { IfOk result (λ m. m.wrong_format_modules ≡ wrong_format_modules unknown.now matrix.now m.level m.mask) }
+    ensures least { IfOk result (λ m. m.wrong_format_least ≡ wrong_format_least unknown.now matrix.now m.level m.mask) }
     ensures modules { IfOk result
         (λ m. HasWrongModules unknown.now matrix.now m.version m.level m.mask m.changed.items m.wrong_modules) }
 {
@@ -267,7 +271,7 @@ pub fn mend_symbol_with_unknown(
         },
     } = mended;
     let parsed = parse(alloc, &message, version)?;
-    let wrong_format_modules = wrong_format_modules(&scan, level, mask);
+    let wrong_format = wrong_format(&scan, level, mask);
     let codewords = interleaved(alloc, version, level, message, corrections)?;
     let wrong_modules = count_wrong_modules(alloc, &scan, level, mask, &codewords)?;
     Ok(Mended {
@@ -275,7 +279,8 @@ pub fn mend_symbol_with_unknown(
         level,
         mask,
         parsed,
-        wrong_format_modules,
+        wrong_format_modules: wrong_format.both,
+        wrong_format_least: wrong_format.least,
         wrong_modules,
         changed,
     })
@@ -293,6 +298,8 @@ pub fn mend_symbol(alloc: Global, matrix: &Matrix) -> Result<Mended, ReadFault>
         (IsUnmended (light matrix.now.side) matrix.now) }
     ensures format { IfOk result
         (λ m. m.wrong_format_modules ≡ wrong_format_modules (light matrix.now.side) matrix.now m.level m.mask) }
+    ensures least { IfOk result
+        (λ m. m.wrong_format_least ≡ wrong_format_least (light matrix.now.side) matrix.now m.level m.mask) }
     ensures modules { IfOk result (λ m. HasWrongModules (light matrix.now.side) matrix.now m.version m.level m.mask
         m.changed.items m.wrong_modules) }
 {
