@@ -128,6 +128,7 @@ struct qrproved_content {
 	uint8_t fnc1;        /* QRPROVED_FNC1_NONE to QRPROVED_FNC1_SECOND */
 	uint8_t application; /* with QRPROVED_FNC1_SECOND the application indicator: a number from 0 to 99, or the ASCII code of a
 	                      * letter plus 100; otherwise 0 */
+	uint8_t has_kanji;   /* 1 if a segment is in kanji mode, which writes characters of Shift JIS; otherwise 0 */
 };
 
 /* What a damaged symbol that was mended contains, besides its bytes and its ECI headers, and the counts of its damage. A field
@@ -143,12 +144,22 @@ struct qrproved_mended {
 	uint8_t parity;               /* the exclusive or of all bytes of the input of the series */
 	uint8_t fnc1;                 /* QRPROVED_FNC1_NONE to QRPROVED_FNC1_SECOND */
 	uint8_t application;          /* with QRPROVED_FNC1_SECOND the application indicator, otherwise 0 */
+	uint8_t has_kanji;            /* 1 if a segment is in kanji mode, otherwise 0 */
 	uint8_t level;                /* QRPROVED_LEVEL_L to QRPROVED_LEVEL_H */
 	uint8_t mask;                 /* from 0 to 7 */
 	uint8_t wrong_format_modules; /* number of the 30 modules of format information that are wrong or not known */
+	uint8_t wrong_format_least;   /* number of modules that are wrong or not known, of the 15 modules of the copy of the format
+	                               * information that has fewer of them; scanners read the copy if there are at most 3 */
 	uint8_t changed_most;         /* number of wrong codewords in the block with the most wrong codewords; codewords with a
 	                               * module that is not known do not count */
 	uint8_t changed_allowed;      /* number of codewords that may be wrong in each block, from 2 to 15 */
+	uint8_t spent_most;           /* the greatest e + 2w of a block, of which e codewords have a module that is not known, and w
+	                               * others are wrong; at most 2 * changed_allowed, and then nothing more can be mended */
+	uint8_t worst_misread;        /* w of the worst block, which is the first with the greatest e + w. A scanner takes a codeword
+	                               * as wrong if it has a module that is not known, so it reads the symbol only if
+	                               * worst_misread + worst_unknown is at most changed_allowed */
+	uint8_t worst_unknown;        /* e of the worst block */
+	uint8_t worst_unknown_wrong;  /* how many of these e codewords are wrong if each module that is not known is dark */
 };
 
 /* What a drawing that was parsed shows, besides the modules. */
@@ -189,7 +200,8 @@ QRPROVED_HOLDS(offsetof(struct qrproved_content, last) == 19);
 QRPROVED_HOLDS(offsetof(struct qrproved_content, parity) == 20);
 QRPROVED_HOLDS(offsetof(struct qrproved_content, fnc1) == 21);
 QRPROVED_HOLDS(offsetof(struct qrproved_content, application) == 22);
-QRPROVED_HOLDS(sizeof(struct qrproved_mended) == 32);
+QRPROVED_HOLDS(offsetof(struct qrproved_content, has_kanji) == 23);
+QRPROVED_HOLDS(sizeof(struct qrproved_mended) == 40);
 QRPROVED_HOLDS(offsetof(struct qrproved_mended, len) == 0);
 QRPROVED_HOLDS(offsetof(struct qrproved_mended, eci_count) == 8);
 QRPROVED_HOLDS(offsetof(struct qrproved_mended, wrong_modules) == 16);
@@ -200,11 +212,17 @@ QRPROVED_HOLDS(offsetof(struct qrproved_mended, last) == 23);
 QRPROVED_HOLDS(offsetof(struct qrproved_mended, parity) == 24);
 QRPROVED_HOLDS(offsetof(struct qrproved_mended, fnc1) == 25);
 QRPROVED_HOLDS(offsetof(struct qrproved_mended, application) == 26);
-QRPROVED_HOLDS(offsetof(struct qrproved_mended, level) == 27);
-QRPROVED_HOLDS(offsetof(struct qrproved_mended, mask) == 28);
-QRPROVED_HOLDS(offsetof(struct qrproved_mended, wrong_format_modules) == 29);
-QRPROVED_HOLDS(offsetof(struct qrproved_mended, changed_most) == 30);
-QRPROVED_HOLDS(offsetof(struct qrproved_mended, changed_allowed) == 31);
+QRPROVED_HOLDS(offsetof(struct qrproved_mended, has_kanji) == 27);
+QRPROVED_HOLDS(offsetof(struct qrproved_mended, level) == 28);
+QRPROVED_HOLDS(offsetof(struct qrproved_mended, mask) == 29);
+QRPROVED_HOLDS(offsetof(struct qrproved_mended, wrong_format_modules) == 30);
+QRPROVED_HOLDS(offsetof(struct qrproved_mended, wrong_format_least) == 31);
+QRPROVED_HOLDS(offsetof(struct qrproved_mended, changed_most) == 32);
+QRPROVED_HOLDS(offsetof(struct qrproved_mended, changed_allowed) == 33);
+QRPROVED_HOLDS(offsetof(struct qrproved_mended, spent_most) == 34);
+QRPROVED_HOLDS(offsetof(struct qrproved_mended, worst_misread) == 35);
+QRPROVED_HOLDS(offsetof(struct qrproved_mended, worst_unknown) == 36);
+QRPROVED_HOLDS(offsetof(struct qrproved_mended, worst_unknown_wrong) == 37);
 QRPROVED_HOLDS(sizeof(struct qrproved_drawn) == 4);
 QRPROVED_HOLDS(offsetof(struct qrproved_drawn, drawing) == 0);
 QRPROVED_HOLDS(offsetof(struct qrproved_drawn, margin) == 1);

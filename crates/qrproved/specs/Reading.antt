@@ -23,7 +23,7 @@ TellsHeader (Some h) has_header position last parity = (has_header ≡ 1) × (po
 
 -- The square is read, which yields `content`. After the call one buffer begins with the bytes of the content, and the
 -- other with its ECI headers, or with as many of these as the buffer has room for. `c` has the number of the bytes and
--- of all headers. It also has the version, the structured append header and FNC1 [own]
+-- of all headers. It also has the version, the structured append header, FNC1, and whether there are kanji [own]
 pub record IsGiven (modules : List ℕ) (side : ℕ) (before after : List ℕ) (ecis_before ecis_after : List QrprovedEci) (c : QrprovedContent) : Type 0 where
   pub whole : side * side ≤ length modules
   pub content : Content
@@ -33,7 +33,7 @@ pub record IsGiven (modules : List ℕ) (side : ℕ) (before after : List ℕ) (
   pub len : c.len ≡ length content.bytes
   pub version : side ≡ side_of c.version
   pub header : TellsHeader content.header c.has_header c.position c.last c.parity
-  pub interpretation : TellsInterpretation content ecis_before ecis_after c.eci_count c.fnc1 c.application
+  pub interpretation : TellsInterpretation content ecis_before ecis_after c.eci_count c.fnc1 c.application c.has_kanji
 
 -- There is a content for which `reads` holds, and which has more bytes than `buffer` has [own]
 abbrev pub HasMoreBytesBy : (Content → Type 0) → List ℕ → Type 0

@@ -1,9 +1,10 @@
 //! How the bytes of a symbol are to be interpreted: its ECI headers and its FNC1 (ISO/IEC 18004:2015, 7.4.2, 7.4.8).
 
 ghost use Rattle.std.specs.Prelude.{◌≡◌};
-ghost use Rattle.qrproved.specs.Interpretation.{HoldsEcis, TellsFnc1, told_eci};
+ghost use Rattle.std.specs.List.{list_any};
+ghost use Rattle.qrproved.specs.Interpretation.{HoldsEcis, TellsFnc1, is_kanji, told_eci};
 
-use qr_bits::{EciChange, Fnc1};
+use qr_bits::{EciChange, Fnc1, Item, Mode};
 
 /// An ECI header of a symbol that was read. The bytes of the content have this ECI from index `begin` up to the next
 /// header.
@@ -34,6 +35,22 @@ pub(crate) fn write_ecis(changes: &[EciChange], out: &mut [QrprovedEci])
     for i in 0..count {
         out[i] = told_eci(changes[i]);
     }
+}
+
+fn is_kanji(item: &Item) -> bool
+    ensures { result ≡ is_kanji item.now }
+{
+    match item {
+        Item::Data(segment) => matches!(segment.mode, Mode::Kanji),
+        _ => false,
+    }
+}
+
+/// Returns whether one of the items is a segment in kanji mode.
+pub(crate) fn has_kanji(items: &[Item]) -> bool
+    ensures { result ≡ list_any is_kanji items.now }
+{
+    items.iter().any(|item| is_kanji(item))
 }
 
 /// Returns (0, 0) without FNC1, (1, 0) for FNC1 in first position, and 2 with the application indicator for FNC1 in

@@ -1,16 +1,16 @@
 //! The call that reads a damaged symbol and measures its damage (ISO/IEC 18004:2015, 7.5.1, 7.9.1 and 12).
 
-ghost use Rattle.std.specs.Prelude.{true, ◌≡◌, ◌≢◌, ◌*◌, ◌<◌, ◌≤◌, ◌==◌, ◌↔◌, ◌⊎◌, length, IfOk, MatchBool, MatchResult};
+ghost use Rattle.std.specs.Prelude.{true, ◌≡◌, ◌≢◌, ◌+◌, ◌*◌, ◌<◌, ◌≤◌, ◌==◌, ◌↔◌, ◌⊎◌, length, IfOk, MatchBool, MatchResult};
 ghost use Rattle.std.specs.List.{All, Any};
 ghost use Rattle.qr_bits.specs.declared.fault.ParseFault.{ParseFault};
 ghost use Rattle.qr_symbol.specs.declared.fault.ReadFault.{ReadFault};
-ghost use Rattle.qr_mending.specs.Mending.{wrong_format_modules, HasWrongModules, IsMendedReading, IsUnmended};
+ghost use Rattle.qr_mending.specs.Mending.{wrong_format_least, wrong_format_modules, HasWrongModules, IsMendedReading, IsUnmended};
 ghost use Rattle.qr_layout.specs.Blocks.{correctable_of};
 ghost use Rattle.qr_bits.specs.Interpretation.{fnc1_of};
-ghost use Rattle.qrproved.specs.Interpretation.{TellsFnc1};
+ghost use Rattle.qrproved.specs.Interpretation.{TellsFnc1, TellsKanji};
 ghost use Rattle.qrproved.specs.Modules.{square_of_bytes};
 ghost use Rattle.qrproved.specs.Reading.{IsSide, TellsHeader};
-ghost use Rattle.qrproved.specs.Mending.{square_of_unknown, HasMoreMendedBytes, HasOtherByte, IsGivenMended, IsGreatest, IsUnmendedAt};
+ghost use Rattle.qrproved.specs.Mending.{spent_in, square_of_unknown, HasMoreMendedBytes, HasOtherByte, IsGivenMended, IsGreatest, IsUnmendedAt, IsWorstBlock, TellsWorstBlock};
 ghost use Rattle.qrproved.specs.Settings.{level_of};
 
 use crate::interpretation::{QrprovedEci, write_ecis};
@@ -23,7 +23,7 @@ use qr_mending::laws::{
     changes_are_bounded, mended_readings_are_not_refused, mended_readings_are_one,
     mending_refusals_are_one,
 };
-use qr_mending::{Mended, mend_symbol_with_unknown};
+use qr_mending::{Changes, Mended, mend_symbol_with_unknown};
 use qr_symbol::ReadFault;
 use std::alloc::Global;
 
@@ -54,17 +54,32 @@ pub struct QrprovedMended {
     pub fnc1: u8,
     /// The application indicator after FNC1 in second position, and otherwise 0.
     pub application: u8,
+    /// 1 if a segment is in kanji mode, whose bytes are Shift JIS, and otherwise 0.
+    pub has_kanji: u8,
     /// The level, 0 to 3 for L, M, Q and H.
     pub level: u8,
     /// The mask, 0 to 7.
     pub mask: u8,
     /// How many of the 30 modules of format information are misread or not known.
     pub wrong_format_modules: u8,
+    /// How many of its 15 modules are misread or not known in the copy of the format information that has fewer of them.
+    pub wrong_format_least: u8,
     /// The greatest number of codewords that were corrected in one block. A codeword with a module that is not known is
     /// not counted.
     pub changed_most: u8,
     /// How many misread codewords can be corrected in a block if all its modules are known, 2 to 15.
     pub changed_allowed: u8,
+    /// The most error correction codewords that were used up in one block, at most twice `changed_allowed`: one for each
+    /// codeword with a module that is not known, and two for each misread codeword.
+    pub spent_most: u8,
+    /// How many codewords were misread in the worst block, codewords with a module that is not known not counted. The
+    /// worst block has the most codewords that are misread or have a module that is not known. If several blocks have
+    /// the most, it is the first of them.
+    pub worst_misread: u8,
+    /// How many codewords of the worst block have a module that is not known.
+    pub worst_unknown: u8,
+    /// How many of the codewords counted by `worst_unknown` are wrong if each module that is not known is dark.
+    pub worst_unknown_wrong: u8,
 }
 
 // The byte that stands for a module that is not known.
@@ -94,6 +109,8 @@ fn mend_modules(alloc: Global, modules: &[u8], side: u8) -> Result<Mended, ReadF
         (IsUnmended (square_of_unknown side modules.now) (square_of_bytes side modules.now)) }
     ensures format { IfOk result (λ m. m.wrong_format_modules
         ≡ wrong_format_modules (square_of_unknown side modules.now) (square_of_bytes side modules.now) m.level m.mask) }
+    ensures least { IfOk result (λ m. m.wrong_format_least
+        ≡ wrong_format_least (square_of_unknown side modules.now) (square_of_bytes side modules.now) m.level m.mask) }
     ensures modules { IfOk result (λ m. HasWrongModules (square_of_unknown side modules.now)
         (square_of_bytes side modules.now) m.version m.level m.mask m.changed.items m.wrong_modules) }
 {
@@ -101,16 +118,47 @@ fn mend_modules(alloc: Global, modules: &[u8], side: u8) -> Result<Mended, ReadF
     mend_symbol_with_unknown(alloc, &matrix, &unknown)
 }
 
-fn greatest(numbers: &[usize]) -> usize
-    requires { 1 ≤ length numbers.now }
-    ensures { IsGreatest numbers.now result }
+// The damage of the blocks: the greatest number of misread codewords of a block, the most error correction codewords
+// that a block used up, and the index of the block with the most wrong codewords for a scanner.
+#[derive(Drop)]
+struct BlockDamage {
+    misread: usize,
+    spent: usize,
+    worst: usize,
+}
+
+fn damage_of(changed: &[Changes]) -> BlockDamage
+    requires some { 1 ≤ length changed.now }
+    requires few { All (λ c. (c.misread ≤ 15) × (c.erased + 2 * c.misread ≤ 30) × (c.erased_wrong ≤ c.erased)) changed.now }
+    ensures misread { IsGreatest (λ c. c.misread) changed.now (length changed.now) result.misread }
+    ensures spent { IsGreatest spent_in changed.now (length changed.now) result.spent }
+    ensures worst { IsWorstBlock changed.now (length changed.now) result.worst }
 {
-    numbers.iter().copied().max().unwrap_or(0)
+    let first = &changed[0];
+    let mut misread = first.misread;
+    let mut spent = first.erased + 2 * first.misread;
+    let mut worst = 0;
+    let mut wrong = first.erased + first.misread;
+    for i in 1..changed.len() {
+        let block = &changed[i];
+        misread = misread.max(block.misread);
+        spent = spent.max(block.erased + 2 * block.misread);
+        if block.erased + block.misread > wrong {
+            wrong = block.erased + block.misread;
+            worst = i;
+        }
+    }
+    BlockDamage {
+        misread,
+        spent,
+        worst,
+    }
 }
 
 fn mended_of(len: usize, mended: &Mended) -> QrprovedMended
     requires some { 1 ≤ length mended.now.changed.items }
-    requires few { All (λ n. n ≤ 15) mended.now.changed.items }
+    requires few { All (λ c. (c.misread ≤ 15) × (c.erased + 2 * c.misread ≤ 30) × (c.erased_wrong ≤ c.erased))
+        mended.now.changed.items }
     ensures len { result.len ≡ len }
     ensures wrong_modules { result.wrong_modules ≡ mended.now.wrong_modules }
     ensures version { result.version ≡ mended.now.version }
@@ -121,12 +169,18 @@ fn mended_of(len: usize, mended: &Mended) -> QrprovedMended
     ensures number { result.level < 4 }
     ensures level { level_of result.level ≡ mended.now.level }
     ensures mask { result.mask ≡ mended.now.mask }
+    ensures kanji { TellsKanji mended.now.parsed.items result.has_kanji }
     ensures wrong_format_modules { result.wrong_format_modules ≡ mended.now.wrong_format_modules }
-    ensures most { IsGreatest mended.now.changed.items result.changed_most }
+    ensures wrong_format_least { result.wrong_format_least ≡ mended.now.wrong_format_least }
+    ensures most { IsGreatest (λ c. c.misread) mended.now.changed.items (length mended.now.changed.items)
+        result.changed_most }
+    ensures spent { IsGreatest spent_in mended.now.changed.items (length mended.now.changed.items) result.spent_most }
+    ensures worst { TellsWorstBlock result mended.now.changed.items }
     ensures allowed { result.changed_allowed ≡ correctable_of mended.now.version mended.now.level }
 {
     let content = content_of(len, mended.version, &mended.parsed);
-    let most = greatest(&mended.changed);
+    let damage = damage_of(&mended.changed);
+    let worst = &mended.changed[damage.worst];
     QrprovedMended {
         len: content.len,
         eci_count: content.eci_count,
@@ -138,11 +192,17 @@ fn mended_of(len: usize, mended: &Mended) -> QrprovedMended
         parity: content.parity,
         fnc1: content.fnc1,
         application: content.application,
+        has_kanji: content.has_kanji,
         level: number_of_level(mended.level),
         mask: mended.mask,
         wrong_format_modules: mended.wrong_format_modules,
-        changed_most: most as u8,
+        wrong_format_least: mended.wrong_format_least,
+        changed_most: damage.misread as u8,
         changed_allowed: mended.version.correctable(mended.level),
+        spent_most: damage.spent as u8,
+        worst_misread: worst.misread as u8,
+        worst_unknown: worst.erased as u8,
+        worst_unknown_wrong: worst.erased_wrong as u8,
     }
 }
 
@@ -237,11 +297,17 @@ mod tests {
             parity: 9,
             fnc1: 9,
             application: 9,
+            has_kanji: 9,
             level: 9,
             mask: 9,
             wrong_format_modules: 9,
+            wrong_format_least: 9,
             changed_most: 9,
             changed_allowed: 9,
+            spent_most: 99,
+            worst_misread: 99,
+            worst_unknown: 99,
+            worst_unknown_wrong: 99,
         }
     }
 

@@ -5,10 +5,10 @@ ghost use Rattle.qr_layout.specs.Version.{side_of};
 ghost use Rattle.qr_bits.specs.declared.fault.ParseFault.{ParseFault};
 ghost use Rattle.qr_symbol.specs.declared.fault.ReadFault.{ReadFault};
 ghost use Rattle.qr_bits.specs.Interpretation.{fnc1_of};
-ghost use Rattle.qrproved.specs.Interpretation.{TellsFnc1};
+ghost use Rattle.qrproved.specs.Interpretation.{TellsFnc1, TellsKanji};
 ghost use Rattle.qrproved.specs.Reading.{HasMoreBytes, IsGiven, IsSide, IsUnreadAt, TellsHeader};
 
-use crate::interpretation::{QrprovedEci, fnc1_numbers, write_ecis};
+use crate::interpretation::{QrprovedEci, fnc1_numbers, has_kanji, write_ecis};
 use crate::modules::area;
 use crate::settings::between;
 use crate::status::{CHECK, DONE, FORMAT, MEMORY, ROOM, SEGMENTS, SIDE, read_status};
@@ -42,6 +42,8 @@ pub struct QrprovedContent {
     pub fnc1: u8,
     /// The application indicator after FNC1 in second position, and otherwise 0.
     pub application: u8,
+    /// 1 if a segment is in kanji mode, whose bytes are Shift JIS, and otherwise 0.
+    pub has_kanji: u8,
 }
 
 pub(crate) fn version_of_side(side: u32) -> Option<Version>
@@ -58,6 +60,7 @@ pub(crate) fn content_of(len: usize, version: Version, parsed: &Parsed) -> Qrpro
     ensures header { TellsHeader parsed.now.header result.has_header result.position result.last result.parity }
     ensures count { result.eci_count ≡ length parsed.now.ecis }
     ensures position { TellsFnc1 (fnc1_of parsed.now.items) result.fnc1 result.application }
+    ensures kanji { TellsKanji parsed.now.items result.has_kanji }
 {
     let told = parsed.header.unwrap_or(Header {
         position: 0,
@@ -75,6 +78,7 @@ pub(crate) fn content_of(len: usize, version: Version, parsed: &Parsed) -> Qrpro
         parity: told.parity,
         fnc1,
         application,
+        has_kanji: u8::from(has_kanji(&parsed.items)),
     }
 }
 

@@ -1,4 +1,4 @@
-use Rattle.{qr_matrix.specs.Grid.Grid, qr_mending.specs.Mending.{wrong_format_modules, IsMendedReading, IsUnmended}, qrproved.specs.Modules.square_of_bytes}
+use Rattle.{qr_matrix.specs.Grid.Grid, qr_mending.specs.Mending.{wrong_format_least, wrong_format_modules, IsMendedReading, IsUnmended}, qrproved.specs.Modules.square_of_bytes}
 use Rattle.std.{proofs.Common.{rules, ◌≡◌, subst}, specs.Prelude.{IfOk, MatchResult}}
 use Rattle.qrproved.proofs.mending.mend_modules.Goals as goal
 
@@ -12,6 +12,12 @@ pub returns-clause-format : goal.returns-clause-format
 returns-clause-format c =
     let g = square_of_bytes c.args.side c.args.modules.now in
     subst (λ (z : Grid). IfOk c.mend_symbol_with_unknown.result (λ m. m.wrong_format_modules ≡ wrong_format_modules z g m.level m.mask)) c.in_ok-matrix.ensures.unknown
+    (search rules)
+
+pub returns-clause-least : goal.returns-clause-least
+returns-clause-least c =
+    let g = square_of_bytes c.args.side c.args.modules.now in
+    subst (λ (z : Grid). IfOk c.mend_symbol_with_unknown.result (λ m. m.wrong_format_least ≡ wrong_format_least z g m.level m.mask)) c.in_ok-matrix.ensures.unknown
     (search rules)
 
 pub returns-clause-modules : goal.returns-clause-modules

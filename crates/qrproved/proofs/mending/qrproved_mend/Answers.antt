@@ -1,4 +1,4 @@
-use Rattle.{qr_bits.specs.Parsing.Content, qr_layout.specs.Blocks.correctable_of, qr_mending.specs.{Mending.IsMendedReading, declared.mending.Mended.Mended}}
+use Rattle.{qr_bits.specs.Parsing.Content, qr_layout.specs.Blocks.{correctable_of, spare_of}, qr_mending.specs.{Mending.IsMendedReading, declared.mending.Mended.Mended}}
 use Rattle.qrproved.proofs.lemmas.mending.{all-modules, few-changes, given-mended, more-bytes, no-other}
 use Rattle.qrproved.proofs.{lemmas.reading.{TellsFaults, refused, read, side-status, room-status}, mending.qrproved_mend.Goals.{In-Err, In-Ok}}
 use Rattle.qrproved.specs.{Mending.{square_of_unknown, AreModules, HasMoreMendedBytes, IsUnmendedAt}, Modules.square_of_bytes, Reading.IsSide}
@@ -84,9 +84,11 @@ mended_of-requires-clause-few c =
     let m = c.in-Ok.found in
     let r = found (goal.at.mended_of-requires-clause-few c).In-Ok in
     let bounds = c.changes_are_bounded.ensures in
-    few-changes m.changed.items (correctable_of m.version m.level)
+    few-changes m.changed.items (correctable_of m.version m.level) (spare_of m.version m.level)
     (bounds.correctable m.version m.level r.form.sized.least r.form.sized.most).1
+    (bounds.spare m.version m.level r.form.sized.least r.form.sized.most)
     (bounds.few _ _ m.version m.level m.mask m.parsed m.changed.items r)
+    (bounds.spent _ _ m.version m.level m.mask m.parsed m.changed.items r)
 
 pub returns-else-bytes-len-clause-done : goal.returns-else-bytes-len-clause-done
 returns-else-bytes-len-clause-done c =
@@ -104,6 +106,7 @@ returns-else-bytes-len-clause-done c =
       all = modules a;
       read = found a;
       format = rw same at c.in-Ok.ensures.format;
+      least = rw same at c.in-Ok.ensures.least;
       whole = rw same at c.in-Ok.ensures.modules;
     }) long c.if-bytes-len.false put t.len (record {
       wrong_modules = t.wrong_modules;
@@ -113,12 +116,16 @@ returns-else-bytes-len-clause-done c =
       level = t.level;
       mask = t.mask;
       wrong_format_modules = t.wrong_format_modules;
+      wrong_format_least = t.wrong_format_least;
       most = t.most;
+      spent = t.spent;
+      worst = t.worst;
       allowed = t.allowed;
     }) (record {
       ecis = search arith;
       count = t.count;
       position = t.position;
+      kanji = t.kanji;
     })
 
 pub returns-else-bytes-len-clause-room : goal.returns-else-bytes-len-clause-room
