@@ -69,40 +69,29 @@ fn candidate(remainder: &[u8], spare: usize, erased: &[bool], damaged: &[u8]) ->
     without_errors(both.as_slice(), first.as_slice(), damaged)
 }
 
-// Counts the codewords that are not erased, and differ from those of the mended block. The loop runs from the last
-// index to the first, because the definition `errors` is recursive, and computes its value for two lists from that for
-// their tails.
+// Counts the codewords that differ from those of the mended block: first those that are not erased, and then those that
+// are. The loop runs from the last index to the first, because the definitions `errors` and `erased_errors` are
+// recursive, and compute their values for two lists from those for their tails.
 #[tactic(auto, using(crate::proofs::Named::erasure_facts))]
-fn count_misread(codewords: &[u8], erased: &[bool], mended: &[u8]) -> usize
+fn count_wrong(codewords: &[u8], erased: &[bool], mended: &[u8]) -> (usize, usize)
     requires marks { length erased.now ≡ length codewords.now }
     requires long { length mended.now ≡ length codewords.now }
-    ensures most { result ≤ length codewords.now }
-    ensures value { result ≡ errors (read_of codewords.now erased.now) mended.now }
+    ensures most { result.0 ≤ length codewords.now }
+    ensures misread { result.0 ≡ errors (read_of codewords.now erased.now) mended.now }
+    ensures erased { result.1 ≡ erased_errors (read_of codewords.now erased.now) codewords.now mended.now }
 {
-    let mut count = 0;
+    let mut misread = 0;
+    let mut erased_wrong = 0;
     for k in (0..codewords.len()).rev() {
-        if !erased[k] && codewords[k] != mended[k] {
-            count += 1;
+        if codewords[k] != mended[k] {
+            if erased[k] {
+                erased_wrong += 1;
+            } else {
+                misread += 1;
+            }
         }
     }
-    count
-}
-
-// Counts the erased codewords whose value differs from that in the mended block. The loop runs from the last index to
-// the first for the same reason as that of `count_misread`.
-#[tactic(auto, using(crate::proofs::Named::erasure_facts))]
-fn count_erased_wrong(codewords: &[u8], erased: &[bool], mended: &[u8]) -> usize
-    requires marks { length erased.now ≡ length codewords.now }
-    requires long { length mended.now ≡ length codewords.now }
-    ensures { result ≡ erased_errors (read_of codewords.now erased.now) codewords.now mended.now }
-{
-    let mut count = 0;
-    for k in (0..codewords.len()).rev() {
-        if erased[k] && codewords[k] != mended[k] {
-            count += 1;
-        }
-    }
-    count
+    (misread, erased_wrong)
 }
 
 /// How many codewords of a damaged block were misread and erased.
@@ -184,11 +173,10 @@ pub fn mend_with_erasures(
         });
     };
     let mended = candidate(remainder.as_slice(), spare, erased, codewords);
-    let misread = count_misread(codewords, erased, mended.as_slice());
+    let (misread, erased_wrong) = count_wrong(codewords, erased, mended.as_slice());
     if erasures + 2 * misread > spare || !is_block(divisor, mended.as_slice()) {
         return None;
     }
-    let erased_wrong = count_erased_wrong(codewords, erased, mended.as_slice());
     codewords.copy_from_slice(mended.as_slice());
     Some(Changes {
         misread,

@@ -36,9 +36,9 @@ returns-then-erasures-misread-clause-refused c = λ mended h.
 pub returns-clause-mended : goal.returns-clause-mended
 returns-clause-mended c =
     let codewords = c.args.codewords.now in
-    let after = c.copy_from_slice.ensures.after ∙ c.as_slice-4.ensures.value in
-    let misread = rw (c.as_slice-2.ensures.value, ← after) at c.count_misread-misread.ensures.value in
-    let wrong = rw (c.as_slice-3.ensures.value, ← after) at c.count_erased_wrong-erased_wrong.ensures in
+    let after = c.copy_from_slice.ensures.after ∙ c.as_slice-3.ensures.value in
+    let misread = rw (c.as_slice-2.ensures.value, ← after) at c.count_wrong-misread.ensures.misread in
+    let wrong = rw (c.as_slice-2.ensures.value, ← after) at c.count_wrong-misread.ensures.erased in
     let marked = c.count_erased-erasures.ensures ∙ sym (erasures-marked codewords c.args.erased.now c.requires.marks) in (
       record {
         block = search rules;

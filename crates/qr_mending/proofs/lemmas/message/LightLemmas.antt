@@ -1,6 +1,6 @@
 -- A symbol of which all modules were read: its marks are 0, no codeword is erased, and its blocks are mended as blocks
 -- of which every codeword was read.
-use Rattle.{qr_bits.{proofs.Facts.length-bits_of, specs.Bits.{bits_of, field}}, qr_field.proofs.lemmas.laws.DistanceLemmas.{erasures-read, errors-read}}
+use Rattle.{qr_bits.{proofs.Facts.length-bits_of, specs.Bits.{bits_of, field}}, qr_field.proofs.lemmas.laws.DistanceLemmas.{erasures-read}}
 use Rattle.{qr_field.specs.{Distance.differences, Polynomial.IsCorrection}, qr_layout.proofs.Facts.{col-in, order-length, row-in}}
 use Rattle.qr_layout.specs.{Blocks.{blocks_of, correctable_of}, Region.InRegion, Version.{side_of, total_codewords_of}, declared.blocks.Blocks.Blocks}
 use Rattle.{qr_layout.specs.declared.{level.Level.Level, region.Place.Place}, qr_matrix.specs.{BitRow.has_bit, Grid.{Grid, colour, light, rows_of}}}
