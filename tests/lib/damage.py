@@ -3,7 +3,7 @@ the same on every machine."""
 import random
 
 import squares
-from squares import LEVELS, Unparsed, allowed, differences, format_word, interleaved, layout, reading, square_of
+from squares import LEVELS, Unparsed, allowed, damage_of, format_word, interleaved, layout, reading, square_of
 
 AUTO = 0  # the number of the rule
 
@@ -53,8 +53,10 @@ def input_of(version, level):
 
 def wanted_of(data, version, level, mask, **others):
     """Returns what is told of the sound symbol of an input, but for the fields that are given."""
-    fields = {**squares.Said(data).fields(), "version": version, "level": LEVELS.index(level), "mask": mask, "wrong_modules": 0,
-              "wrong_format_modules": 0, "changed_most": 0, "changed_allowed": allowed(version, level)}
+    none = dict.fromkeys(("wrong_modules", "wrong_format_modules", "wrong_format_least", "changed_most", "spent_most", "worst_misread",
+                          "worst_unknown", "worst_unknown_wrong"), 0)
+    fields = {**squares.Said(data).fields(), "version": version, "level": LEVELS.index(level), "mask": mask, **none,
+              "changed_allowed": allowed(version, level)}
     return {**fields, **others}
 
 
@@ -123,10 +125,15 @@ class Case:
         self.outside = {"function patterns": list(at.patterns), "version information": sum(at.version_copies, []),
                         "remainder bits": at.remainder}
 
+    def told(self, square, wrong_modules, wrong_format_modules, changed_most):
+        """Returns a damaged square, and the result that mending it should have. The model compares the square with the
+        symbol, and the numbers that are passed are those that the damage was made of."""
+        return square, {**self.wanted, **damage_of(square, self.square, self.version, self.level), "wrong_modules": wrong_modules,
+                        "wrong_format_modules": wrong_format_modules, "changed_most": changed_most}
+
     def damaged(self, places, wrong_format_modules, changed_most):
         """Returns the square with these modules inverted, and the result that mending it should have."""
-        return inverted(self.square, places), {**self.wanted, "wrong_modules": len(places),
-                                               "wrong_format_modules": wrong_format_modules, "changed_most": changed_most}
+        return self.told(inverted(self.square, places), len(places), wrong_format_modules, changed_most)
 
     def codewords_wrong(self, *more):
         """Returns modules that make as many codewords of each block wrong as can be mended. In the first blocks as many
@@ -178,7 +185,7 @@ class Case:
             if max(map(erased.count, erased), default=0) > squares.spendable(self.version, self.level) or min(copies) and sum(copies) > 13:
                 break
             places, of_format = corner, sum(copies)
-        return unread(self.square, places), {**self.wanted, "wrong_modules": len(places), "wrong_format_modules": of_format}
+        return self.told(unread(self.square, places), len(places), of_format, 0)
 
     def toward_another_level(self, copy):
         """Only modules of the format information are wrong, at most six. They make one copy near to the format
@@ -200,8 +207,9 @@ class Case:
         are wrong as can be mended."""
         wrong = self.numbers.below(7)
         places = self.numbers.some(self.first + self.second, 13 - wrong)
-        square, wanted = self.damaged(self.codewords_wrong() + places[:wrong], 13 - wrong, self.bound)
-        return unread(square, places[wrong:]), {**wanted, "wrong_modules": wanted["wrong_modules"] + 13 - 2 * wrong}
+        inverted_places = self.codewords_wrong() + places[:wrong]
+        square = unread(inverted(self.square, inverted_places), places[wrong:])
+        return self.told(square, len(inverted_places) + 13 - 2 * wrong, 13 - wrong, self.bound)
 
     def one_more(self):
         """One more codeword of a block is wrong than can be mended. The model says what is wanted."""
@@ -233,9 +241,9 @@ class Case:
             said = squares.parsed(bytes(data), self.version)
         except Unparsed:
             return square, "SEGMENTS"
-        wanted = {**self.wanted, **said.fields(), "wrong_format_modules": 3, "changed_most": self.bound,
-                  "wrong_modules": differences(square, square_of(self.version, self.level, self.mask, other))}
-        return square, wanted
+        whole = square_of(self.version, self.level, self.mask, other)
+        return square, {**self.wanted, **said.fields(), **damage_of(square, whole, self.version, self.level),
+                        "wrong_format_modules": 3, "changed_most": self.bound}
 
     def not_known(self, more=0):
         """In each block some codewords have modules that are not known, and others are wrong, as many as can be mended.
@@ -248,8 +256,8 @@ class Case:
             for i in chosen[count:]:
                 unknown += self.numbers.some(region[8 * i:8 * i + 8], 1 + self.numbers.below(8))
             most = max(most, count)
-        square, wanted = self.damaged(places_of(self.version, wrong), 0, most)
-        return unread(square, unknown), {**wanted, "wrong_modules": wanted["wrong_modules"] + len(unknown)}
+        inverted_places = places_of(self.version, wrong)
+        return self.told(unread(inverted(self.square, inverted_places), unknown), len(inverted_places) + len(unknown), 0, most)
 
     def one_more_not_known(self):
         """One more codeword of the first block has modules that are not known than can be mended. The model says what
@@ -260,14 +268,14 @@ class Case:
     def first_copy_not_known(self):
         """No module of the first copy of the format information is known, and in the second three are wrong or six not known."""
         if self.numbers.below(2):
-            square, wanted = self.damaged(self.numbers.some(self.second, 3), 18, 0)
-            return unread(square, self.first), {**wanted, "wrong_modules": 18}
+            square = inverted(self.square, self.numbers.some(self.second, 3))
+            return self.told(unread(square, self.first), 18, 18, 0)
         places = self.first + self.numbers.some(self.second, 6)
-        return unread(self.square, places), {**self.wanted, "wrong_modules": 21, "wrong_format_modules": 21}
+        return self.told(unread(self.square, places), 21, 21, 0)
 
     def outside_not_known(self):
         places = sum(self.outside.values(), [])
-        return unread(self.square, places), {**self.wanted, "wrong_modules": len(places)}
+        return self.told(unread(self.square, places), len(places), 0, 0)
 
     def no_format(self):
         return inverted(self.square, to_word(self.square, self.version, 0, far_word(self.numbers))

@@ -83,7 +83,7 @@ class Series(ctypes.Structure):
     _fields_ = bytes_of("count", "side")
 
 
-HEADED = ("version", "has_header", "position", "last", "parity", "fnc1", "application")
+HEADED = ("version", "has_header", "position", "last", "parity", "fnc1", "application", "has_kanji")
 
 
 class Eci(ctypes.Structure):
@@ -96,7 +96,8 @@ class Content(ctypes.Structure):
 
 class Mended(ctypes.Structure):
     _fields_ = [("len", ctypes.c_size_t), ("eci_count", ctypes.c_size_t), ("wrong_modules", ctypes.c_uint32),
-                *bytes_of(*HEADED, "level", "mask", "wrong_format_modules", "changed_most", "changed_allowed")]
+                *bytes_of(*HEADED, "level", "mask", "wrong_format_modules", "wrong_format_least", "changed_most", "changed_allowed",
+                          "spent_most", "worst_misread", "worst_unknown", "worst_unknown_wrong")]
 
 
 class Drawn(ctypes.Structure):

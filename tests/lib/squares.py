@@ -336,18 +336,19 @@ def after_fnc1(text):
 
 class Said(NamedTuple):
     """What data codewords say: bytes, a header of position, symbols less 1 and parity, or None, the bytes before each ECI header
-    with its number, and the position of FNC1 with its application indicator, or zeros."""
+    with its number, the position of FNC1 with its application indicator, or zeros, and 1 if a segment is in kanji mode."""
 
     text: bytes = b""
     header: Optional[tuple] = None
     ecis: tuple = ()
     fnc1: tuple = (0, 0)
+    kanji: int = 0
 
     def fields(self):
         """Returns them in the words of the library's struct."""
         return {"bytes": self.text, "len": len(self.text), "ecis": list(self.ecis), "eci_count": len(self.ecis),
                 "has_header": int(self.header is not None), **dict(zip(("position", "last", "parity"), self.header or (0, 0, 0))),
-                **dict(zip(("fnc1", "application"), self.fnc1))}
+                **dict(zip(("fnc1", "application"), self.fnc1)), "has_kanji": self.kanji}
 
 
 def parsed(data, version):
@@ -373,7 +374,7 @@ def parsed(data, version):
         else:
             raise Unparsed("mode")
         before.add(mode)
-    return Said(text, header, tuple(ecis), fnc1)
+    return Said(text, header, tuple(ecis), fnc1, int(8 in before))
 
 
 # ---- the reading of a damaged square
@@ -425,6 +426,23 @@ def differences(a, b):
     return sum(map(operator.ne, a, b))
 
 
+def damage_of(given, whole, version, level):
+    """Compares a damaged square with the symbol that it was, and returns its damage in the fields of the library's struct.
+    A module of the damaged square is 0, 1, or 2 if it is not known, and then it counts as dark in a codeword."""
+    formats = [sum(given[place] != whole[place] for place in copy) for copy in layout(version).formats]
+    erased = erased_in(given, version)
+    other = {k // 8 for k, place in enumerate(layout(version).region) if min(given[place], 1) != whole[place]}
+    counts = [(len(other & set(block) - erased), len(erased & set(block)), len(erased & other & set(block)))
+              for block in blocks(version, level)]
+    worst = max(counts, key=lambda count: count[0] + count[1])
+    return {
+        "wrong_modules": differences(given, whole), "wrong_format_modules": sum(formats), "wrong_format_least": min(formats),
+        "changed_most": max(misread for misread, _, _ in counts), "changed_allowed": allowed(version, level),
+        "spent_most": max(unknown + 2 * misread for misread, unknown, _ in counts),
+        **dict(zip(("worst_misread", "worst_unknown", "worst_unknown_wrong"), worst)),
+    }
+
+
 def reading(given, version):
     """Returns what a damaged square says, in the fields of the library's struct, or the name of the status. A module is
     0, 1, or 2 if it is not known."""
@@ -444,10 +462,5 @@ def reading(given, version):
     except Unparsed:
         return "SEGMENTS"
     whole = square_of(version, level, mask, codewords)
-    formats = sum(layout(version).formats, [])
-    return {
-        **said.fields(), "version": version, "level": LEVELS.index(level), "mask": mask,
-        "wrong_modules": differences(given, whole),
-        "wrong_format_modules": sum(given[place] != whole[place] for place in formats),
-        "changed_most": max(changed), "changed_allowed": allowed(version, level),
-    }
+    return {**said.fields(), "version": version, "level": LEVELS.index(level), "mask": mask,
+            **damage_of(given, whole, version, level), "changed_most": max(changed)}
