@@ -4,7 +4,7 @@
 //! `format.rt` says what a copy of the format information costs, and when a level and a mask are near to it. A codeword
 //! is erased if it is known to be unreadable, and misread if it was read with a wrong value.
 
-ghost use Rattle.std.specs.Prelude.{◌≡◌, ◌≢◌, ◌↔◌, ◌⊎◌, Err, ℕ, ◌+◌, ◌*◌, ◌/◌, ◌<◌, ◌≤◌, ◌==◌, ◌&&◌, false, List, [], ◌∷◌, map, length, replicate, Option, None, MatchResult};
+ghost use Rattle.std.specs.Prelude.{◌≡◌, ◌≢◌, ◌↔◌, ◌⊎◌, Err, ℕ, ◌+◌, ◌*◌, ◌/◌, ◌<◌, ◌≤◌, ◌==◌, ◌&&◌, false, List, [], ◌∷◌, map, length, replicate, Option, None, Some, MatchResult};
 ghost use Rattle.std.specs.List.{All};
 ghost use Rattle.qr_layout.specs.declared.level.Level.{Level};
 ghost use Rattle.qr_layout.specs.Format.{format_word_of};
@@ -25,7 +25,7 @@ ghost use Rattle.qr_matrix.specs.BitRow.{has_bit};
 ghost use Rattle.qr_symbol.specs.Symbol.{grid_of};
 ghost use Rattle.qr_mending.specs.Block.{IsBlock, IsMended};
 ghost use Rattle.qr_mending.specs.declared.erasures.Changes.{Changes};
-ghost use Rattle.qr_mending.specs.Erasures.{read_of, IsMendedWithErasures};
+ghost use Rattle.qr_mending.specs.Erasures.{changes_of, read_of, IsMendedWithErasures};
 ghost use Rattle.qr_mending.specs.Distance.{SymbolsLieApart};
 ghost use Rattle.qr_mending.specs.declared.format.FormatCopy.{FormatCopy};
 ghost use Rattle.qr_mending.specs.Format.{bit_differences, copy_cost, copy_place, format_cost, IsNearFormat};
@@ -115,6 +115,13 @@ pub fn format_costs_compute()
     ensures places { map (copy_place FormatCopy.Second 21) (0 ∷ 7 ∷ 8 ∷ 14 ∷ [])
         ≡ record { row = 8; col = 20 } ∷ record { row = 8; col = 13 } ∷ record { row = 14; col = 8 }
         ∷ record { row = 20; col = 8 } ∷ [] }
+{}
+
+/// Four codewords of a block are compared with the mended block. The first and the third are erased, and one of these has
+/// another value than it should have. Of the other two, one is misread.
+pub fn changes_compute()
+    ensures { changes_of (None ∷ Some 5 ∷ None ∷ Some 7 ∷ []) (1 ∷ 5 ∷ 3 ∷ 7 ∷ []) (1 ∷ 6 ∷ 4 ∷ 7 ∷ [])
+        ≡ record { misread = 1; erased = 2; erased_wrong = 1 } }
 {}
 
 /// With a given version and level, the codewords of a damaged symbol are mended to at most one message. For each block,

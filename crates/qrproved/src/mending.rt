@@ -344,18 +344,29 @@ mod tests {
     fn eight_digits_are_mended(rt: HostRuntime) -> Result<(), Fail> {
         let drawn = eight_digits(&rt)?;
         let rows = [
-            ("as drawn", &[][..], (0, 0, 0)),
+            ("as drawn", &[][..], (0, 0, 0), (0, 0)),
             (
                 "a module of the timing pattern",
                 &[(6u8, 9u8)][..],
                 (1, 0, 0),
+                (0, 0),
             ),
-            ("one of the format information", &FORMATS[..1], (1, 1, 0)),
-            ("seven of the format information", &FORMATS[..7], (7, 7, 0)),
-            ("a codeword", &CODEWORDS[..1], (1, 0, 1)),
-            ("four codewords", &CODEWORDS[..4], (4, 0, 4)),
+            (
+                "one of the format information",
+                &FORMATS[..1],
+                (1, 1, 0),
+                (0, 0),
+            ),
+            (
+                "seven of the format information",
+                &FORMATS[..7],
+                (7, 7, 0),
+                (3, 0),
+            ),
+            ("a codeword", &CODEWORDS[..1], (1, 0, 1), (0, 2)),
+            ("four codewords", &CODEWORDS[..4], (4, 0, 4), (0, 8)),
         ];
-        for (name, places, (wrong, wrong_format, changed)) in rows {
+        for (name, places, (wrong, wrong_format, changed), (least, spent)) in rows {
             let modules = inverted(drawn, places)?;
             let mut bytes = [7u8; 10];
             let mut mended = nothing();
@@ -369,11 +380,19 @@ mod tests {
             );
             check_eq!(rt; mended.wrong_modules, wrong, "{name}");
             check_eq!(rt; mended.wrong_format_modules, wrong_format, "{name}");
+            check_eq!(rt; mended.wrong_format_least, least, "{name}");
             check_eq!(rt;
                 (mended.changed_most, mended.changed_allowed),
                 (changed, 4),
                 "{name}"
             );
+            check_eq!(rt; mended.spent_most, spent, "{name}");
+            check_eq!(rt;
+                (mended.worst_misread, mended.worst_unknown),
+                (changed, 0),
+                "{name}"
+            );
+            check_eq!(rt; mended.has_kanji, 0, "{name}");
             check!(rt; mended.mask < 8 && mended.has_header == 0 && mended.position == 0);
             check_eq!(rt; (mended.last, mended.parity), (0, 0), "{name}");
         }
@@ -386,27 +405,30 @@ mod tests {
     fn modules_that_are_not_known(rt: HostRuntime) -> Result<(), Fail> {
         let drawn = eight_digits(&rt)?;
         let rows = [
-            ("five", &FORMATS[..0], DONE, (5, 0, 0)),
+            ("five", &FORMATS[..0], DONE, (5, 0, 0), (5, 0, 5)),
             (
                 "five, and one misread",
                 &[(20u8, 16u8)][..],
                 DONE,
                 (6, 0, 1),
+                (7, 1, 5),
             ),
             (
                 "five, and two misread",
                 &[(20, 16), (16, 16)][..],
                 CHECK,
                 (99, 9, 9),
+                (99, 99, 99),
             ),
             (
                 "five, and a module of the format information",
                 &FORMATS[..1],
                 DONE,
                 (6, 1, 0),
+                (5, 0, 5),
             ),
         ];
-        for (name, places, wanted, (wrong, wrong_format, changed)) in rows {
+        for (name, places, wanted, (wrong, wrong_format, changed), (spent, misread, unknown)) in rows {
             let mut modules = inverted(drawn, places)?;
             for (row, col) in CODEWORDS {
                 let place = 21 * usize::from(row) + usize::from(col);
@@ -422,6 +444,12 @@ mod tests {
             check_eq!(rt; mended.wrong_modules, wrong, "{name}");
             check_eq!(rt; mended.wrong_format_modules, wrong_format, "{name}");
             check_eq!(rt; mended.changed_most, changed, "{name}");
+            check_eq!(rt; mended.spent_most, spent, "{name}");
+            check_eq!(rt;
+                (mended.worst_misread, mended.worst_unknown),
+                (misread, unknown),
+                "{name}"
+            );
         }
         Ok(())
     }

@@ -47,15 +47,15 @@ fn block_of_eight_digits_damaged(rt: HostRuntime) {
 }
 
 // Mends the block of the input `01234567` at version 1 and level M: the codewords in `unread` are marked as erased, and
-// those in `misread` are misread. Returns how many misread codewords were corrected, or `None` if the block cannot be
-// mended. The block can be mended if the number of erased codewords and twice the number of misread ones add up to at
+// those in `misread` are misread. Returns how many codewords were misread, how many were erased, and how many of the
+// erased ones had another value than they should have; or `None` if the block cannot be mended. The block can be mended if the number of erased codewords and twice the number of misread ones add up to at
 // most `spare`.
 fn mended_with_erasures(
     rt: &impl Abort,
     spare: usize,
     unread: &[(usize, u8)],
     misread: &[(usize, u8)],
-) -> Option<usize> {
+) -> Option<(usize, usize, usize)> {
     let mut damaged = EIGHT_DIGITS;
     let mut erased = [false; 26];
     for (place, codeword) in unread {
@@ -72,9 +72,9 @@ fn mended_with_erasures(
     let before = damaged;
     match mend_with_erasures(&divisor, spare, &erased, &mut damaged) {
         None => check!(rt; damaged == before),
-        Some(count) => {
+        Some(changes) => {
             check!(rt; damaged == EIGHT_DIGITS);
-            return Some(count);
+            return Some((changes.misread, changes.erased, changes.erased_wrong));
         }
     }
     None
@@ -100,22 +100,28 @@ fn block_of_eight_digits_with_erasures(rt: HostRuntime) {
     let right = [(0, 0x10u8), (12, 0xEC), (25, 0x55)];
     let misread = [(4, 0x41u8), (10, 0), (17, 0x22), (24, 0xFF)];
     let rows = [
-        ("as sent", 10, &unread[..0], &misread[..0], Some(0)),
+        ("as sent", 10, &unread[..0], &misread[..0], Some((0, 0, 0))),
         (
             "three erased, yet right",
             10,
             &right[..],
             &misread[..0],
-            Some(0),
+            Some((0, 3, 0)),
         ),
-        ("ten erased", 10, &unread[..10], &misread[..0], Some(0)),
+        (
+            "ten erased",
+            10,
+            &unread[..10],
+            &misread[..0],
+            Some((0, 10, 10)),
+        ),
         ("eleven erased", 10, &unread[..], &misread[..0], None),
         (
             "eight erased, eight to spare",
             8,
             &unread[..8],
             &misread[..0],
-            Some(0),
+            Some((0, 8, 8)),
         ),
         (
             "nine erased, eight to spare",
@@ -136,7 +142,7 @@ fn block_of_eight_digits_with_erasures(rt: HostRuntime) {
             10,
             &unread[..4],
             &misread[..3],
-            Some(3),
+            Some((3, 4, 4)),
         ),
         (
             "four erased and four misread",
@@ -150,14 +156,14 @@ fn block_of_eight_digits_with_erasures(rt: HostRuntime) {
             10,
             &unread[..3],
             &misread[..3],
-            Some(3),
+            Some((3, 3, 3)),
         ),
         (
             "four and two, eight to spare",
             8,
             &unread[..4],
             &misread[..2],
-            Some(2),
+            Some((2, 4, 4)),
         ),
         (
             "four and three, eight to spare",
@@ -166,7 +172,13 @@ fn block_of_eight_digits_with_erasures(rt: HostRuntime) {
             &misread[..3],
             None,
         ),
-        ("four misread", 10, &unread[..0], &misread[..], Some(4)),
+        (
+            "four misread",
+            10,
+            &unread[..0],
+            &misread[..],
+            Some((4, 0, 0)),
+        ),
     ];
     for (name, spare, unread, misread, mended) in rows {
         check_eq!(rt;

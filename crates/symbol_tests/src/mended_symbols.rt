@@ -35,8 +35,12 @@ fn wrong_in(mended: Result<Mended, ReadFault>) -> Result<Result<Wrong, ReadFault
             if mended.parsed.bytes.as_slice() != b"01234567".as_slice() || mended.mask != 0 {
                 return Err("something else is read".into());
             }
-            let changed = mended.changed.first().copied().ok_or("a block")?;
-            Ok(Ok((changed, mended.wrong_format_modules, mended.wrong_modules)))
+            let changes = mended.changed.first().ok_or("a block")?;
+            Ok(Ok((
+                changes.misread,
+                mended.wrong_format_modules,
+                mended.wrong_modules,
+            )))
         }
     }
 }

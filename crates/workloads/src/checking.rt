@@ -95,8 +95,8 @@ pub fn add_mended(outcome: &Result<Mended, ReadFault>, digest: &mut Digest) {
             digest.add(u64::from(mended.mask));
             digest.add(u64::from(mended.wrong_modules));
             digest.add(u64::from(mended.wrong_format_modules));
-            for changed in &mended.changed {
-                digest.add(*changed as u64);
+            for changes in &mended.changed {
+                digest.add(changes.misread as u64);
             }
         }
         Err(fault) => add_fault(fault, digest),
