@@ -362,9 +362,11 @@ uint8_t qrproved_read(const uint8_t *modules, size_t modules_len, uint32_t side,
  * information may be wrong, since the content does not depend on them; wrong_modules counts those that are.
  *
  * If wrong_modules is 0, the square is, module by module, the symbol that the standard defines for its data codewords in its
- * version, level and mask. If all modules are known, changed_most divided by changed_allowed is the share of the error
- * correction that is spent, in the block with the most wrong codewords. docs/LIBRARY.md says how to check labels by these
- * counts, and what the counts do not say of a printed label.
+ * version, level and mask. Otherwise two shares say how much of the error correction is spent. For this library it is
+ * spent_most / (2 * changed_allowed). A scanner does not know which modules are not known, so it takes each codeword with such
+ * a module as wrong: for a scanner the share is (worst_misread + worst_unknown) / changed_allowed. If this is above 1, the
+ * library reads the symbol, but scanners will not. docs/LIBRARY.md says how to check labels by these counts, and what the
+ * counts do not say of a printed label.
  *
  * If the damage exceeds these bounds, the square may by chance be one that damage within the bounds makes of another symbol.
  * The call then reads this other symbol, as any reader may.
