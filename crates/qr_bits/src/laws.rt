@@ -11,8 +11,10 @@ ghost use Rattle.qr_bits.specs.declared.modes.Mode.TheVariants.{Alphanumeric, By
 ghost use Rattle.qr_bits.specs.declared.modes.Rule.{Rule};
 ghost use Rattle.qr_bits.specs.declared.segmentation.Segment.{Segment};
 ghost use Rattle.qr_bits.specs.declared.stream.Header.{Header};
+ghost use Rattle.qr_bits.specs.declared.interpretation.Fnc1.{Fnc1};
 ghost use Rattle.qr_bits.specs.declared.interpretation.Interpretation.{Interpretation};
-ghost use Rattle.qr_bits.specs.Interpretation.{are_fields, characters_in, doubled, interpretation_bits, items_in, meant_bytes};
+ghost use Rattle.qr_bits.specs.declared.interpretation.Item.{Item};
+ghost use Rattle.qr_bits.specs.Interpretation.{are_fields, characters_in, designator_codewords, doubled, fnc1_of, interpretation_bits, is_application_indicator, items_in, meant_bytes};
 ghost use Rattle.qr_bits.specs.Bits.{bits_of, field};
 ghost use Rattle.qr_bits.specs.Header.{header_bits, header_stream, parity_of};
 ghost use Rattle.qr_bits.specs.Padding.{capacity_of, padded, room_of};
@@ -162,7 +164,7 @@ pub fn streams_compute()
     ensures series { padded 9 (header_stream (Some middle) ++ segments_stream 1 (codes "FGH") (one Byte 3)) ≡ bits_of middle_data }
 {}
 
-/// How codewords are parsed: those of the second symbol in a series of three, and those of five symbols with ECI
+/// How codewords are parsed: those of the second symbol in a series of three, and those of seven symbols with ECI
 /// headers or FNC1. The last clause has sixteen lists of codewords that cannot be parsed, each with its fault.
 #[tactic(auto, unfolding(crate::specs::Interpretation::separated, crate::specs::Interpretation::meant_bytes, crate::specs::Interpretation::eci_changes, crate::specs::Parsing::parse, crate::specs::Parsing::first_header, crate::specs::Parsing::begins_header, crate::specs::Parsing::header_at, crate::specs::Parsing::items_of, crate::specs::Parsing::items_at, crate::specs::Parsing::item_at, crate::specs::Parsing::designator_at, crate::specs::Parsing::application_at, crate::specs::Parsing::segment_at, crate::specs::Parsing::leading_number, crate::specs::Parsing::payload_at, crate::specs::Parsing::values_of, crate::specs::Parsing::digits_of, crate::specs::Parsing::characters_of, crate::specs::Parsing::character, crate::specs::Parsing::bytes_of, crate::specs::Parsing::pairs_of, crate::specs::Parsing::kanji_pair, crate::specs::Parsing::mode_of, crate::specs::Parsing::ends, crate::specs::Modes::characters, crate::specs::Bits::field, crate::specs::Bits::bits_of))]
 pub fn parses_compute()
@@ -186,6 +188,19 @@ pub fn fields_compute()
         ≡ three_fields }
     ensures fields { map are_fields (three_fields ∷ codes "%%" ∷ (codes "%" ++ 0x1D ∷ []) ∷ (0x1D ∷ 0x1D ∷ []) ∷ (0x1D ∷ codes "%") ∷ [])
         ≡ true ∷ true ∷ true ∷ false ∷ false ∷ [] }
+{}
+
+/// Examples of what says how bytes are meant: which numbers are application indicators, how many codewords the shortest
+/// designator of an ECI has, and that FNC1 may come after an ECI header. The last clause says that after FNC1 in second
+/// position `%` stands for the separator, as it does after FNC1 in first position (ISO/IEC 18004:2015, 7.4.2, 7.4.8).
+#[tactic(auto, unfolding(crate::specs::Interpretation::fnc1_of, crate::specs::Interpretation::meant_bytes, crate::specs::Interpretation::separated))]
+pub fn interpretations_compute()
+    ensures indicators { map is_application_indicator (0 ∷ 99 ∷ 100 ∷ 164 ∷ 165 ∷ 190 ∷ 191 ∷ 196 ∷ 197 ∷ 222 ∷ 223 ∷ 255 ∷ [])
+        ≡ true ∷ true ∷ false ∷ false ∷ true ∷ true ∷ false ∷ false ∷ true ∷ true ∷ false ∷ false ∷ [] }
+    ensures designators { map designator_codewords (0 ∷ 127 ∷ 128 ∷ 16383 ∷ 16384 ∷ 999999 ∷ []) ≡ 1 ∷ 1 ∷ 2 ∷ 2 ∷ 3 ∷ 3 ∷ [] }
+    ensures position { fnc1_of (Item.Eci (record { number = 3; codewords = 1 }) ∷ Item.Fnc1First ∷ []) ≡ Some Fnc1.First }
+    ensures second { meant_bytes false (Item.Fnc1Second 37 ∷ Item.Data (record { mode = Alphanumeric; len = 3 }) ∷ []) (codes "A%B")
+        ≡ 0x41 ∷ 0x1D ∷ 0x42 ∷ [] }
 {}
 
 /// The room that a structured append header leaves is the capacity, less the bits of the header and of the ECI header
