@@ -5,7 +5,7 @@
 //! whose values can be compared and cloned, they say that `==` is true exactly for equal values, and that a clone is
 //! equal to its original.
 
-ghost use Rattle.std.specs.Prelude.{◌≡◌, ◌-◌, ◌/◌, ◌%◌, ℕ, List, [], ◌∷◌, ◌++◌, true, false, length, map, codes, ◌↔◌, IsTrue, IfOk};
+ghost use Rattle.std.specs.Prelude.{◌≡◌, ◌-◌, ◌/◌, ◌%◌, ℕ, List, [], ◌∷◌, ◌++◌, true, false, length, map, replicate, codes, ◌↔◌, IsTrue, IfOk};
 ghost use Rattle.qr_layout.specs.declared.level.Level.{Level};
 ghost use Rattle.qr_bits.specs.declared.modes.Mode.TheVariants.{Alphanumeric, Byte, Kanji, Numeric};
 ghost use Rattle.qr_bits.specs.declared.modes.Rule.{Rule};
@@ -14,7 +14,7 @@ ghost use Rattle.qr_bits.specs.declared.stream.Header.{Header};
 ghost use Rattle.qr_bits.specs.declared.interpretation.Fnc1.{Fnc1};
 ghost use Rattle.qr_bits.specs.declared.interpretation.Interpretation.{Interpretation};
 ghost use Rattle.qr_bits.specs.declared.interpretation.Item.{Item};
-ghost use Rattle.qr_bits.specs.Interpretation.{are_fields, characters_in, designator_codewords, doubled, fnc1_of, interpretation_bits, is_application_indicator, items_in, meant_bytes};
+ghost use Rattle.qr_bits.specs.Interpretation.{are_fields, characters_in, designator_codewords, doubled, escaped, fnc1_of, interpretation_bits, is_application_indicator, items_in, meant_bytes};
 ghost use Rattle.qr_bits.specs.Bits.{bits_of, field};
 ghost use Rattle.qr_bits.specs.Header.{header_bits, header_stream, parity_of};
 ghost use Rattle.qr_bits.specs.Padding.{capacity_of, padded, room_of};
@@ -23,7 +23,7 @@ ghost use Rattle.qr_bits.specs.Segmentation.{IsLeastSegmentation, least_bits, ru
 ghost use Rattle.qr_bits.specs.Modes.{count_width, is_kanji_pair, character_value, kanji_value, may_use};
 ghost use Rattle.qr_bits.specs.Parsing.{kanji_pair, parse, plain_content};
 ghost use Rattle.qr_bits.specs.Stream.{character_bits, digit_bits, segments_stream};
-ghost use Rattle.qr_bits.specs.Laws.{BitsAreCodewordBits, CountsFitWhereBitsFit, DataAreOne, DataAreParsed, DataAreThere, DataFillTheSymbol, FieldsAreRead, FittingInputsAreShort, ItemsAreParsed, LeastSegmentationsFit, PiecesNeedNoMore, PlainDataAreParsed, SegmentationsMeanTheirInput, StreamsAreParsed, StreamsHaveTheirBits};
+ghost use Rattle.qr_bits.specs.Laws.{BitsAreCodewordBits, ContentsAreParsed, CountsFitWhereBitsFit, DataAreOne, DataAreParsed, DataAreThere, DataFillTheSymbol, FieldsAreRead, FittingInputsAreShort, ItemsAreParsed, LeastSegmentationsFit, PiecesNeedNoMore, PlainDataAreParsed, SegmentationsMeanTheirInput, StreamsAreParsed, StreamsHaveTheirBits};
 ghost use Rattle.qr_bits.specs.Examples.{all_modes, eight_digits, eleven_characters, interpreted, middle, middle_data, one, modes_of_fields, segments_of_fields, three_fields, two_kanji, two_kanji_data, unreadable};
 
 use crate::fault::{BitFault, ParseFault};
@@ -54,10 +54,18 @@ pub fn items_are_parsed()
     ensures { ItemsAreParsed }
 {}
 
-/// The characters that alphanumeric mode writes after FNC1 for fields of GS1 data are read as these fields.
-#[tactic(auto, using(crate::proofs::lemmas::parsing::FieldLemmas::fields_again))]
+/// Bits are parsed as a content exactly if they are the bits of its header and items, followed by an end. Then the
+/// bytes of the content are those that the characters of the items stand for, and its ECIs are those of the items.
+pub fn contents_are_parsed()
+    ensures { ContentsAreParsed }
+{}
+
+/// For bytes that all have alphanumeric mode, GS1 data write `%` as `%%` and the separator as `%`. If the bytes are
+/// fields, what is written is read as these fields.
+#[tactic(auto, using(crate::proofs::lemmas::parsing::FieldLemmas::escaped_written, crate::proofs::lemmas::parsing::FieldLemmas::fields_again))]
 pub fn fields_are_read()
-    ensures { FieldsAreRead }
+    ensures written { (xs : List ℕ) → characters_in Interpretation.Gs1 xs (replicate (length xs) Alphanumeric) ≡ escaped xs }
+    ensures read { FieldsAreRead }
 {}
 
 /// A bit stream that is not longer than the capacity of a symbol has exactly one list of data codewords. This list has
