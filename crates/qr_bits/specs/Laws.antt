@@ -132,3 +132,10 @@ ContentsAreParsed = (v : ℕ) (bits : List Bool) (c : Content) →
     (parse v bits ≡ Ok c) ↔
     ((items : List Item) × (xs : List ℕ) × (tail : List Bool) × HeaderFits c.header × All (λ b. b < 256) xs × AreItems v true xs items
     × (bits ≡ header_stream c.header ++ (items_stream v xs items ++ tail)) × (ends tail ≡ true) × (c ≡ content_of c.header items xs))
+
+-- The content that is parsed from the data codewords of a symbol has at most 7,089 bytes and at most 1,970 ECI headers
+-- [own]
+abbrev pub ContentsAreShort : Type 0
+ContentsAreShort =
+    (v : ℕ) (l : Level) (cw : List ℕ) (c : Content) → 1 ≤ v → v ≤ 40 → length cw ≡ data_codewords_of v l → parse v (bits_of cw) ≡ Ok c →
+    (length c.bytes ≤ 7089) × (length c.ecis ≤ 1970)

@@ -23,7 +23,7 @@ ghost use Rattle.qr_bits.specs.Segmentation.{IsLeastSegmentation, least_bits, ru
 ghost use Rattle.qr_bits.specs.Modes.{count_width, is_kanji_pair, character_value, kanji_value, may_use};
 ghost use Rattle.qr_bits.specs.Parsing.{kanji_pair, parse, plain_content};
 ghost use Rattle.qr_bits.specs.Stream.{character_bits, digit_bits, segments_stream};
-ghost use Rattle.qr_bits.specs.Laws.{BitsAreCodewordBits, ContentsAreParsed, CountsFitWhereBitsFit, DataAreOne, DataAreParsed, DataAreThere, DataFillTheSymbol, FieldsAreRead, FittingInputsAreShort, ItemsAreParsed, LeastSegmentationsFit, PiecesNeedNoMore, PlainDataAreParsed, SegmentationsMeanTheirInput, StreamsAreParsed, StreamsHaveTheirBits};
+ghost use Rattle.qr_bits.specs.Laws.{BitsAreCodewordBits, ContentsAreParsed, ContentsAreShort, CountsFitWhereBitsFit, DataAreOne, DataAreParsed, DataAreThere, DataFillTheSymbol, FieldsAreRead, FittingInputsAreShort, ItemsAreParsed, LeastSegmentationsFit, PiecesNeedNoMore, PlainDataAreParsed, SegmentationsMeanTheirInput, StreamsAreParsed, StreamsHaveTheirBits};
 ghost use Rattle.qr_bits.specs.Examples.{all_modes, eight_digits, eleven_characters, interpreted, middle, middle_data, one, modes_of_fields, segments_of_fields, three_fields, two_kanji, two_kanji_data, unreadable};
 
 use crate::fault::{BitFault, ParseFault};
@@ -58,6 +58,12 @@ pub fn items_are_parsed()
 /// bytes of the content are those that the characters of the items stand for, and its ECIs are those of the items.
 pub fn contents_are_parsed()
     ensures { ContentsAreParsed }
+{}
+
+/// What is parsed from the data codewords of a symbol has at most 7,089 bytes and at most 1,970 ECI headers, whoever has
+/// made the symbol.
+pub fn contents_are_short()
+    ensures { ContentsAreShort }
 {}
 
 /// For bytes that all have alphanumeric mode, GS1 data write `%` as `%%` and the separator as `%`. If the bytes are
