@@ -10,6 +10,7 @@ mod answer;
 mod bits;
 mod command;
 mod drawings;
+mod interpreted;
 mod symbols;
 
 use crate::answer::Answer;
@@ -17,8 +18,9 @@ use std::alloc::{AllocError, Global};
 use std::env;
 use std::process::ExitCode;
 
-// The names of the trials. The trials of a crate come after those of the crates that it uses.
-static NAMES: [&str; 35] = [
+// The names of the trials. The trials of a crate come after those of the crates that it uses, and the trials with an ECI
+// or with GS1 data come last.
+static NAMES: [&str; 42] = [
     "Matrix::new",
     "matrix_of_bytes",
     "matrices_of_bytes",
@@ -54,6 +56,13 @@ static NAMES: [&str; 35] = [
     "run_empty",
     "run_words",
     "run_kanji",
+    "segments of GS1 data",
+    "codewords of GS1 data",
+    "parse of GS1 data with an ECI",
+    "encode of GS1 data",
+    "encode_series of GS1 data",
+    "encode_boosted with an ECI",
+    "read_symbol of GS1 data with an ECI",
 ];
 
 // Runs a trial. Returns an error if memory for the arguments of the call is refused.
@@ -94,6 +103,20 @@ fn trial(alloc: Global, name: &str) -> Result<Answer, AllocError> {
         "run_empty" => command::run_of_no_byte(alloc),
         "run_words" => command::run_of_refused_words(alloc),
         "run_kanji" => command::run_with_kanji(alloc),
+        _ => interpreted_trial(alloc, name),
+    }
+}
+
+// Runs a trial with an ECI or with GS1 data.
+fn interpreted_trial(alloc: Global, name: &str) -> Result<Answer, AllocError> {
+    match name {
+        "segments of GS1 data" => interpreted::segmented(alloc),
+        "codewords of GS1 data" => interpreted::written(alloc),
+        "parse of GS1 data with an ECI" => interpreted::parsed(alloc),
+        "encode of GS1 data" => interpreted::encoded(alloc),
+        "encode_series of GS1 data" => interpreted::encoded_series(alloc),
+        "encode_boosted with an ECI" => interpreted::boosted(alloc),
+        "read_symbol of GS1 data with an ECI" => interpreted::read(alloc),
         _ => Ok(Answer::Other),
     }
 }

@@ -33,7 +33,8 @@ const READ_OUT: Answer = Answer::Memory("ReadFault::Memory, arguments unchanged"
 
 const ALLOC_OUT: Answer = Answer::Memory("AllocError, arguments unchanged");
 
-fn are_equal(a: &Matrix, b: &Matrix) -> bool {
+/// Says whether the squares have the same modules.
+pub fn are_equal(a: &Matrix, b: &Matrix) -> bool {
     let side = a.side();
     if b.side() != side {
         return false;

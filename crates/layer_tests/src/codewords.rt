@@ -6,7 +6,7 @@ ghost use Rattle.qr_bits.specs.declared.modes.TheConstants.{INPUT_MAX};
 
 use crate::checks::{check, check_eq};
 use qr_bits::{
-    BitFault, EciChange, Header, INPUT_MAX, Interpretation, Item, Mode, ParseFault, Segment,
+    BitFault, EciChange, Fnc1, Header, INPUT_MAX, Interpretation, Item, Mode, ParseFault, Segment,
     Segmented, codewords, covers, parity, parse,
 };
 use qr_layout::{Level, Version};
@@ -338,5 +338,20 @@ fn all_pairs_of_codewords(rt: HostRuntime) -> Result<(), Fail> {
         }
     }
     check_eq!(rt; (read, cut, no_mode, bad_value), (4904, 24628, 33796, 2208));
+    Ok(())
+}
+
+// Worked out by hand from the tables of the standard. The first codewords have ECI 3, FNC1 in first position, and `A`
+// in byte mode. The others have FNC1 in second position, and `A%B` in alphanumeric mode.
+#[test]
+fn fnc1_in_other_places(rt: HostRuntime) -> Result<(), Fail> {
+    let marked = [0x70, 0x35, 0x40, 0x14, 0x10];
+    check!(rt; means(&rt, &marked, b"A", &[(3, 0)])?, "FNC1 after ECI 3");
+    let parsed = parse(rt.alloc(), &marked, Version::FIRST)?;
+    check_eq!(rt; parsed.fnc1(), Some(Fnc1::First));
+    let fields = [0x92, 0x52, 0x01, 0x9E, 0x82, 0xC0];
+    check!(rt; means(&rt, &fields, b"A\x1DB", &[])?, "a separator");
+    let parsed = parse(rt.alloc(), &fields, Version::FIRST)?;
+    check_eq!(rt; parsed.fnc1(), Some(Fnc1::Second(37)));
     Ok(())
 }

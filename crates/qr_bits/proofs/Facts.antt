@@ -6,6 +6,7 @@ pub use Rattle.qr_bits.proofs.lemmas.laws.MeantLemmas.{least-meant}
 pub use Rattle.qr_bits.proofs.lemmas.segmentation.CoverLemmas.{from-turn, in-turn}
 pub use Rattle.qr_bits.proofs.lemmas.padding.{capacity-26, capacity-least, capacity-nine, covered-short, fitting-medium, fitting-short}
 unfoldable pub use Rattle.qr_bits.proofs.lemmas.segmentation.CoverLemmas.{CoversInTurn}
+pub use Rattle.qr_bits.proofs.lemmas.laws.ContentLemmas.{parsed-few}
 pub use Rattle.qr_bits.proofs.lemmas.laws.DataLemmas.{data-again, data-one, length-data, length-stream}
 pub use Rattle.qr_bits.proofs.lemmas.longest_prefix.{empty-fits}
 pub use Rattle.qr_bits.proofs.lemmas.parsing.ParsingLemmas.{fault-read}

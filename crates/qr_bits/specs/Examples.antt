@@ -44,12 +44,13 @@ middle = record { position = 1; last = 2; parity = 0x48 }
 abbrev pub middle_data : List ℕ
 middle_data = 0x31 ∷ 0x24 ∷ 0x84 ∷ 0x03 ∷ 0x46 ∷ 0x47 ∷ 0x48 ∷ 0x00 ∷ 0xEC ∷ []
 
--- Codewords of five symbols with ECI headers or FNC1, each with its items, its ECIs and its bytes. The first symbol has
+-- Codewords of seven symbols with ECI headers or FNC1, each with its items, its ECIs and its bytes. The first symbol has
 -- Greek letters after ECI 9, as in an example of the standard. The second symbol has `A` and `B` among three ECI
 -- headers, whose designators have one, two and three codewords. The third symbol has FNC1 in second position, with the
 -- application indicator 37, and `AA12`. The fourth symbol has FNC1 in first position before ECI 3, as other encoders
 -- write it. The fifth symbol has FNC1, the characters `A%B%%C`, which are two fields, and then two `%` in byte mode
--- under ECI 26 [own]
+-- under ECI 26. The sixth symbol has ECI 3 before FNC1 in first position. The seventh symbol has FNC1 in second
+-- position, and the characters `A%B`, which are two fields [own]
 abbrev pub interpreted : List (List ℕ × List Item × List EciChange × List ℕ)
 interpreted = (
   0x70 ∷ 0x94 ∷ 0x05 ∷ 0xA1 ∷ 0xA2 ∷ 0xA3 ∷ 0xA4 ∷ 0xA5 ∷ 0x00 ∷ [],
@@ -80,6 +81,18 @@ interpreted = (
       Fnc1First ∷ Data (record { mode = Alphanumeric; len = 6 }) ∷ Eci (record { number = 26; codewords = 1 }) ∷ Data (record { mode = Byte; len = 2 }) ∷ [],
       record { number = 26; begin = 5 } ∷ [],
       0x41 ∷ 0x1D ∷ 0x42 ∷ 0x25 ∷ 0x43 ∷ 0x25 ∷ 0x25 ∷ [],
+    )
+    ∷ (
+      0x70 ∷ 0x35 ∷ 0x40 ∷ 0x14 ∷ 0x10 ∷ [],
+      Eci (record { number = 3; codewords = 1 }) ∷ Fnc1First ∷ Data (record { mode = Byte; len = 1 }) ∷ [],
+      record { number = 3; begin = 0 } ∷ [],
+      0x41 ∷ [],
+    )
+    ∷ (
+      0x92 ∷ 0x52 ∷ 0x01 ∷ 0x9E ∷ 0x82 ∷ 0xC0 ∷ [],
+      Fnc1Second 37 ∷ Data (record { mode = Alphanumeric; len = 3 }) ∷ [],
+      [],
+      0x41 ∷ 0x1D ∷ 0x42 ∷ [],
     ) ∷ []
 
 -- Lists of codewords that cannot be read in version 1, each with its fault. The first six have a number that is too

@@ -12,11 +12,11 @@ use Rattle.qr_bits.specs.Segmentation.{bits, Covers, IsLeastSegmentation, HasFit
 use Rattle.qr_bits.specs.Modes.{may_use}
 use Rattle.qr_bits.specs.Stream.{AreItems, items_stream, CountsFit, IsStream, Suits}
 use Rattle.qr_bits.specs.Padding.{capacity_of, IsData}
-use Rattle.qr_bits.specs.Header.{header_bits}
+use Rattle.qr_bits.specs.Header.{header_bits, header_stream, HeaderFits}
 use Rattle.qr_bits.specs.Interpretation.{are_fields, ecis_in, escaped, fnc1_in, fnc1_of, separated, interpretation_bits, items_in, MayWrite}
 use Rattle.qr_bits.specs.declared.interpretation.Interpretation.{Interpretation}
 use Rattle.qr_bits.specs.declared.interpretation.Interpretation.TheVariants.{Default}
-use Rattle.qr_bits.specs.Parsing.{content_of, ends, items_of, parse, plain_content}
+use Rattle.qr_bits.specs.Parsing.{Content, content_of, ends, items_of, parse, plain_content}
 use Rattle.qr_bits.specs.declared.interpretation.Item.{Item}
 
 -- Parsing bits yields an optional header and segments, and no other items, exactly if the bits are the bit stream of
@@ -122,3 +122,20 @@ abbrev pub ItemsAreParsed : Type 0
 ItemsAreParsed = (v : ℕ) (bits : List Bool) (items : List Item) (xs : List ℕ) →
     (items_of v true bits ≡ Ok (items, xs)) ↔
     ((tail : List Bool) × All (λ b. b < 256) xs × AreItems v true xs items × (bits ≡ items_stream v xs items ++ tail) × (ends tail ≡ true))
+
+-- Parsing bits yields a content exactly if the bits are those of its header, if it has one, and of items in an order
+-- that the standard allows, followed by an end: at most three bits, or the terminator and any bits after it. The
+-- content has these items, the bytes that the characters of their segments stand for, and their ECI headers (ISO/IEC
+-- 18004:2015, 7.4.1, 7.4.2, 7.4.8, 7.4.9, 8.1)
+abbrev pub ContentsAreParsed : Type 0
+ContentsAreParsed = (v : ℕ) (bits : List Bool) (c : Content) →
+    (parse v bits ≡ Ok c) ↔
+    ((items : List Item) × (xs : List ℕ) × (tail : List Bool) × HeaderFits c.header × All (λ b. b < 256) xs × AreItems v true xs items
+    × (bits ≡ header_stream c.header ++ (items_stream v xs items ++ tail)) × (ends tail ≡ true) × (c ≡ content_of c.header items xs))
+
+-- The content that is parsed from the data codewords of a symbol has at most 7,089 bytes and at most 1,970 ECI headers
+-- [own]
+abbrev pub ContentsAreShort : Type 0
+ContentsAreShort =
+    (v : ℕ) (l : Level) (cw : List ℕ) (c : Content) → 1 ≤ v → v ≤ 40 → length cw ≡ data_codewords_of v l → parse v (bits_of cw) ≡ Ok c →
+    (length c.bytes ≤ 7089) × (length c.ecis ≤ 1970)

@@ -5,14 +5,16 @@
 //! whose values can be compared and cloned, they say that `==` is true exactly for equal values, and that a clone is
 //! equal to its original.
 
-ghost use Rattle.std.specs.Prelude.{◌≡◌, ◌-◌, ◌/◌, ◌%◌, ℕ, List, [], ◌∷◌, ◌++◌, true, false, length, map, codes, ◌↔◌, IsTrue, IfOk};
+ghost use Rattle.std.specs.Prelude.{◌≡◌, ◌-◌, ◌/◌, ◌%◌, ℕ, List, [], ◌∷◌, ◌++◌, true, false, length, map, replicate, codes, ◌↔◌, IsTrue, IfOk};
 ghost use Rattle.qr_layout.specs.declared.level.Level.{Level};
 ghost use Rattle.qr_bits.specs.declared.modes.Mode.TheVariants.{Alphanumeric, Byte, Kanji, Numeric};
 ghost use Rattle.qr_bits.specs.declared.modes.Rule.{Rule};
 ghost use Rattle.qr_bits.specs.declared.segmentation.Segment.{Segment};
 ghost use Rattle.qr_bits.specs.declared.stream.Header.{Header};
+ghost use Rattle.qr_bits.specs.declared.interpretation.Fnc1.{Fnc1};
 ghost use Rattle.qr_bits.specs.declared.interpretation.Interpretation.{Interpretation};
-ghost use Rattle.qr_bits.specs.Interpretation.{are_fields, characters_in, doubled, interpretation_bits, items_in, meant_bytes};
+ghost use Rattle.qr_bits.specs.declared.interpretation.Item.{Item};
+ghost use Rattle.qr_bits.specs.Interpretation.{are_fields, characters_in, designator_codewords, doubled, escaped, fnc1_of, interpretation_bits, is_application_indicator, items_in, meant_bytes};
 ghost use Rattle.qr_bits.specs.Bits.{bits_of, field};
 ghost use Rattle.qr_bits.specs.Header.{header_bits, header_stream, parity_of};
 ghost use Rattle.qr_bits.specs.Padding.{capacity_of, padded, room_of};
@@ -21,7 +23,7 @@ ghost use Rattle.qr_bits.specs.Segmentation.{IsLeastSegmentation, least_bits, ru
 ghost use Rattle.qr_bits.specs.Modes.{count_width, is_kanji_pair, character_value, kanji_value, may_use};
 ghost use Rattle.qr_bits.specs.Parsing.{kanji_pair, parse, plain_content};
 ghost use Rattle.qr_bits.specs.Stream.{character_bits, digit_bits, segments_stream};
-ghost use Rattle.qr_bits.specs.Laws.{BitsAreCodewordBits, CountsFitWhereBitsFit, DataAreOne, DataAreParsed, DataAreThere, DataFillTheSymbol, FieldsAreRead, FittingInputsAreShort, ItemsAreParsed, LeastSegmentationsFit, PiecesNeedNoMore, PlainDataAreParsed, SegmentationsMeanTheirInput, StreamsAreParsed, StreamsHaveTheirBits};
+ghost use Rattle.qr_bits.specs.Laws.{BitsAreCodewordBits, ContentsAreParsed, ContentsAreShort, CountsFitWhereBitsFit, DataAreOne, DataAreParsed, DataAreThere, DataFillTheSymbol, FieldsAreRead, FittingInputsAreShort, ItemsAreParsed, LeastSegmentationsFit, PiecesNeedNoMore, PlainDataAreParsed, SegmentationsMeanTheirInput, StreamsAreParsed, StreamsHaveTheirBits};
 ghost use Rattle.qr_bits.specs.Examples.{all_modes, eight_digits, eleven_characters, interpreted, middle, middle_data, one, modes_of_fields, segments_of_fields, three_fields, two_kanji, two_kanji_data, unreadable};
 
 use crate::fault::{BitFault, ParseFault};
@@ -52,10 +54,24 @@ pub fn items_are_parsed()
     ensures { ItemsAreParsed }
 {}
 
-/// The characters that alphanumeric mode writes after FNC1 for fields of GS1 data are read as these fields.
-#[tactic(auto, using(crate::proofs::lemmas::parsing::FieldLemmas::fields_again))]
+/// Bits are parsed as a content exactly if they are the bits of its header and items, followed by an end. Then the
+/// bytes of the content are those that the characters of the items stand for, and its ECIs are those of the items.
+pub fn contents_are_parsed()
+    ensures { ContentsAreParsed }
+{}
+
+/// What is parsed from the data codewords of a symbol has at most 7,089 bytes and at most 1,970 ECI headers, whoever has
+/// made the symbol.
+pub fn contents_are_short()
+    ensures { ContentsAreShort }
+{}
+
+/// For bytes that all have alphanumeric mode, GS1 data write `%` as `%%` and the separator as `%`. If the bytes are
+/// fields, what is written is read as these fields.
+#[tactic(auto, using(crate::proofs::lemmas::parsing::FieldLemmas::escaped_written, crate::proofs::lemmas::parsing::FieldLemmas::fields_again))]
 pub fn fields_are_read()
-    ensures { FieldsAreRead }
+    ensures written { (xs : List ℕ) → characters_in Interpretation.Gs1 xs (replicate (length xs) Alphanumeric) ≡ escaped xs }
+    ensures read { FieldsAreRead }
 {}
 
 /// A bit stream that is not longer than the capacity of a symbol has exactly one list of data codewords. This list has
@@ -162,7 +178,7 @@ pub fn streams_compute()
     ensures series { padded 9 (header_stream (Some middle) ++ segments_stream 1 (codes "FGH") (one Byte 3)) ≡ bits_of middle_data }
 {}
 
-/// How codewords are parsed: those of the second symbol in a series of three, and those of five symbols with ECI
+/// How codewords are parsed: those of the second symbol in a series of three, and those of seven symbols with ECI
 /// headers or FNC1. The last clause has sixteen lists of codewords that cannot be parsed, each with its fault.
 #[tactic(auto, unfolding(crate::specs::Interpretation::separated, crate::specs::Interpretation::meant_bytes, crate::specs::Interpretation::eci_changes, crate::specs::Parsing::parse, crate::specs::Parsing::first_header, crate::specs::Parsing::begins_header, crate::specs::Parsing::header_at, crate::specs::Parsing::items_of, crate::specs::Parsing::items_at, crate::specs::Parsing::item_at, crate::specs::Parsing::designator_at, crate::specs::Parsing::application_at, crate::specs::Parsing::segment_at, crate::specs::Parsing::leading_number, crate::specs::Parsing::payload_at, crate::specs::Parsing::values_of, crate::specs::Parsing::digits_of, crate::specs::Parsing::characters_of, crate::specs::Parsing::character, crate::specs::Parsing::bytes_of, crate::specs::Parsing::pairs_of, crate::specs::Parsing::kanji_pair, crate::specs::Parsing::mode_of, crate::specs::Parsing::ends, crate::specs::Modes::characters, crate::specs::Bits::field, crate::specs::Bits::bits_of))]
 pub fn parses_compute()
@@ -186,6 +202,19 @@ pub fn fields_compute()
         ≡ three_fields }
     ensures fields { map are_fields (three_fields ∷ codes "%%" ∷ (codes "%" ++ 0x1D ∷ []) ∷ (0x1D ∷ 0x1D ∷ []) ∷ (0x1D ∷ codes "%") ∷ [])
         ≡ true ∷ true ∷ true ∷ false ∷ false ∷ [] }
+{}
+
+/// Examples of what says how bytes are meant: which numbers are application indicators, how many codewords the shortest
+/// designator of an ECI has, and that FNC1 may come after an ECI header. The last clause says that after FNC1 in second
+/// position `%` stands for the separator, as it does after FNC1 in first position (ISO/IEC 18004:2015, 7.4.2, 7.4.8).
+#[tactic(auto, unfolding(crate::specs::Interpretation::fnc1_of, crate::specs::Interpretation::meant_bytes, crate::specs::Interpretation::separated))]
+pub fn interpretations_compute()
+    ensures indicators { map is_application_indicator (0 ∷ 99 ∷ 100 ∷ 164 ∷ 165 ∷ 190 ∷ 191 ∷ 196 ∷ 197 ∷ 222 ∷ 223 ∷ 255 ∷ [])
+        ≡ true ∷ true ∷ false ∷ false ∷ true ∷ true ∷ false ∷ false ∷ true ∷ true ∷ false ∷ false ∷ [] }
+    ensures designators { map designator_codewords (0 ∷ 127 ∷ 128 ∷ 16383 ∷ 16384 ∷ 999999 ∷ []) ≡ 1 ∷ 1 ∷ 2 ∷ 2 ∷ 3 ∷ 3 ∷ [] }
+    ensures position { fnc1_of (Item.Eci (record { number = 3; codewords = 1 }) ∷ Item.Fnc1First ∷ []) ≡ Some Fnc1.First }
+    ensures second { meant_bytes false (Item.Fnc1Second 37 ∷ Item.Data (record { mode = Alphanumeric; len = 3 }) ∷ []) (codes "A%B")
+        ≡ 0x41 ∷ 0x1D ∷ 0x42 ∷ [] }
 {}
 
 /// The room that a structured append header leaves is the capacity, less the bits of the header and of the ECI header

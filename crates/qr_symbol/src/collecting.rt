@@ -3,7 +3,7 @@
 //! rows (`spans.rt`). In `region` exactly the region is dark. The region is symmetric, so `region` is equal to its
 //! transposed square.
 
-ghost use Rattle.std.specs.Prelude.{◌≡◌, ℕ, ◌%◌, ◌+◌, ◌<◌, ◌≤◌, map, length, IfOk};
+ghost use Rattle.std.specs.Prelude.{◌≡◌, ℕ, ◌%◌, ◌+◌, ◌<◌, ◌≤◌, [], map, length, IfOk, IsOkAnd};
 ghost use Rattle.qr_layout.specs.Version.{side_of, total_codewords_of};
 ghost use Rattle.qr_layout.specs.Order.{in_region_of};
 ghost use Rattle.qr_layout.specs.Strips.{both_of, rows_from};
@@ -12,7 +12,7 @@ ghost use Rattle.qr_symbol.specs.Reading.{IsReadUnmasked};
 ghost use Rattle.qr_symbol.specs.Steps.Collecting.{bits_in_rows, colour_across};
 ghost use Rattle.qr_symbol.specs.Steps.Placement.{region_grid};
 ghost use Rattle.qr_symbol.specs.Steps.Spans.{top_row, AreWholeRows};
-ghost use Rattle.qr_symbol.specs.Steps.Words.{Appends};
+ghost use Rattle.qr_symbol.specs.Steps.Words.{Appends, HasCollected};
 
 use crate::spans::{Columns, Span, Spans, columns_of};
 use crate::words::{Collector, merged};
@@ -98,7 +98,26 @@ fn collect_strip(
 }
 
 // Collects all codewords from the transposed square `across`, without undoing a mask. The remainder bits are collected
-// too, and dropped at the end.
+// too, and dropped at the end. `bits` has no bits yet, but memory for all codewords, so no allocation is refused.
+fn collect_strips(
+    mut bits: Collector,
+    version: Version,
+    across: &Matrix,
+    region: &Matrix,
+) -> Result<Vec<u8>, AllocError>
+    requires memory { HasCollected (total_codewords_of version) [] bits }
+    requires side { across.now.side ≡ side_of version }
+    requires region { region.now ≡ region_grid version }
+    ensures { IsOkAnd result (λ cw. IsReadUnmasked version (transposed across.now) cw.items
+        × (length cw.items ≡ total_codewords_of version)) }
+{
+    for strip in all_strips(version) {
+        collect_strip(&mut bits, across, version, region, strip);
+    }
+    bits.into_codewords()
+}
+
+// Allocates memory for all codewords, and collects them from the transposed square `across`, without undoing a mask.
 pub(crate) fn collect_codewords(
     alloc: Global,
     version: Version,
@@ -110,9 +129,6 @@ pub(crate) fn collect_codewords(
     ensures read { IfOk result (λ cw. IsReadUnmasked version (transposed across.now) cw.items) }
     ensures many { IfOk result (λ cw. length cw.items ≡ total_codewords_of version) }
 {
-    let mut bits = Collector::with_capacity(alloc, usize::from(version.total_codewords()))?;
-    for strip in all_strips(version) {
-        collect_strip(&mut bits, across, version, region, strip);
-    }
-    bits.into_codewords()
+    let bits = Collector::with_capacity(alloc, usize::from(version.total_codewords()))?;
+    collect_strips(bits, version, across, region)
 }

@@ -1,7 +1,7 @@
 //! Laws of masks, interleaving, reading and series. The contract of each function is the law. Where a function has
 //! code, the law is about what this code returns.
 
-ghost use Rattle.std.specs.Prelude.{◌≡◌, ◌<◌, ◌≤◌, ◌+◌, ◌%◌, ◌⊎◌, ℕ, false, List, length, map, None, ◌∷◌, IfOk, IfErr, ◌≢◌, ◌↔◌, Err, IsTrue};
+ghost use Rattle.std.specs.Prelude.{◌≡◌, ◌<◌, ◌≤◌, ◌+◌, ◌%◌, ◌⊎◌, ℕ, false, List, length, map, None, [], ◌∷◌, IfOk, IfErr, ◌≢◌, ◌↔◌, Err, IsTrue};
 ghost use Rattle.std.specs.List.{All};
 ghost use Rattle.qr_layout.specs.declared.level.Level.{Level};
 ghost use Rattle.qr_layout.specs.declared.region.Place.{Place};
@@ -22,7 +22,7 @@ ghost use Rattle.qr_symbol.specs.Mask.{inverts};
 ghost use Rattle.qr_symbol.specs.Symbol.{colour_by, grid_of};
 ghost use Rattle.qr_symbol.specs.Reading.{read_bits, interpreted_content, IsRead, IsMessage, IsFormat, IsReading, IsUnread};
 ghost use Rattle.qr_symbol.specs.Encoding.{BoostedSymbolsAreOne, IsBoostedSymbol, IsSymbol, SymbolsAreOne};
-ghost use Rattle.qr_symbol.specs.VersionChoice.{FitsVersion, HasNoVersion, IsVersion};
+ghost use Rattle.qr_symbol.specs.VersionChoice.{level_rank, FitsVersion, HasNoVersion, IsVersion};
 ghost use Rattle.qr_symbol.specs.Series.{squares_of, AreParts, FitParts, NeedsParts, IsSeries, HasNoSeries};
 ghost use Rattle.qr_symbol.specs.Joining.{AreInterpreted, IsJoined, IsUnjoined};
 ghost use Rattle.qr_layout.specs.Version.{side_of, total_codewords_of};
@@ -207,12 +207,25 @@ pub fn boosted_symbols_are_symbols()
         → IsBoostedSymbol smallest l rule i x v k mask g → IsSymbol v k rule i x v mask g }
 {}
 
+/// The ranks of the levels L, M, Q and H are 0 to 3. In every version, a level of a higher rank has fewer data codewords
+/// than one of a lower rank, so more of the codewords are for error correction (ISO/IEC 18004:2015, 7.4.10, 7.5.1).
+pub fn levels_are_ranked()
+    ensures ranks { map level_rank (Level.L ∷ Level.M ∷ Level.Q ∷ Level.H ∷ []) ≡ 0 ∷ 1 ∷ 2 ∷ 3 ∷ [] }
+    ensures fewer { (v : ℕ) (l k : Level) → 1 ≤ v → v ≤ 40 → level_rank l < level_rank k
+        → data_codewords_of v k < data_codewords_of v l }
+{}
+
 /// Reading the symbol of an input yields the bytes of the input, the interpretation, the segments of fewest bits, and
 /// no structured append header.
 pub fn symbols_are_read(smallest: Version)
     ensures { (x : List ℕ) (l : Level) (rule : Rule) (i : Interpretation) (v mask : ℕ) (g : Grid)
         → MayWrite i x → (s : IsSymbol smallest l rule i x v mask g)
         → IsReading g (interpreted_content i None s.made.segments x) }
+{}
+
+/// Whoever has made a symbol that can be read, it contains at most 7,089 bytes and at most 1,970 ECI headers.
+pub fn readings_are_short()
+    ensures { (g : Grid) (c : Content) → IsReading g c → (length c.bytes ≤ 7089) × (length c.ecis ≤ 1970) }
 {}
 
 /// For a given version, level, rule and interpretation, an input has at most one series.

@@ -2,7 +2,7 @@
 //! (ISO/IEC 18004:2015, 7.7.2 and 7.7.3). Bit 0 of a word is its lowest. The bits of all codewords are numbered from 0
 //! on: bit 0 is the highest bit of the first codeword, and bit 8 is the highest bit of the second.
 
-ghost use Rattle.std.specs.Prelude.{◌≡◌, ℕ, ◌*◌, ◌/◌, ◌%◌, ◌+◌, ◌-◌, ◌<◌, ◌≤◌, ◌&&◌, [], ◌∷◌, ◌++◌, nat_lt, IsTrue, Some, IfOk};
+ghost use Rattle.std.specs.Prelude.{◌≡◌, ℕ, ◌*◌, ◌/◌, ◌%◌, ◌+◌, ◌-◌, ◌<◌, ◌≤◌, ◌&&◌, [], ◌∷◌, ◌++◌, nat_lt, IsTrue, None, Some, IfOk, IsErr};
 ghost use Rattle.std.specs.List.{All};
 ghost use Rattle.qr_bits.specs.Bits.{bits_of, codeword_bit, field};
 ghost use Rattle.qr_matrix.specs.BitRow.{has_bit};
@@ -216,14 +216,18 @@ pub(crate) struct Collector {
 }
 
 impl Model for Collector {
-    ghost use Rattle.std.specs.Prelude.{Bool, List, Option, None, Some, if◌then◌else◌, ◌++◌, ◌<◌, ◌^◌};
+    ghost use Rattle.std.specs.Prelude.{None, Some, if◌then◌else◌, ◌++◌, ◌<◌, ◌^◌};
     ghost use Rattle.std.specs.List.{All};
+    ghost use Rattle.std.specs.Vec.{vec_capacity};
     ghost use Rattle.qr_bits.specs.Bits.{bits_of, field};
+    ghost use Rattle.qr_symbol.specs.Steps.Words.{Collected};
 
-    // The bits that were collected, or `None` if an allocation was refused.
-    ghost Value = { Option (List Bool) };
+    ghost Value = { Collected };
 
-    ghost view = { λ b. if b.is_refused then None else Some (bits_of b.whole.items ++ field b.width b.rest) };
+    ghost view = { λ b. record {
+      bits = if b.is_refused then None else Some (bits_of b.whole.items ++ field b.width b.rest);
+      room = vec_capacity b.whole;
+    } };
 
     ghost invariant = { λ b. (b.width < 8) × (b.rest < 2 ^ b.width) × All (λ x. x < 256) b.whole.items };
 }
@@ -232,7 +236,7 @@ impl Collector {
     // Allocates the memory for `count` codewords, so that collecting them needs no other allocation.
     #[tactic(auto, unfolding(qr_bits::specs::Bits::bits_of, qr_bits::specs::Bits::field))]
     pub(crate) fn with_capacity(alloc: Global, count: usize) -> Result<Collector, AllocError>
-        ensures { IfOk result (HasCollected []) }
+        ensures { IfOk result (HasCollected count []) }
     {
         Ok(Collector {
             whole: Vec::with_capacity(alloc, count)?,
@@ -277,11 +281,12 @@ impl Collector {
         self.width = left;
     }
 
-    // Returns the whole codewords. The bits after the last whole codeword are the remainder bits, at most seven, and
-    // are dropped.
+    // Returns the whole codewords, or an error if an allocation was refused. The bits after the last whole codeword are
+    // the remainder bits, at most seven, and are dropped.
     pub(crate) fn into_codewords(self) -> Result<Vec<u8>, AllocError>
-        ensures { IfOk result (λ cw. (w : ℕ) × (rest : ℕ) × (w < 8) × All (λ x. x < 256) cw.items
-            × (self ≡ Some (bits_of cw.items ++ field w rest))) }
+        ensures ok { IfOk result (λ cw. (w : ℕ) × (rest : ℕ) × (w < 8) × All (λ x. x < 256) cw.items
+            × (self.bits ≡ Some (bits_of cw.items ++ field w rest))) }
+        ensures err { IsErr result → self.bits ≡ None }
     {
         let Collector {
             whole,

@@ -1,3 +1,4 @@
 pub mod DataLemmas
 pub mod PieceLemmas
 pub mod MeantLemmas
+pub mod ContentLemmas

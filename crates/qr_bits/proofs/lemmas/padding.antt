@@ -80,6 +80,12 @@ groups v P small medium large = search (arith, le-leb, lt-leb)
 pub capacity-most : (v : ℕ) (l : Level) → 1 ≤ v → v ≤ 40 → capacity_of v l ≤ 23648
 capacity-most v l a b = search (arith, groups, data-range)
 
+-- up to version 26 the data codewords of a symbol have at most 10,960 bits
+pub capacity-medium : (v : ℕ) (l : Level) → 1 ≤ v → v ≤ 26 → capacity_of v l ≤ 10960
+capacity-medium v l a b =
+    let most : most_data v ≤ 1370 = search (arith, groups) in
+    omega (arith, data-range v l a (omega arith))
+
 -- If the bits of segments fit a symbol, each count fits its field.
 pub counts_fit : (v : ℕ) (l : Level) (segs : List Segment) → 1 ≤ v → v ≤ 40 → bits v segs ≤ capacity_of v l → CountsFit v segs
 unfolding CountsFit

@@ -2,7 +2,7 @@
 use Rattle.{qr_bits.specs.Bits.field, qr_layout.specs.{Order.in_region_of, Region.is_in_region, Strips.{both_of, rows_from}, declared.region.Place.Place}}
 use Rattle.{qr_layout.specs.declared.strips.Strip.Strip, qr_matrix.specs.{BitRow.{has, has_bit}, Grid.{Grid, colour}}}
 use Rattle.qr_symbol.{proofs.lemmas.placement.PlacementLemmas.at, specs.Steps.Collecting.{bit_if, bits_in_rows, colour_across}}
-use Rattle.qr_symbol.specs.{Steps.{Spans.{row_of, AreOutside, AreWholeRows}, Words.{Appends, Bits}}, declared.spans.Columns.Columns}
+use Rattle.qr_symbol.specs.{Steps.{Spans.{row_of, AreOutside, AreWholeRows}, Words.{Appends, Collected}}, declared.spans.Columns.Columns}
 use Rattle.std.proofs.Common.{◌≡◌, ℕ, zero, suc, ◌+◌, ◌-◌, ◌<◌, ◌≤◌, Bool, true, false, cond, List, [], ◌∷◌, ◌++◌, map, refl, append_assoc, append-nil, arith, ◌*◌, sym, ◌∙◌, ap}
 
 -- the bits of n + m rows are those of the first n rows, followed by those of m more
@@ -12,17 +12,18 @@ rows-append s x r y k (suc n) m =
     let e : suc n + m ≡ suc (n + m) = omega arith in search (arith, append_assoc, rows-append s x r y (k + 1) n m)
 
 -- after n rows, m more rows are read
-pub rows-read : (s : ℕ) (x : Strip) (r y : Columns) (k n m h j : ℕ) (a b c : Bits) → h ≡ k + n → j ≡ n + m → Appends (bits_in_rows s x r y k n) a b → Appends (bits_in_rows s x r y h m) b c
+pub rows-read : (s : ℕ) (x : Strip) (r y : Columns) (k n m h j : ℕ) (a b c : Collected) → h ≡ k + n → j ≡ n + m → Appends (bits_in_rows s x r y k n) a b → Appends (bits_in_rows s x r y h m) b c
     → Appends (bits_in_rows s x r y k j) a c
-rows-read s x r y k n m h j a b c e f p q = search (arith, rows-append, append_assoc)
+rows-read s x r y k n m h j a b c e f p q room xs i =
+    rw (f, rows-append s x r y k n m, ← e, ← append_assoc xs (bits_in_rows s x r y k n) (bits_in_rows s x r y h m)) (q room _ (p room xs i))
 
 -- a row is read of which only the right module is in the region
-pub right-read : (s : ℕ) (x : Strip) (r y : Columns) (k row : ℕ) (dark : Bool) (a b : Bits) → row ≡ row_of s x k → has r.right row ≡ true → has r.left row ≡ false
+pub right-read : (s : ℕ) (x : Strip) (r y : Columns) (k row : ℕ) (dark : Bool) (a b : Collected) → row ≡ row_of s x k → has r.right row ≡ true → has r.left row ≡ false
     → dark ≡ has y.right row → Appends (dark ∷ []) a b → Appends (bits_in_rows s x r y k 1) a b
 right-read s x r y k row dark a b e t u f p = rw (← e, t, u, ← f) p
 
 -- a row is read of which only the left module is in the region
-pub left-read : (s : ℕ) (x : Strip) (r y : Columns) (k row : ℕ) (dark : Bool) (a b : Bits) → row ≡ row_of s x k → has r.right row ≡ false → has r.left row ≡ true
+pub left-read : (s : ℕ) (x : Strip) (r y : Columns) (k row : ℕ) (dark : Bool) (a b : Collected) → row ≡ row_of s x k → has r.right row ≡ false → has r.left row ≡ true
     → dark ≡ has y.left row → Appends (dark ∷ []) a b → Appends (bits_in_rows s x r y k 1) a b
 left-read s x r y k row dark a b e t u f p = rw (← e, t, u, ← f) p
 
@@ -35,9 +36,9 @@ outside-bits s x r y k (suc n) out =
     rw (here.0, here.1) (outside-bits s x r y (k + 1) n (λ j a b. out j (omega arith) (omega arith)))
 
 -- they are read if nothing is done
-pub outside-read : (s : ℕ) (x : Strip) (r y : Columns) (k n : ℕ) (a : Bits)
+pub outside-read : (s : ℕ) (x : Strip) (r y : Columns) (k n : ℕ) (a : Collected)
     → AreOutside s x k n r → Appends (bits_in_rows s x r y k n) a a
-outside-read s x r y k n a out xs i = rw (outside-bits s x r y k n out, append-nil) i
+outside-read s x r y k n a out room xs i = rw (outside-bits s x r y k n out, append-nil) i
 
 -- the bits of a place and of further places
 kept-bit : (t : Bool) (f : Place → Bool) (m : Place) (ms : List Place) → map f (cond t (m ∷ ms) ms) ≡ bit_if t (f m) ++ map f ms

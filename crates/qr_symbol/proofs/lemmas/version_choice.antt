@@ -2,8 +2,11 @@
 use Rattle.qr_bits.proofs.Facts.{capacity-least, fitting-short, least_fits}
 use Rattle.qr_bits.specs.{Interpretation.interpretation_bits, Modes.count_width, Padding.capacity_of, Segmentation.{bits, IsLeastSegmentation}}
 use Rattle.qr_bits.specs.declared.{interpretation.Interpretation.Interpretation, modes.{Mode.Mode, Rule.Rule}, segmentation.Segment.Segment}
-use Rattle.{qr_layout.specs.declared.level.Level.Level, qr_symbol.specs.VersionChoice.{FitsVersion, IsVersion}}
-use Rattle.std.proofs.{Common.{◌≡◌, ℕ, ◌+◌, ◌<◌, ◌≤◌, inl, inr, List, [], ◌∷◌, length, refl, arith}, lemmas.Bool.cases_lt}
+use Rattle.qr_layout.{proofs.Facts.{below-at}, specs.{Blocks.{block_count_of, correction_len_of, data_codewords_of}, Version.total_codewords_of}}
+use Rattle.qr_layout.specs.declared.level.Level.{Level, TheVariants.{L, M, Q, H}}
+use Rattle.qr_symbol.specs.VersionChoice.{level_rank, FitsVersion, IsVersion}
+use borrow.Author.Tests.{leb-true}
+use Rattle.std.proofs.{Common.{◌≡◌, ℕ, ◌+◌, ◌-◌, ◌<◌, ◌≤◌, inl, inr, Bool, true, ◌&&◌, leb, List, [], ◌∷◌, length, refl, arith}, lemmas.Bool.{and_parts, cases_lt}}
 
 -- Segments have the same number of bits in versions of the same widths.
 bits-same : (u v : ℕ) → ((m : Mode) → count_width u m ≡ count_width v m) → (segs : List Segment) → bits u segs ≡ bits v segs
@@ -66,3 +69,24 @@ version-found xs ys l least rule how u v segs p a b c below same h full room = r
   fits = search (arith, fits-bits);
   first = none-fits xs ys l _ _ how u v _ p (omega arith) below (λ w i j. same w i (omega arith)) h full;
 }
+
+-- Levels of higher ranks have fewer data codewords.
+
+-- in version `v` each level has fewer data codewords than the level below it
+falls : ℕ → Bool
+falls v =
+    leb (data_codewords_of v M + 1) (data_codewords_of v L) && (leb (data_codewords_of v Q + 1) (data_codewords_of v M)
+    && leb (data_codewords_of v H + 1) (data_codewords_of v Q))
+
+falls-at : (v : ℕ) → 1 ≤ v → v ≤ 40 → (data_codewords_of v M < data_codewords_of v L) × (data_codewords_of v Q < data_codewords_of v M) × (data_codewords_of v H < data_codewords_of v Q)
+unfolding falls data_codewords_of total_codewords_of block_count_of correction_len_of
+falls-at v a b =
+    let e : v - 1 + 1 ≡ v = omega arith in
+    let all : falls v ≡ true = rw e at (below-at 40 (λ i. falls (i + 1)) (search arith) (v - 1) (omega arith)) in
+    let first = and_parts (leb (data_codewords_of v M + 1) (data_codewords_of v L)) _ all in
+    let rest = and_parts (leb (data_codewords_of v Q + 1) (data_codewords_of v M)) _ first.1 in
+    (omega (arith, leb-true _ _ first.0), omega (arith, leb-true _ _ rest.0), omega (arith, leb-true _ _ rest.1))
+
+-- In every version a level of a higher rank has fewer data codewords.
+pub fewer-data : (v : ℕ) (l k : Level) → 1 ≤ v → v ≤ 40 → level_rank l < level_rank k → data_codewords_of v k < data_codewords_of v l
+fewer-data v l k a b h = grind (arith, falls-at v a b)

@@ -1,8 +1,8 @@
 -- Bits that are exchanged within words, and bits of codewords that are read and written many at a time. Wherever `mask`
 -- has a 1, the bit of a word at the same index is exchanged with the bit whose index is greater by `steps`. A collector
 -- takes in the bits that are read from a symbol, and appends them to a list.
-use Rattle.std.specs.Prelude.{◌≡◌, ◌<◌, ℕ, ◌+◌, ◌-◌, ◌&&◌, Bool, not, nat_le, if◌then◌else◌, List, ◌++◌, Option}
-use Rattle.std.specs.Option.{IfSome}
+use Rattle.std.specs.Prelude.{◌≡◌, ◌<◌, ◌≤◌, ℕ, ◌+◌, ◌-◌, ◌/◌, ◌&&◌, Bool, not, nat_le, if◌then◌else◌, List, ◌++◌, length, Option}
+use Rattle.std.specs.Option.{IfSome, IsSome}
 use Rattle.qr_bits.specs.Bits.{codeword_bit}
 use Rattle.qr_matrix.specs.{BitRow.has_bit, Grid.is_same, Sums.all_below}
 
@@ -29,15 +29,20 @@ rank_in n upward j = if upward then n - 1 - j else j
 abbrev pub AreNext : List ℕ → ℕ → ℕ → Type 0
 AreNext cw number bits = (k : ℕ) → k < 64 → has_bit bits (63 - k) ≡ codeword_bit cw (number + k)
 
--- The bits that a collector has, or `None` if an allocation was refused.
-abbrev pub Bits : Type 0
-Bits = Option (List Bool)
+-- What a collector has: its bits, or `None` if an allocation was refused, and the number of codewords for which it has
+-- memory.
+pub record Collected : Type 0 where
+  pub bits : Option (List Bool)
+  pub room : ℕ
 
--- The collector has exactly the bits `xs`, unless an allocation was refused.
-abbrev pub HasCollected : List Bool → Bits → Type 0
-HasCollected xs b = IfSome b (λ ys. ys ≡ xs)
+-- The collector has exactly the bits `xs`, unless an allocation was refused. It has memory for at least `room`
+-- codewords. If these are as many as the bits `xs` fill, no allocation was refused.
+pub record HasCollected (room : ℕ) (xs : List Bool) (b : Collected) : Type 0 where
+  pub bits : IfSome b.bits (λ ys. ys ≡ xs)
+  pub memory : room ≤ b.room
+  pub enough : length xs / 8 ≤ room → IsSome b.bits
 
 -- The collector `after` has the bits that the collector `before` has, and then `more`. If an allocation was refused,
--- now or earlier, `after` is `None`.
-abbrev pub Appends : List Bool → Bits → Bits → Type 0
-Appends more before after = (xs : List Bool) → HasCollected xs before → HasCollected (xs ++ more) after
+-- now or earlier, it has no bits, and there is less memory than all these bits need.
+abbrev pub Appends : List Bool → Collected → Collected → Type 0
+Appends more before after = (room : ℕ) (xs : List Bool) → HasCollected room xs before → HasCollected room (xs ++ more) after

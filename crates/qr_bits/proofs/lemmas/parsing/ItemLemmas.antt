@@ -1,10 +1,10 @@
 -- A parse reads back every stream of items and every stream of segments, and what it reads is such a stream.
 use Rattle.qr_bits.proofs.lemmas.interpretation.{meant-plain, plain-meant}
 use Rattle.qr_bits.proofs.lemmas.parsing.ParsingLemmas.{bind-ok, guard-ok, same-ok, ended-empty, not_ended, item-shorter, items-end, items-step}
-use Rattle.qr_bits.proofs.lemmas.parsing.StreamReadingLemmas.{IsSegment, segment-takes, item-again, number-again, number-takes, opens, other-opens, first-again, first-takes, marked-begins}
-use Rattle.qr_bits.{proofs.lemmas.stream.StreamLemmas.{drop-field, field-read, read-field}, specs.Bits.{field, value}}
+use Rattle.qr_bits.proofs.lemmas.parsing.StreamReadingLemmas.{IsSegment, segment-takes, item-again, number-again, number-takes, opens, other-opens, first-again, first-takes, items-begin}
+use Rattle.qr_bits.{proofs.lemmas.stream.StreamLemmas.{drop-field, field-read, read-field}, specs.{Bits.{field, value}, Header.{header_stream, HeaderFits}}}
 use Rattle.qr_bits.specs.Interpretation.{is_application_indicator, may_follow, plain, designator, interpretation_stream, InterpretationFits, items_in}
-use Rattle.qr_bits.specs.Parsing.{leading_number, application_at, designator_at, ends, item_at, items_at, items_of, first_header, content_of, plain_content, parse}
+use Rattle.qr_bits.specs.Parsing.{leading_number, application_at, designator_at, ends, item_at, items_at, items_of, first_header, Content, content_of, plain_content, parse}
 use Rattle.qr_bits.specs.Stream.{AreItems, DesignatorFits, designator_of, items_stream, segments_stream, Suits, CountsFit, IsStream}
 use Rattle.qr_bits.specs.declared.{fault.ParseFault.TheVariants.BadValue, interpretation.{Designator.Designator, Interpretation.Interpretation, Item.Item}}
 use Rattle.qr_bits.specs.declared.{interpretation.Item.TheVariants.{Data, Eci, Fnc1First, Fnc1Second}, segmentation.Segment.Segment, stream.Header.Header}
@@ -170,11 +170,33 @@ items-marked v written.Default xs segs h suit fits = search (arith, plain-stream
 items-marked v (written.Eci n) xs segs h suit fits = search (arith, plain-stream, plain-fits, append_assoc)
 items-marked v written.Gs1 xs segs h suit fits = search (arith, plain-stream, plain-fits)
 
+-- A header and items that are written, followed by an end, are parsed into their content.
+pub content-again : (v : ℕ) (xs : List ℕ) (items : List Item) (h : Option Header) (tail : List Bool) → HeaderFits h → All (λ b. b < 256) xs → AreItems v true xs items → ends tail ≡ true
+    → parse v (header_stream h ++ (items_stream v xs items ++ tail)) ≡ Ok (content_of h items xs)
+unfolding parse
+content-again v xs items h tail fits bytes are e = search (arith, first-again, items-begin, items-again)
+
+-- the bits are the stream of a header and items with this content, and then an end
+abbrev ContentSays : ℕ → List Bool → Content → Type 0
+ContentSays v bits c =
+    (items : List Item) × (xs : List ℕ) × (tail : List Bool) × HeaderFits c.header × All (λ b. b < 256) xs × AreItems v true xs items
+    × (bits ≡ header_stream c.header ++ (items_stream v xs items ++ tail)) × (ends tail ≡ true) × (c ≡ content_of c.header items xs)
+
+-- Bits that are parsed as a content are the stream of its header and items followed by an end.
+pub content-said : (v : ℕ) (bits : List Bool) (c : Content) → parse v bits ≡ Ok c → ContentSays v bits c
+unfolding parse
+content-said v bits c e =
+    let a = bind-ok (first_header bits) _ _ e in
+    let r = bind-ok (items_of v true a.0.1) _ _ a.2 in
+    let first = first-takes bits a.0 a.1 in
+    let said = items-said v a.0.1 r.0.0 r.0.1 r.1 in
+    subst (ContentSays v bits) (same-ok _ _ r.2)
+    (r.0.0, r.0.1, said.0, first.0, said.1, said.2, cc, said.4, refl)
+
 -- A stream followed by an end is parsed into its header, items and bytes.
 pub parse-again : (v : ℕ) (xs : List ℕ) (segs : List Segment) (h : Option Header) (i : Interpretation) (front tail : List Bool) → IsStream v xs segs h i front → ends tail ≡ true
     → parse v (front ++ tail) ≡ Ok (content_of h (items_in i segs) xs)
-unfolding parse
-parse-again v xs segs h i front tail is e = search (arith, append_assoc, first-again, marked-begins, items-marked, items-again)
+parse-again v xs segs h i front tail is e = search (arith, append_assoc, items-marked, content-again)
 
 -- As `parse-again`, without an ECI header and FNC1.
 pub parse_plain : (v : ℕ) (xs : List ℕ) (segs : List Segment) (h : Option Header) (front tail : List Bool) → IsStream v xs segs h written.Default front → ends tail ≡ true

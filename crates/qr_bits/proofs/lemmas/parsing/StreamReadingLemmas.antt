@@ -4,10 +4,9 @@ use Rattle.std.proofs.lemmas.{Bool.{le-ltb, le-leb, ltb-false, cases_Bool, eqb-t
 use Rattle.std.proofs.Math.Seq.{drop-append_seam}
 use borrow.Author.Tests.{leb-true}
 use Rattle.qr_bits.specs.declared.{modes.Mode.Mode, segmentation.Segment.Segment, stream.Header.Header}
-use Rattle.qr_bits.specs.declared.interpretation.Interpretation.TheVariants as written
-use Rattle.qr_bits.specs.{Bits.{field, value}, Header.{header_indicator, header_stream, HeaderFits}, Interpretation.interpretation_stream}
-use Rattle.qr_bits.specs.declared.interpretation.{Interpretation.Interpretation, Item.TheVariants.{Data, Eci}}
-use Rattle.qr_bits.specs.{Modes.{character_count, count_width, byte_count, payload_bits, suits, indicator}, Stream.{payload, segment_stream, segments_stream}}
+use Rattle.qr_bits.specs.{Bits.{field, value}, Header.{header_indicator, header_stream, HeaderFits}}
+use Rattle.qr_bits.specs.declared.interpretation.Item.{Item, TheVariants.{Data, Eci, Fnc1First, Fnc1Second}}
+use Rattle.qr_bits.specs.{Modes.{character_count, count_width, byte_count, payload_bits, suits, indicator}, Stream.{payload, segment_stream, designator_of, items_stream}}
 use Rattle.qr_bits.specs.Parsing.{values_of, mode_of, ends, leading_number, payload_at, segment_at, item_at, begins_header, header_at, first_header}
 use Rattle.qr_bits.proofs.lemmas.{bits.BitLemmas.length-field, parsing.{PayloadLemmas.value-take-below, ValueLemmas.{values-again, values-takes}}}
 use Rattle.qr_bits.proofs.lemmas.{parsing.ParsingLemmas.{bind-ok, guard-ok, same-ok, header-whole}, stream.WritingLemmas.{in_twos-even, length-payload}}
@@ -133,11 +132,6 @@ header-again h rest all_fit =
     let d = drop-field 4 header_indicator behind in
     search (arith, starts, header-whole, read-field 4 h.position (l ++ (q ++ rest)) fits.0, read-field 4 h.last (q ++ rest) fits.1, read-field 8 h.parity rest fits.2)
 
-none-begins : (v : ℕ) (xs : List ℕ) (segs : List Segment) (tail : List Bool) → ends tail ≡ true → begins_header (segments_stream v xs segs ++ tail) ≡ false
-unfolding begins_header segments_stream ends
-none-begins v xs [] tail e = search arith
-none-begins v xs (s ∷ ss) tail e = grind (arith, first-four, append_assoc, le-leb)
-
 pub first-again : (h : Option Header) (rest : List Bool) → HeaderFits h → begins_header rest ≡ false → first_header (header_stream h ++ rest) ≡ Ok (h, rest)
 unfolding first_header header_stream
 first-again h rest fits e = grind (arith, append_assoc, header-again)
@@ -151,13 +145,14 @@ pub other-opens : (n : ℕ) (rest : List Bool) → n < 2 ^ 4 → (n == 0) ≡ fa
 unfolding ends
 other-opens n rest few other = grind (arith, read-field 4 n rest few, length-append (field 4 n) rest, length-field 4 n, le-ltb)
 
--- the stream of an interpretation, segments and an end is not taken for a header
-pub marked-begins : (v : ℕ) (i : Interpretation) (xs : List ℕ) (segs : List Segment) (tail : List Bool) → ends tail ≡ true
-    → begins_header (interpretation_stream i ++ (segments_stream v xs segs ++ tail)) ≡ false
-unfolding interpretation_stream
-marked-begins v written.Default xs segs tail e = none-begins v xs segs tail e
-marked-begins v (written.Eci n) xs segs tail e = search (arith, append_assoc, other-begins)
-marked-begins v written.Gs1 xs segs tail e = other-begins 5 _ (lit< tt) refl
+-- the stream of items and an end is not taken for a header
+pub items-begin : (v : ℕ) (xs : List ℕ) (items : List Item) (tail : List Bool) → ends tail ≡ true → begins_header (items_stream v xs items ++ tail) ≡ false
+unfolding begins_header items_stream ends
+items-begin v xs [] tail e = search arith
+items-begin v xs (Data s ∷ is) tail e = grind (arith, first-four, append_assoc, le-leb)
+items-begin v xs (Eci d ∷ is) tail e = rw (append_assoc (field 4 7) (designator_of d.codewords d.number ++ items_stream v xs is) tail) (other-begins 7 _ (lit< tt) refl)
+items-begin v xs (Fnc1First ∷ is) tail e = rw (append_assoc (field 4 5) (items_stream v xs is) tail) (other-begins 5 _ (lit< tt) refl)
+items-begin v xs (Fnc1Second a ∷ is) tail e = rw (append_assoc (field 4 9) (field 8 a ++ items_stream v xs is) tail) (other-begins 9 _ (lit< tt) refl)
 
 fits-of : (h : Header) → h.position < 16 → h.last < 16 → h.parity < 256 → HeaderFits (Some h)
 fits-of h a b d = search arith

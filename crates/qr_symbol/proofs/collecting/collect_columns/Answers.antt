@@ -1,4 +1,5 @@
-use Rattle.{std.proofs.Common.{◌≡◌, ◌+◌, ◌≤◌, refl, arith}, qr_layout.specs.Version.side_of}
+use Rattle.{std.proofs.Common.{rules, ◌≡◌, ◌+◌, ◌≤◌, refl, subst, arith}, qr_layout.specs.Version.side_of}
+use Rattle.qr_symbol.specs.Steps.{Collecting.bits_in_rows, Words.Appends}
 use Rattle.qr_symbol.proofs.lemmas.collecting.{left-read, outside-read, right-read, rows-read}
 use Rattle.qr_symbol.proofs.collecting.collect_columns.Goals as goal
 
@@ -47,3 +48,9 @@ loop-span-preserved c =
       strip = same;
       bits = rows-read s x r y 0 k is.0 k _ _ _ _ (omega arith) is.1 i.bits (outside-read s x r y k is.0 _ is.2.1);
     }
+
+pub returns : goal.returns
+returns c =
+    let s = side_of c.args.version in
+    let whole : c.loop-span.span-iterator.passed ≡ s = search rules in
+    subst (λ n. Appends (bits_in_rows s c.args.strip c.args.region.now c.args.columns.now 0 n) c.args.bits.now c.loop-span.bits) whole c.loop-span.invariant.bits

@@ -1,10 +1,10 @@
 use Rattle.qr_layout.specs.{Order.in_region_of, Strips.{both_of, rows_from}, Version.side_of}
 use Rattle.qr_symbol.proofs.{collecting.collect_strip.Goals.After-columns_of-within, lemmas.{collecting.strip-bits, placement.AcrossLemmas.region-across}}
-use Rattle.{qr_symbol.specs.Steps.{Collecting.{bits_in_rows, colour_across}, Words.{Appends, Bits}}, std.proofs.Common.{◌≡◌, ◌∙◌, Bool, map, sym, subst, arith}}
+use Rattle.{qr_symbol.specs.Steps.{Collecting.{bits_in_rows, colour_across}, Words.{Appends, Collected}}, std.proofs.Common.{◌≡◌, ◌∙◌, Bool, map, sym, subst, arith}}
 use Rattle.qr_symbol.proofs.collecting.collect_strip.Goals as goal
 
 -- the bits of the columns, read in the direction of the strip, are those of the strip
-strip : (c : After-columns_of-within) (up : Bool) (b : Bits) → up ≡ c.args.strip.upward
+strip : (c : After-columns_of-within) (up : Bool) (b : Collected) → up ≡ c.args.strip.upward
     → Appends (bits_in_rows (side_of c.args.version) (record { right = c.args.strip.right; upward = up }) c.columns_of-within.result c.columns_of-columns.result 0 (side_of c.args.version)) c.args.bits.now b
     → Appends (map (colour_across c.args.across.now) (in_region_of c.args.version (both_of (rows_from (side_of c.args.version) c.args.strip 0 (side_of c.args.version))))) c.args.bits.now b
 strip c up b e read =

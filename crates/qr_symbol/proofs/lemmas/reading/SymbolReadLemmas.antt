@@ -7,7 +7,7 @@ use Rattle.{qr_matrix.specs.Grid.{Grid, colour, square, transposed}, qr_symbol.p
 use Rattle.qr_symbol.{proofs.lemmas.{placement.PlacementLemmas.at, reading.ReadLemmas.read-one}, specs.{Fault.unread_for, Interleaving.IsInterleaved}}
 use Rattle.qr_symbol.specs.{Mask.{inverts, inverted}, Reading.{unmasked, IsRead, IsReadUnmasked, IsMessage, IsFormat, IsOfVersion, IsReading, IsUnread}}
 use Rattle.qr_symbol.specs.{Steps.{Collecting.colour_across, Placement.region_grid}, declared.fault.ReadFault.ReadFault}
-use Rattle.std.proofs.Common.{◌≡◌, ℕ, suc, ◌+◌, ◌-◌, ◌*◌, ◌<◌, ◌≤◌, Bool, true, ◌&&◌, ltb, List, ◌∷◌, ◌++◌, map, take, length, sym, ◌∙◌, ap, refl, subst, length-append, inl, inr, ◌⊎◌, arith}
+use Rattle.std.proofs.Common.{◌≡◌, ℕ, suc, ◌+◌, ◌-◌, ◌*◌, ◌/◌, ◌<◌, ◌≤◌, Bool, true, ◌&&◌, ltb, List, ◌∷◌, ◌++◌, map, take, length, sym, ◌∙◌, ap, refl, subst, length-append, inl, inr, ◌⊎◌, arith}
 use Rattle.std.{proofs.lemmas.List.{append-nil, length-map, length-take, map-append, take-append-drop}, specs.{List.All, Prelude.{Err, Ok}}}
 use borrow.Author.Tests.{ltb-true}
 use Rattle.qr_bits.specs.declared.fault.ParseFault.TheVariants as unparsed
@@ -21,6 +21,10 @@ remainder-small = refl
 few-left : (v : ℕ) → 1 ≤ v → v ≤ 40 → remainder_bits_of v < 8
 few-left v l h =
     ltb-true _ _ (subst (λ (k : ℕ). ltb (remainder_bits_of k) 8 ≡ true) (omega arith) (below-at 40 (λ i. ltb (remainder_bits_of (i + 1)) 8) remainder-small (v - 1) (omega arith)))
+
+-- the bits of all modules fill no more codewords than there are
+pub filled-few : (v : ℕ) (f : Place → Bool) (ms : List Place) → 1 ≤ v → v ≤ 40 → IsOrder v ms → length (map f ms) / 8 ≤ total_codewords_of v
+filled-few v f ms p q o = omega (arith, order-length v ms p q o, few-left v p q, length-map ms f)
 
 -- if fewer than eight bits are left after all modules, all codewords have been read
 pub all-read : (v : ℕ) (f : Place → Bool) (ms : List Place) (cw : List ℕ) (width begun : ℕ) → 1 ≤ v → v ≤ 40 → IsOrder v ms → width < 8 → bits_of cw ++ field width begun ≡ map f ms → length cw ≡ total_codewords_of v

@@ -1,8 +1,9 @@
 -- Further bits after the bits of a number, and the codewords that they fill.
-use Rattle.std.proofs.Common.{◌≡◌, ℕ, zero, suc, ◌+◌, ◌-◌, ◌*◌, ◌/◌, ◌%◌, ◌^◌, ◌<◌, ◌≤◌, Bool, true, false, cond, not, ◌||◌, None, Some, List, ◌++◌, take, refl, sym, ◌∙◌, ap, append_assoc, arith}
+use Rattle.std.proofs.Common.{◌≡◌, ℕ, zero, suc, ◌+◌, ◌-◌, ◌*◌, ◌/◌, ◌%◌, ◌^◌, ◌<◌, ◌≤◌, Bool, true, false, cond, not, ◌||◌, Result, None, Some, List, ◌++◌, length, length-append, take, refl, sym, ◌∙◌, ap, append_assoc, arith}
 use Rattle.std.proofs.{lemmas.{List.Elements.{All-append, All-take}, Nat.{pow-add, pow_pos, shr-shr, shr_split}}, Math.Nat.{div-div-eq-div-mul, mod-eq_of_lt, mod-lt, mul-div_cancel, pow-le-pow_right, pow-suc}}
+use Rattle.std.specs.Result.{OnErr, is_err}
 use Rattle.std.specs.{Int.{byte_at, bytes_high_first, to_be_bytes, w64}, List.All}
-use Rattle.qr_bits.{proofs.Facts.{bits_of-append, field-join, field-low}, specs.Bits.{bits_of, field}}
+use Rattle.qr_bits.{proofs.Facts.{bits_of-append, field-join, field-low, length-bits_of, length-field}, specs.Bits.{bits_of, field}}
 use Rattle.qr_symbol.specs.Steps.Words.{Appends}
 
 -- ---- numbers
@@ -87,13 +88,35 @@ codewords-small false xs ys bytes n v b e a = rw e a
 
 -- ---- a collector
 
+-- fewer bits fill no more codewords
+filled-less : (xs more : List Bool) (room : ℕ) → length (xs ++ more) / 8 ≤ room → length xs / 8 ≤ room
+filled-less xs more room h = omega (arith, length-append xs more)
+
 -- bits are added to those of a collector
-pub added : (was : Bool) (old new more : List Bool) → new ≡ old ++ more → Appends more (cond was None (Some old)) (cond was None (Some new))
-added was _ _ more e _ i = grind arith
+pub added : (was : Bool) (old new more : List Bool) (had : ℕ) → new ≡ old ++ more
+    → Appends more (record { bits = cond was None (Some old); room = had }) (record { bits = cond was None (Some new); room = had })
+added true old new more had e room xs i = record { bits = tt; memory = i.memory; enough = λ h. i.enough (filled-less xs more room h) }
+added false old new more had e room xs i = record { bits = e ∙ ap (λ z. z ++ more) i.bits; memory = i.memory; enough = λ h. refl }
 
 -- codewords are added, if memory for them is not refused
-pub pushed : (was failed : Bool) (old new more : List Bool) → (failed ≡ false → new ≡ old ++ more) → Appends more (cond was None (Some old)) (cond (was || failed) None (Some new))
-pushed was failed _ _ more e _ i = grind arith
+pub pushed : (was failed : Bool) (old new more : List Bool) (had next : ℕ) → (failed ≡ false → new ≡ old ++ more) → had ≤ next → (failed ≡ true → had < length (old ++ more) / 8)
+    → Appends more (record { bits = cond was None (Some old); room = had }) (record { bits = cond (was || failed) None (Some new); room = next })
+pushed true failed old new more had next e m few room xs i = record { bits = tt; memory = omega (arith, i.memory); enough = λ h. i.enough (filled-less xs more room h) }
+pushed false false old new more had next e m few room xs i = record { bits = e refl ∙ ap (λ z. z ++ more) i.bits; memory = omega (arith, i.memory); enough = λ h. refl }
+pushed false true old new more had next e m few room xs i = record {
+  bits = tt;
+  memory = omega (arith, i.memory);
+  enough = λ h. let t = rw i.bits at few refl in absurd (omega (arith, t, i.memory));
+}
+
+-- if there is no memory for the codewords that further bits fill, all the bits fill more codewords than there is memory for
+pub filled-more : (bytes : List ℕ) (w r : ℕ) (more : List Bool) (had : ℕ) → had < length bytes + (w + length more) / 8 → had < length ((bits_of bytes ++ field w r) ++ more) / 8
+filled-more bytes w r more had h =
+    omega (arith, length-append (bits_of bytes ++ field w r) more, length-append (bits_of bytes) (field w r), length-bits_of bytes, length-field w r)
+
+-- what holds of an error holds if there is one
+pub on-error : {A E : Type 0} (P : Type 0) (r : Result A E) → OnErr r P → is_err r ≡ true → P
+on-error P r h e = grind arith
 
 -- the codewords after a push that is not refused
 pub push-made : (xs ys zs : List ℕ) (ok failed : Bool) → zs ≡ cond ok ys xs → ok ≡ not failed → failed ≡ false → zs ≡ ys

@@ -1,6 +1,6 @@
-use Rattle.std.proofs.{Common.{rules, ◌≡◌, ◌+◌, ◌*◌, ◌%◌, ◌^◌, arith}, Math.Nat.mod-lt, lemmas.Nat.pow_pos}
-use Rattle.qr_bits.{proofs.Facts.power-fits}
-use Rattle.qr_symbol.proofs.lemmas.words.JoinLemmas.{push-made, pushed, codewords-joined, codewords-small, joined-small, joined-whole}
+use Rattle.std.proofs.{Common.{rules, ◌≡◌, ℕ, ◌+◌, ◌*◌, ◌%◌, ◌^◌, ◌∙◌, sym, arith}, Math.Nat.mod-lt, lemmas.{List.length-take, Nat.pow_pos}}
+use Rattle.qr_bits.{proofs.Facts.{length-field, power-fits}, specs.Bits.field}
+use Rattle.qr_symbol.proofs.lemmas.words.JoinLemmas.{filled-more, on-error, push-made, pushed, codewords-joined, codewords-small, joined-small, joined-whole}
 use Rattle.qr_symbol.proofs.words.Collector.push_bits.Goals.{After-from}
 use Rattle.qr_symbol.proofs.words.Collector.push_bits.Goals as goal
 
@@ -27,4 +27,4 @@ pub returns : goal.returns
 returns c =
     let w = c.self.inside in let n = c.args.count in let left = (w.width + n) % 8 in
     rw (power-fits left 7 18446744073709551616 (omega arith) (omega arith))
-    (rw (← c.self.view_is) (pushed _ _ _ _ _ (search (rules, push-made, whole, codewords-joined))))
+    (rw (← c.self.view_is) (pushed _ _ _ _ _ _ _ (search (rules, push-made, whole, codewords-joined)) c.extend_from_slice.ensures.capacity (λ f. let full = on-error _ c.extend_from_slice.result c.extend_from_slice.ensures.full (sym c.is_err.ensures.value ∙ f) in filled-more w.whole.items w.width w.rest (field n c.args.bits) _ (omega (arith, full, length-field n c.args.bits, length-take {A = ℕ}, c.from-2.ensures)))))
