@@ -4,7 +4,7 @@
 #
 # What `make help` prints:
 ## make                proves and builds the program (15 to 20 minutes at first)
-## make lib            proves and builds the library for C
+## make lib            proves and builds the library for C (after make this takes half its time)
 ## make static         the program with the C library inside
 ## make install        installs the program, its manual page and completions: PREFIX=/usr/local NAME=qrencode
 ## make install-lib    installs what make lib built

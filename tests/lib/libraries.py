@@ -64,11 +64,11 @@ def built(name, room):
     return out
 
 
-def ascii_of(modules, side):
-    """Returns the drawing of a square as ASCII, with the quiet zone."""
-    light = b"  " * (side + 2 * MARGIN) + b"\n"
+def ascii_of(modules, side, margin=MARGIN):
+    """Returns the drawing of a square as ASCII."""
+    light = b"  " * (side + 2 * margin) + b"\n"
     lines = [b"".join(b"##" if it else b"  " for it in modules[row * side:(row + 1) * side]) for row in range(side)]
-    return light * MARGIN + b"".join(b"  " * MARGIN + line + b"  " * MARGIN + b"\n" for line in lines) + light * MARGIN
+    return light * margin + b"".join(b"  " * margin + line + b"  " * margin + b"\n" for line in lines) + light * margin
 
 
 def bytes_of(*names):

@@ -8,6 +8,7 @@ ghost use Rattle.std.specs.Io.KnownBytes.{Appends};
 ghost use Rattle.qr_devices.specs.Device.{AppendsBeginning, IsWrittenWithin, counted, is_write_fault, no_writes};
 ghost use Rattle.qr_devices.specs.declared.device.TheConstants.{INTERRUPTIONS_MAX};
 ghost use Rattle.qr_drawing.specs.Steps.Writing.{Stops, Writes};
+ghost use Rattle.qr_drawing.specs.declared.pen.TheConstants.{WRITE_MAX};
 
 use qr_devices::{INTERRUPTIONS_MAX, Sink, Trouble};
 use std::marker::Model;
@@ -95,11 +96,12 @@ pub enum DrawFault {
 }
 
 /// A buffer for bytes that are not written yet, which are those of `piece`. `interrupted` is the number of writes that
-/// were interrupted so far. The pen contains at most `WRITE_MAX` bytes.
+/// were interrupted so far.
 #[derive(Drop)]
 pub(crate) struct Pen {
     pub(crate) piece: Piece<PEN_SIZE>,
     pub(crate) interrupted: u16,
+    ghost full: { length piece ≤ WRITE_MAX },
     ghost few: { interrupted ≤ INTERRUPTIONS_MAX },
 }
 

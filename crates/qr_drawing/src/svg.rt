@@ -142,7 +142,8 @@ static SHORT_RUNS: [[u8; 8]; 10] = [
 fn push_width(text: &mut Piece<PEN_SIZE>, modules: u16)
     requires modules { modules < 1000 }
     requires room { length text.old + 12 ≤ WRITE_MAX }
-    ensures { text.new ≡ text.old ++ width_path modules }
+    ensures items { text.new ≡ text.old ++ width_path modules }
+    ensures len { length text.new ≤ length text.old + 12 }
 {
     if modules < 10 {
         let path = SHORT_RUNS[usize::from(modules)];
@@ -164,7 +165,8 @@ fn push_box(text: &mut Piece<PEN_SIZE>, x: u16, row: &Piece<8>, modules: u16)
     requires column { x < 1000 }
     requires modules { modules < 1000 }
     requires room { length text.old + BOX_MAX ≤ WRITE_MAX }
-    ensures { (y : ℕ) → row.now ≡ numbered (codes " ") y → text.new ≡ text.old ++ box_path x y modules }
+    ensures items { (y : ℕ) → row.now ≡ numbered (codes " ") y → text.new ≡ text.old ++ box_path x y modules }
+    ensures len { length text.new ≤ length text.old + BOX_MAX }
 {
     push_column(text, x);
     text.push_piece(row);
@@ -222,7 +224,8 @@ fn push_background(text: &mut Piece<PEN_SIZE>, width: u16, height: u16)
 // Appends all that comes before the first box.
 fn push_head(text: &mut Piece<PEN_SIZE>, width: u16, height: u16)
     requires room { length text.old + HEAD_MAX ≤ WRITE_MAX }
-    ensures { text.new ≡ text.old ++ head width height }
+    ensures items { text.new ≡ text.old ++ head width height }
+    ensures len { length text.new ≤ length text.old + HEAD_MAX }
 {
     text.push_all(b"<?xml version=\"1.0\" encoding=\"UTF-8\"?>\n");
     push_opening(text, width, height);
@@ -234,7 +237,8 @@ fn push_head(text: &mut Piece<PEN_SIZE>, width: u16, height: u16)
 #[tactic(auto, unfolding(crate::specs::Steps::Svg::tail, crate::specs::Svg::closing))]
 fn push_tail(text: &mut Piece<PEN_SIZE>)
     requires room { length text.old + TAIL ≤ WRITE_MAX }
-    ensures { text.new ≡ text.old ++ tail }
+    ensures items { text.new ≡ text.old ++ tail }
+    ensures len { length text.new ≤ length text.old + TAIL }
 {
     text.push_all(b"\"/>\n</svg>\n");
 }

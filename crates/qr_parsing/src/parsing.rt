@@ -1,9 +1,10 @@
 //! Parses a drawing in two steps. The first step guesses the type, the margin and the squares of the only drawing that
 //! the text can be. The second step draws what was guessed, and compares the result with the text.
 
-ghost use Rattle.std.specs.Prelude.{◌≡◌, ◌⊎◌, ℕ, List, IfOk, IfErr, MatchOption};
+ghost use Rattle.std.specs.Prelude.{◌≡◌, ◌<◌, ◌≤◌, ◌⊎◌, ℕ, List, [], length, IfOk, IfErr, MatchOption};
 ghost use Rattle.std.specs.Bool.{Decides};
 ghost use Rattle.std.specs.List.{All};
+ghost use Rattle.std.specs.Vec.{vec_capacity};
 ghost use Rattle.qr_matrix.specs.Grid.{IsSquare};
 ghost use Rattle.qr_drawing.specs.Drawing.{drawn};
 ghost use Rattle.qr_drawing.specs.declared.drawing.Drawing.TheVariants.{Svg, Utf8};
@@ -153,21 +154,31 @@ fn all_begin(squares: &[Matrix]) -> bool
     true
 }
 
-// Draws `shown` again, and returns whether this drawing is `text`. There is room for one byte more than `text` has. A
-// drawing that needs this byte is longer than `text`, and the rest of it is not drawn.
+// Returns a writer with room for one byte more than `text` has. It needs no more memory than it has from the start.
+fn room_beyond(alloc: Global, text: &[u8]) -> Result<Bounded, AllocError>
+    ensures empty { IfOk result (λ out. out.bytes.items ≡ []) }
+    ensures more { IfOk result (λ out. length text.now < out.most) }
+    ensures capacity { IfOk result (λ out. out.most ≤ vec_capacity out.bytes) }
+{
+    let most = text.len() + 1;
+    let bytes = Vec::with_capacity(alloc, most)?;
+    Ok(Bounded { bytes, most })
+}
+
+// Draws `shown` again, and returns whether this drawing is `text`. A drawing that fills the writer is longer than
+// `text`, and the rest of it is not drawn.
 fn is_drawn(alloc: Global, shown: &Drawn, text: &[u8]) -> Result<bool, AllocError>
     requires { CanBeDrawn shown.now.squares.items }
     ensures { IfOk result (λ b. Decides b (text.now ≡ drawn shown.now.kind shown.now.margin shown.now.squares.items)) }
 {
-    let most = text.len() + 1;
-    let bytes = Vec::with_capacity(alloc, most)?;
-    let mut out = Counted::new(Bounded { bytes, most });
+    let mut out = Counted::new(room_beyond(alloc, text)?);
     let drawing = draw(&shown.squares, shown.kind, shown.margin, &mut out);
     let again = out.into_inner().bytes;
     match drawing {
         Ok(()) => Ok(text == again.as_slice()),
         Err(_) if again.len() > text.len() => Ok(false),
-        // This never happens, because `draw` fails only where the room ends. But its contract does not say so.
+        // This never happens: `draw` fails only where the room ends, and the room is more than `text` has. But the
+        // contract of `draw` does not say why it fails.
         Err(_) => Err(AllocError),
     }
 }

@@ -1,6 +1,6 @@
 //! The call that draws squares of modules (ISO/IEC 18004:2015, 6.3.8).
 
-ghost use Rattle.std.specs.Prelude.{◌≡◌, ◌≢◌, ◌*◌, ◌<◌, ◌≤◌, ◌↔◌, ◌⊎◌, length, IfOk, SomeIff};
+ghost use Rattle.std.specs.Prelude.{◌≡◌, ◌≢◌, ◌*◌, ◌<◌, ◌≤◌, ◌↔◌, ◌⊎◌, [], length, IfOk, SomeIff};
 ghost use Rattle.qr_drawing.specs.Drawing.{drawn};
 ghost use Rattle.qrproved.specs.Drawing.{AreDrawingSettings, HasFewModules, HasNoTextRoom, HoldsText, drawing_of, drawing_of_bytes, squares_of_bytes};
 
@@ -62,9 +62,20 @@ fn squares_of(alloc: Global, modules: &[u8], side: u8, count: u8) -> Result<Vec<
     Ok(squares)
 }
 
+// Returns a writer that accepts as many bytes as a `Vec` can have. It has the same type as in `parse_drawing`, so that
+// the library contains the code of `draw` only once.
+fn without_bound(alloc: Global) -> Bounded
+    ensures empty { result.bytes.items ≡ [] }
+    ensures most { result.most ≡ 18446744073709551615 }
+{
+    Bounded {
+        bytes: Vec::new(alloc),
+        most: usize::MAX,
+    }
+}
+
 // Draws the squares into memory. Each fault of `draw` is then lack of memory, because the writer fails only if its
-// `Vec` cannot grow, and otherwise accepts all bytes. The writer has the same type as in `parse_drawing`, so that the
-// library contains the code of `draw` only once.
+// `Vec` cannot grow, and otherwise accepts all bytes.
 fn drawn(alloc: Global, modules: &[u8], asked: DrawingSettings) -> Result<Vec<u8>, AllocError>
     requires least { 1 ≤ asked.side }
     requires most { asked.side ≤ 177 }
@@ -75,10 +86,7 @@ fn drawn(alloc: Global, modules: &[u8], asked: DrawingSettings) -> Result<Vec<u8
         ≡ drawn asked.drawing asked.margin (squares_of_bytes asked.side asked.count modules.now)) }
 {
     let squares = squares_of(alloc, modules, asked.side, asked.count)?;
-    let mut text = Counted::new(Bounded {
-        bytes: Vec::new(alloc),
-        most: usize::MAX,
-    });
+    let mut text = Counted::new(without_bound(alloc));
     match draw(&squares, asked.drawing, asked.margin, &mut text) {
         Ok(()) => Ok(text.into_inner().bytes),
         Err(_) => Err(AllocError),

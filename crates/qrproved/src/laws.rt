@@ -1,16 +1,18 @@
 //! Laws about the calls, and about the numbers that they take and return. A function here exists for its contract,
 //! which is the law.
 
-ghost use Rattle.std.specs.Prelude.{◌≡◌, ◌<◌, ◌≤◌, ℕ, [], ◌∷◌, map, true, false, IfOk};
+ghost use Rattle.std.specs.Prelude.{◌≡◌, ◌<◌, ◌≤◌, ◌↔◌, ℕ, [], ◌∷◌, map, true, false, IfOk, Some, None};
 ghost use Rattle.qr_layout.specs.declared.level.Level.{Level};
 ghost use Rattle.qr_bits.specs.declared.modes.Rule.{Rule};
+ghost use Rattle.qr_bits.specs.declared.interpretation.Fnc1.{Fnc1};
 ghost use Rattle.qr_bits.specs.declared.interpretation.Interpretation.{Interpretation};
 ghost use Rattle.qrproved.specs.Modules.{byte_of};
 ghost use Rattle.qrproved.specs.Drawing.{drawing_of, AreDrawingSettings};
 ghost use Rattle.qrproved.specs.Mending.{square_of_unknown};
 ghost use Rattle.qr_matrix.specs.Grid.{colour};
 ghost use Rattle.qr_drawing.specs.declared.drawing.Drawing.{Drawing};
-ghost use Rattle.qrproved.specs.Settings.{interpretation_of, level_of, rule_of};
+ghost use Rattle.qrproved.specs.Interpretation.{TellsFnc1};
+ghost use Rattle.qrproved.specs.Settings.{AreSymbolSettings, MayAllowKanji, interpretation_of, level_of, rule_of};
 
 use crate::encoding::QrprovedSymbol;
 use crate::interpretation::QrprovedEci;
@@ -47,15 +49,23 @@ pub fn statuses()
 
 /// Numbers have these meanings in calls. As a level, 0 to 3 are L, M, Q and H. As a rule, 0 to 2 are `Auto`,
 /// `BytesOnly` and `WithKanji`. As an interpretation, 0 to 999,999 are ECIs, 1,000,000 is none, and 1,000,001 is GS1
-/// data. As a drawing, 0 to 3 are ASCII, ASCIIi, UTF8 and SVG. A module is written as 1 if it is dark and as 0 if it is
-/// light, and in `qrproved_mend` it is 2 if it is not known. A drawing is made of 1 to 16 squares of 1 to 177 rows,
-/// with a margin of 0 to 100 modules.
+/// data. Among the ECIs, kanji mode may be allowed with 20 alone. `boost` is at most 1. FNC1 is told as 0 if there is
+/// none, as 1 if it is in first position, and as 2 with its application indicator if it is in second position. As a
+/// drawing, 0 to 3 are ASCII, ASCIIi, UTF8 and SVG. A module is written as 1 if it is dark and as 0 if it is light, and
+/// in `qrproved_mend` it is 2 if it is not known. A drawing is made of 1 to 16 squares of 1 to 177 rows, with a margin
+/// of 0 to 100 modules.
 #[tactic(auto, unfolding(qr_matrix::specs::Grid::rows_of, qr_matrix::specs::Grid::colour))]
 pub fn numbers()
     ensures levels { map level_of (0 ∷ 1 ∷ 2 ∷ 3 ∷ []) ≡ Level.L ∷ Level.M ∷ Level.Q ∷ Level.H ∷ [] }
     ensures rules { map rule_of (0 ∷ 1 ∷ 2 ∷ []) ≡ Rule.Auto ∷ Rule.BytesOnly ∷ Rule.WithKanji ∷ [] }
     ensures ecis { (n : ℕ) → n < 1000000 → interpretation_of n ≡ Interpretation.Eci n }
     ensures interpretations { map interpretation_of (1000000 ∷ 1000001 ∷ []) ≡ Interpretation.Default ∷ Interpretation.Gs1 ∷ [] }
+    ensures kanji { (n : ℕ) → MayAllowKanji (Interpretation.Eci n) ↔ (n ≡ 20) }
+    ensures boosts { (version level rule interpretation boost : ℕ)
+        → AreSymbolSettings version level rule interpretation boost → boost ≤ 1 }
+    ensures no_fnc1 { TellsFnc1 None 0 0 }
+    ensures first { TellsFnc1 (Some Fnc1.First) 1 0 }
+    ensures second { TellsFnc1 (Some (Fnc1.Second 37)) 2 37 }
     ensures bytes { map byte_of (true ∷ false ∷ []) ≡ 1 ∷ 0 ∷ [] }
     ensures drawings { map drawing_of (0 ∷ 1 ∷ 2 ∷ 3 ∷ []) ≡ Drawing.Ascii ∷ Drawing.AsciiInverse ∷ Drawing.Utf8 ∷ Drawing.Svg ∷ [] }
     ensures most { AreDrawingSettings 177 16 3 100 }

@@ -11,7 +11,7 @@ returns-in_err-put_stack g c =
     let parts = document-parts g.S.HasSquare.grid c.args.margin c.width-width.result _ c.args.symbols.now c.index-symbols-0.result c.requires.some
     (rw (c.square.ensures, c.index-symbols-0.is) at c.width-width.ensures.value) refl in
     rw ((err_from_is_err_and c.from_residual-in_err-put_stack.result c.from_residual-in_err-put_stack.ensures.1).1, parts) (stops-first _ _ _ held _ _ (writes-stop _ _ _ _ _ held _ _ _
-    (formed _ _ _ _ held _ _ _ c.in_ok-reserve.ensures.writes c.push_head.ensures) c.in_err-put_stack.ensures))
+    (formed _ _ _ _ held _ _ _ c.in_ok-reserve.ensures.writes c.push_head.ensures.items) c.in_err-put_stack.ensures))
 
 pub returns-in_err-reserve-2 : goal.returns-in_err-reserve-2
 returns-in_err-reserve-2 g c =
@@ -19,7 +19,7 @@ returns-in_err-reserve-2 g c =
     let parts = document-parts g.S.HasSquare.grid c.args.margin c.width-width.result _ c.args.symbols.now c.index-symbols-0.result c.requires.some
     (rw (c.square.ensures, c.index-symbols-0.is) at c.width-width.ensures.value) refl in
     rw ((err_from_is_err_and c.from_residual-in_err-reserve-2.result c.from_residual-in_err-reserve-2.ensures.1).1, parts) (stops-between _ _ _ _ _ held _ _ _ (writes-on _ _ _ _ _ _ held _ _ _ _
-    (formed _ _ _ _ held _ _ _ c.in_ok-reserve.ensures.writes c.push_head.ensures) c.in_ok-put_stack.ensures) c.in_err-reserve-2.ensures.writes)
+    (formed _ _ _ _ held _ _ _ c.in_ok-reserve.ensures.writes c.push_head.ensures.items) c.in_ok-put_stack.ensures) c.in_err-reserve-2.ensures.writes)
 
 pub returns : goal.returns
 unfolding tail closing
@@ -28,5 +28,5 @@ returns g c =
     let parts = document-parts g.S.HasSquare.grid c.args.margin c.width-width.result _ c.args.symbols.now c.index-symbols-0.result c.requires.some
     (rw (c.square.ensures, c.index-symbols-0.is) at c.width-width.ensures.value) refl in
     rw parts (writes-on _ _ _ _ _ _ held _ _ _ _ (writes-on _ _ _ _ _ _ held _ _ _ _
-    (formed _ _ _ _ held _ _ _ c.in_ok-reserve.ensures.writes c.push_head.ensures) c.in_ok-put_stack.ensures)
-    (formed _ _ _ _ _ _ _ tail c.in_ok-reserve-2.ensures.writes c.push_tail.ensures))
+    (formed _ _ _ _ held _ _ _ c.in_ok-reserve.ensures.writes c.push_head.ensures.items) c.in_ok-put_stack.ensures)
+    (formed _ _ _ _ _ _ _ tail c.in_ok-reserve-2.ensures.writes c.push_tail.ensures.items))

@@ -87,6 +87,19 @@ push_quad-requires-then-left-ge4 g c =
     let fits = rw (c.from-2.ensures, c.side-side.ensures.value, most) at c.in_ok-reserve-2.ensures.room in
     record { room = room-cells c.args.style _ _ _ _ _ 4 _ _ _ c.eights.invariant.items (omega arith) fits }
 
+pub invariant_of-pen-then-left-ge4-clause-full : goal.invariant_of-pen-then-left-ge4-clause-full
+invariant_of-pen-then-left-ge4-clause-full g c =
+    let most = (style-is g (goal.at.invariant_of-pen-then-left-ge4-clause-full g c).Joined-style).0 in
+    let fits = rw (c.from-2.ensures, c.side-side.ensures.value, most) at c.in_ok-reserve-2.ensures.room in
+    let room = room-cells c.args.style _ _ _ _ _ 4 _ _ _ c.eights.invariant.items (omega arith) fits in
+    grind (arith, room-left _ _ 4 0 4 (cell_room c.args.style) 1200 _ (λ k. cell-length c.args.style _ _) c.push_quad-then-left-ge4.ensures (omega arith) room)
+
+pub invariant_of-pen-else-left-ge4-clause-full : goal.invariant_of-pen-else-left-ge4-clause-full
+invariant_of-pen-else-left-ge4-clause-full g c =
+    let most = (style-is g (goal.at.invariant_of-pen-else-left-ge4-clause-full g c).Joined-style).0 in
+    let fits = rw (c.from-2.ensures, c.side-side.ensures.value, most) at c.in_ok-reserve-2.ensures.room in
+    grind (arith, room-cells c.args.style _ _ _ _ _ 0 _ _ _ c.eights.invariant.items (omega arith) fits)
+
 pub returns-in_err-reserve-3 : goal.returns-in_err-reserve-3
 returns-in_err-reserve-3 g c =
     let p = err_from_is_err_and c.from_residual-in_err-reserve-3.result c.from_residual-in_err-reserve-3.ensures.1 in

@@ -1,0 +1,89 @@
+/* Makes each call of the library for tests/library, and prints each field of each struct: the name that the header has for it, and
+ * the value that the library has written there. It also prints the modules and the bytes that the library has written.
+ *
+ * Standard input has the side of a symbol as one byte, then the modules of the symbol, and then its modules once more, with damage.
+ *
+ * The numbers that are passed to a call differ from each other, and no two of them could be exchanged without another result. */
+#include "qrproved.h"
+#include <stdio.h>
+#include <stdlib.h>
+
+#define TELL(field) printf("%s %llu\n", #field, (unsigned long long)(field))
+
+static const uint8_t DIGITS[] = "314159265358979323846264338327950288419716939937510582097494";
+static uint8_t modules[QRPROVED_SERIES_MAX], parsed[QRPROVED_SERIES_MAX], bytes[QRPROVED_BYTES_MAX], text[20000];
+
+static void want_done(const char *call, uint8_t status)
+{
+	if (status != QRPROVED_DONE) {
+		printf("%s: status %d\n", call, status);
+		exit(1);
+	}
+}
+
+static void tell_all(const char *name, const uint8_t *all, size_t len)
+{
+	printf("%s ", name);
+	for (size_t i = 0; i < len; i++)
+		printf("%02x", all[i]);
+	puts("");
+}
+
+static void encode(void)
+{
+	struct qrproved_symbol symbol;
+	want_done("encode", qrproved_encode(DIGITS, sizeof DIGITS - 1, 4, QRPROVED_LEVEL_Q, QRPROVED_RULE_AUTO, QRPROVED_ECI_UTF8, 1,
+	                                    modules, sizeof modules, &symbol));
+	TELL(symbol.version), TELL(symbol.side), TELL(symbol.level), TELL(symbol.mask);
+	tell_all("encoded", modules, (size_t)symbol.side * symbol.side);
+}
+
+/* Encodes 75 times one kanji of Shift JIS, draws two of the symbols, and parses the drawing. */
+static void encode_series(void)
+{
+	struct qrproved_series series;
+	struct qrproved_drawn drawn;
+	uint8_t kanji[150];
+	size_t written;
+	for (size_t i = 0; i < sizeof kanji; i++)
+		kanji[i] = i % 2 ? 0x5F : 0x93;
+	want_done("encode_series", qrproved_encode_series(kanji, sizeof kanji, 3, QRPROVED_LEVEL_L, QRPROVED_RULE_WITH_KANJI, 20,
+	                                                  modules, sizeof modules, &series));
+	TELL(series.count), TELL(series.side);
+	tell_all("series", modules, (size_t)series.count * series.side * series.side);
+	want_done("draw", qrproved_draw(modules, sizeof modules, series.side, 2, QRPROVED_ASCIIi, 6, text, sizeof text, &written));
+	tell_all("text", text, written);
+	want_done("parse_drawing", qrproved_parse_drawing(text, written, parsed, sizeof parsed, &drawn));
+	TELL(drawn.drawing), TELL(drawn.margin), TELL(drawn.count), TELL(drawn.side);
+	tell_all("parsed", parsed, (size_t)drawn.count * drawn.side * drawn.side);
+}
+
+static void read_and_mend(void)
+{
+	struct qrproved_content content;
+	struct qrproved_mended mended;
+	struct qrproved_eci ecis[3], eci;
+	uint32_t side = (uint32_t)getchar();
+	size_t area = (size_t)side * side;
+	if (fread(modules, 1, 2 * area, stdin) != 2 * area)
+		return;
+	want_done("read", qrproved_read(modules, area, side, bytes, sizeof bytes, ecis, 3, &content));
+	TELL(content.len), TELL(content.eci_count), TELL(content.version), TELL(content.has_header), TELL(content.position);
+	TELL(content.last), TELL(content.parity), TELL(content.fnc1), TELL(content.application);
+	tell_all("read", bytes, content.len);
+	eci = ecis[1];
+	TELL(eci.begin), TELL(eci.number);
+	want_done("mend", qrproved_mend(modules + area, area, side, bytes, sizeof bytes, ecis, 3, &mended));
+	TELL(mended.len), TELL(mended.eci_count), TELL(mended.wrong_modules), TELL(mended.version), TELL(mended.has_header);
+	TELL(mended.position), TELL(mended.last), TELL(mended.parity), TELL(mended.fnc1), TELL(mended.application);
+	TELL(mended.level), TELL(mended.mask), TELL(mended.wrong_format_modules), TELL(mended.changed_most), TELL(mended.changed_allowed);
+	tell_all("mended", bytes, mended.len);
+}
+
+int main(void)
+{
+	encode();
+	encode_series();
+	read_and_mend();
+	return 0;
+}
