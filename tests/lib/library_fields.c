@@ -69,13 +69,15 @@ static void read_and_mend(void)
 		return;
 	want_done("read", qrproved_read(modules, area, side, bytes, sizeof bytes, ecis, 3, &content));
 	TELL(content.len), TELL(content.eci_count), TELL(content.version), TELL(content.has_header), TELL(content.position);
-	TELL(content.last), TELL(content.parity), TELL(content.fnc1), TELL(content.application);
+	TELL(content.last), TELL(content.parity), TELL(content.fnc1), TELL(content.application), TELL(content.has_kanji);
 	tell_all("read", bytes, content.len);
 	eci = ecis[1];
 	TELL(eci.begin), TELL(eci.number);
 	want_done("mend", qrproved_mend(modules + area, area, side, bytes, sizeof bytes, ecis, 3, &mended));
 	TELL(mended.len), TELL(mended.eci_count), TELL(mended.wrong_modules), TELL(mended.version), TELL(mended.has_header);
 	TELL(mended.position), TELL(mended.last), TELL(mended.parity), TELL(mended.fnc1), TELL(mended.application);
+	TELL(mended.has_kanji), TELL(mended.wrong_format_least), TELL(mended.spent_most);
+	TELL(mended.worst_misread), TELL(mended.worst_unknown), TELL(mended.worst_unknown_wrong);
 	TELL(mended.level), TELL(mended.mask), TELL(mended.wrong_format_modules), TELL(mended.changed_most), TELL(mended.changed_allowed);
 	tell_all("mended", bytes, mended.len);
 }

@@ -174,6 +174,12 @@ pub fn changes_are_bounded()
     ensures correctable { (v : ℕ) (l : Level) → 1 ≤ v → v ≤ 40 → (2 ≤ correctable_of v l) × (correctable_of v l ≤ 15) }
 {}
 
+/// Whoever has made a symbol that can be mended and read, it contains at most 7,089 bytes and at most 1,970 ECI headers.
+pub fn mended_readings_are_short()
+    ensures { (unknown : Grid) (g : Grid) (v : ℕ) (l : Level) (m : ℕ) (p : Content) (x : List Changes)
+        → IsMendedReading unknown g v l m p x → (length p.bytes ≤ 7089) × (length p.ecis ≤ 1970) }
+{}
+
 /// A damaged symbol that can be mended and read is refused only for lack of memory.
 pub fn mended_readings_are_not_refused()
     ensures { (unknown : Grid) (g : Grid) (v : ℕ) (l : Level) (m : ℕ) (p : Content) (x : List Changes) (e : ReadFault)

@@ -1,7 +1,7 @@
 //! Laws of masks, interleaving, reading and series. The contract of each function is the law. Where a function has
 //! code, the law is about what this code returns.
 
-ghost use Rattle.std.specs.Prelude.{◌≡◌, ◌<◌, ◌≤◌, ◌+◌, ◌%◌, ◌⊎◌, ℕ, false, List, length, map, None, [], ◌∷◌, IfOk, IfErr, ◌≢◌, ◌↔◌, Err, IsTrue};
+ghost use Rattle.std.specs.Prelude.{◌≡◌, ◌<◌, ◌≤◌, ◌+◌, ◌%◌, ◌⊎◌, ℕ, false, List, length, map, Option, None, [], ◌∷◌, IfOk, IfErr, ◌≢◌, ◌↔◌, Err, IsTrue};
 ghost use Rattle.std.specs.List.{All};
 ghost use Rattle.qr_layout.specs.declared.level.Level.{Level};
 ghost use Rattle.qr_layout.specs.declared.region.Place.{Place};
@@ -21,7 +21,7 @@ ghost use Rattle.qr_symbol.specs.Fault.{read_fault_number};
 ghost use Rattle.qr_symbol.specs.Mask.{inverts};
 ghost use Rattle.qr_symbol.specs.Symbol.{colour_by, grid_of};
 ghost use Rattle.qr_symbol.specs.Reading.{read_bits, interpreted_content, IsRead, IsMessage, IsFormat, IsReading, IsUnread};
-ghost use Rattle.qr_symbol.specs.Encoding.{BoostedSymbolsAreOne, IsBoostedSymbol, IsSymbol, SymbolsAreOne};
+ghost use Rattle.qr_symbol.specs.Encoding.{BoostedSymbolsAreOne, IsBoostedSymbol, IsSymbol, IsSymbolAt, SymbolsAreOne};
 ghost use Rattle.qr_symbol.specs.VersionChoice.{level_rank, FitsVersion, HasNoVersion, IsVersion};
 ghost use Rattle.qr_symbol.specs.Series.{squares_of, AreParts, FitParts, NeedsParts, IsSeries, HasNoSeries};
 ghost use Rattle.qr_symbol.specs.Joining.{AreInterpreted, IsJoined, IsUnjoined};
@@ -29,6 +29,7 @@ ghost use Rattle.qr_layout.specs.Version.{side_of, total_codewords_of};
 ghost use Rattle.qr_layout.specs.Blocks.{data_codewords_of, blocks_of};
 ghost use Rattle.qr_bits.specs.declared.modes.Rule.{Rule};
 ghost use Rattle.qr_bits.specs.declared.interpretation.Interpretation.{Interpretation};
+ghost use Rattle.qr_bits.specs.declared.stream.Header.{Header};
 ghost use Rattle.qr_bits.specs.Interpretation.{MayWrite};
 ghost use Rattle.qr_symbol.specs.Interleaving.{block_count, block_len, start_of, codeword_count, data_sizes, IsInterleaved};
 ghost use Rattle.qr_symbol.specs.Distance.{MessagesLieApart, DamagedMessagesAreOne};
@@ -216,11 +217,11 @@ pub fn levels_are_ranked()
 {}
 
 /// Reading the symbol of an input yields the bytes of the input, the interpretation, the segments of fewest bits, and
-/// no structured append header.
-pub fn symbols_are_read(smallest: Version)
-    ensures { (x : List ℕ) (l : Level) (rule : Rule) (i : Interpretation) (v mask : ℕ) (g : Grid)
-        → MayWrite i x → (s : IsSymbol smallest l rule i x v mask g)
-        → IsReading g (interpreted_content i None s.made.segments x) }
+/// the structured append header, if the symbol has one.
+pub fn symbols_are_read(version: Version)
+    ensures { (x : List ℕ) (l : Level) (rule : Rule) (i : Interpretation) (h : Option Header) (mask : ℕ) (g : Grid)
+        → MayWrite i x → (s : IsSymbolAt version l rule i x h mask g)
+        → IsReading g (interpreted_content i h s.segments x) }
 {}
 
 /// Whoever has made a symbol that can be read, it contains at most 7,089 bytes and at most 1,970 ECI headers.

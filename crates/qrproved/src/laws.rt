@@ -6,12 +6,14 @@ ghost use Rattle.qr_layout.specs.declared.level.Level.{Level};
 ghost use Rattle.qr_bits.specs.declared.modes.Rule.{Rule};
 ghost use Rattle.qr_bits.specs.declared.interpretation.Fnc1.{Fnc1};
 ghost use Rattle.qr_bits.specs.declared.interpretation.Interpretation.{Interpretation};
+ghost use Rattle.qr_bits.specs.declared.interpretation.Item.{Item};
+ghost use Rattle.qr_bits.specs.declared.modes.Mode.{Mode};
 ghost use Rattle.qrproved.specs.Modules.{byte_of};
 ghost use Rattle.qrproved.specs.Drawing.{drawing_of, AreDrawingSettings};
-ghost use Rattle.qrproved.specs.Mending.{square_of_unknown};
+ghost use Rattle.qrproved.specs.Mending.{spent_in, square_of_unknown, wrong_in};
 ghost use Rattle.qr_matrix.specs.Grid.{colour};
 ghost use Rattle.qr_drawing.specs.declared.drawing.Drawing.{Drawing};
-ghost use Rattle.qrproved.specs.Interpretation.{TellsFnc1};
+ghost use Rattle.qrproved.specs.Interpretation.{TellsFnc1, TellsKanji};
 ghost use Rattle.qrproved.specs.Settings.{AreSymbolSettings, MayAllowKanji, interpretation_of, level_of, rule_of};
 
 use crate::encoding::QrprovedSymbol;
@@ -50,8 +52,9 @@ pub fn statuses()
 /// Numbers have these meanings in calls. As a level, 0 to 3 are L, M, Q and H. As a rule, 0 to 2 are `Auto`,
 /// `BytesOnly` and `WithKanji`. As an interpretation, 0 to 999,999 are ECIs, 1,000,000 is none, and 1,000,001 is GS1
 /// data. Among the ECIs, kanji mode may be allowed with 20 alone. `boost` is at most 1. FNC1 is told as 0 if there is
-/// none, as 1 if it is in first position, and as 2 with its application indicator if it is in second position. As a
-/// drawing, 0 to 3 are ASCII, ASCIIi, UTF8 and SVG. A module is written as 1 if it is dark and as 0 if it is light, and
+/// none, as 1 if it is in first position, and as 2 with its application indicator if it is in second position. That a
+/// symbol has a segment in kanji mode is told as 1. A block with three misread codewords and five with a module that is
+/// not known uses up eleven error correction codewords, and has eight wrong codewords for a scanner. As a drawing, 0 to 3 are ASCII, ASCIIi, UTF8 and SVG. A module is written as 1 if it is dark and as 0 if it is light, and
 /// in `qrproved_mend` it is 2 if it is not known. A drawing is made of 1 to 16 squares of 1 to 177 rows, with a margin
 /// of 0 to 100 modules.
 #[tactic(auto, unfolding(qr_matrix::specs::Grid::rows_of, qr_matrix::specs::Grid::colour))]
@@ -66,6 +69,10 @@ pub fn numbers()
     ensures no_fnc1 { TellsFnc1 None 0 0 }
     ensures first { TellsFnc1 (Some Fnc1.First) 1 0 }
     ensures second { TellsFnc1 (Some (Fnc1.Second 37)) 2 37 }
+    ensures with_kanji { TellsKanji (Item.Fnc1First ∷ Item.Data (record { mode = Mode.Kanji; len = 2 }) ∷ []) 1 }
+    ensures without_kanji { TellsKanji (Item.Fnc1First ∷ Item.Data (record { mode = Mode.Byte; len = 2 }) ∷ []) 0 }
+    ensures spent { spent_in (record { misread = 3; erased = 5; erased_wrong = 1 }) ≡ 11 }
+    ensures wrong { wrong_in (record { misread = 3; erased = 5; erased_wrong = 1 }) ≡ 8 }
     ensures bytes { map byte_of (true ∷ false ∷ []) ≡ 1 ∷ 0 ∷ [] }
     ensures drawings { map drawing_of (0 ∷ 1 ∷ 2 ∷ 3 ∷ []) ≡ Drawing.Ascii ∷ Drawing.AsciiInverse ∷ Drawing.Utf8 ∷ Drawing.Svg ∷ [] }
     ensures most { AreDrawingSettings 177 16 3 100 }
