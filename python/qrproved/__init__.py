@@ -25,7 +25,7 @@ from . import _library, _png
 from ._drawings import found_by_look, undone
 from ._gs1 import Gs1Error, data_of, fields_of
 from ._interpretation import SHIFT_JIS, UTF_8, Eci, EciError, encoded, text_of
-from ._pictures import parse_picture
+from ._pictures import WORK_MAX, parse_picture
 from ._errors import (CheckError, EmptyError, Error, FieldsError, FormatError, NoDrawingError, OutOfMemoryError, RoomError,
                       SegmentsError, SettingsError, SideError, TooLongError, TooManyError, raise_for, too_long)
 from ._library import BYTES_MAX, COUNT_MAX, ECIS_MAX, MARGIN_MAX, SERIES_MAX, SIDE_MAX, SYMBOL_MAX
@@ -40,8 +40,8 @@ if TYPE_CHECKING:
 __all__ = ["BYTES_MAX", "COUNT_MAX", "ECI_MAX", "MARGIN_MAX", "SCALE_MAX", "SERIES_MAX", "SIDE_MAX", "SYMBOL_MAX", "CheckError", "Content",
            "Drawing", "Drawn", "Eci", "EciError", "EmptyError", "Error", "FieldsError", "FormatError", "Gs1Error", "Header", "Level",
            "Mended", "NoDrawingError", "OutOfMemoryError", "PrintWarning", "RoomError", "Rule", "SegmentsError", "SettingsError",
-           "SideError", "Symbol", "TooLongError", "TooManyError", "draw", "encode", "encode_series", "mend", "parse_drawing",
-           "parse_picture", "read"]
+           "SideError", "Symbol", "TooLongError", "TooManyError", "WORK_MAX", "draw", "encode", "encode_series", "mend",
+           "parse_drawing", "parse_picture", "read"]
 
 __version__ = "0.2.0"
 _calls = _library.load()
