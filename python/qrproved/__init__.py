@@ -31,7 +31,7 @@ from ._errors import (CheckError, EmptyError, Error, FieldsError, FormatError, N
 from ._library import BYTES_MAX, COUNT_MAX, ECIS_MAX, MARGIN_MAX, SERIES_MAX, SIDE_MAX, SYMBOL_MAX
 
 if TYPE_CHECKING:
-    from collections.abc import Iterable, Sequence
+    from collections.abc import Iterable, Mapping, Sequence
 
     Bytes = Union[bytes, bytearray, memoryview]
     Input = Union[str, bytes, bytearray, memoryview]
@@ -127,7 +127,8 @@ class Symbol:
         starts = range(0, len(self.modules), self.side)
         return [[module != 0 for module in self.modules[start:start + self.side]] for start in starts]
 
-    def png(self, *wrong: NoReturn, scale: int = 8, margin: int = 4, mm: Optional[float] = None, dpi: Optional[float] = None) -> bytes:
+    def png(self, *wrong: NoReturn, scale: int = 8, margin: int = 4, mm: Optional[float] = None, dpi: Optional[float] = None,
+            **others: NoReturn) -> bytes:
         """Returns the drawing as a PNG picture of black and white.
 
         scale   the pixels of a module on each side, from 1 to SCALE_MAX
@@ -139,23 +140,25 @@ class Symbol:
         is one that PNG cannot state: its pixels are counted by the metre. Raises TypeError for both mm and dpi, and RoomError if
         there are too few modules. Warns by PrintWarning of what scanners may not read.
         """
-        _no_more("png", "", wrong, "scale", "margin", "mm", "dpi")
+        _no_more("png", "", wrong, others, "scale", "margin", "mm", "dpi")
         return self._png(scale, margin, mm, dpi)
 
-    def svg(self, *wrong: NoReturn, margin: int = 4, mm: Optional[float] = None) -> bytes:
+    def svg(self, *wrong: NoReturn, margin: int = 4, mm: Optional[float] = None, inline: bool = False, **others: NoReturn) -> bytes:
         """Returns the drawing as an SVG document, with `margin` light modules on each side. `mm` is its width with the margin, in
-        millimetres; without it a module is one unit wide, and each program chooses a size. Raises as draw does, and warns by
-        PrintWarning of what scanners may not read."""
-        _no_more("svg", "", wrong, "margin", "mm")
-        return self._svg(margin, mm)
+        millimetres; without it a module is one unit wide, and each program chooses a size. If `inline` is True, the line that makes
+        it a document of its own is left out, the XML declaration: it may then stand within a page of HTML. Raises as draw does, and
+        warns by PrintWarning of what scanners may not read."""
+        _no_more("svg", "", wrong, others, "margin", "mm", "inline")
+        document = self._svg(margin, mm)
+        return document.split(b"?>\n", 1)[-1] if _flag("inline", inline) else document
 
-    def text(self, *wrong: NoReturn, drawing: Name = Drawing.UTF8, margin: int = 4) -> str:
+    def text(self, *wrong: NoReturn, drawing: Name = Drawing.UTF8, margin: int = 4, **others: NoReturn) -> str:
         """Returns the drawing as text, with `margin` light modules on each side. Raises as draw does."""
-        _no_more("text", "", wrong, "drawing", "margin")
+        _no_more("text", "", wrong, others, "drawing", "margin")
         return draw([self], drawing=drawing, margin=margin).decode()
 
     def save(self, path: Union[str, os.PathLike[str], BinaryIO], *wrong: NoReturn, kind: Optional[str] = None, scale: int = 8,
-             margin: int = 4, mm: Optional[float] = None, dpi: Optional[float] = None) -> None:
+             margin: int = 4, mm: Optional[float] = None, dpi: Optional[float] = None, **others: NoReturn) -> None:
         """Writes the drawing to a file, or to an object with a method `write` that takes bytes.
 
         kind    'png', 'svg' or 'txt'; unless it is given, the end of the file's name, or 'png' for an object
@@ -164,7 +167,7 @@ class Symbol:
 
         Raises as png and draw do, and SettingsError for another kind or ending. Warns as png does.
         """
-        _no_more("save", "path, ", wrong, "scale", "margin", "mm", "dpi", "kind")
+        _no_more("save", "path, ", wrong, others, "scale", "margin", "mm", "dpi", "kind")
         write = getattr(path, "write", None)
         ending = kind or ("png" if write else os.path.splitext(os.fspath(path))[1].lower()[1:])  # type: ignore[arg-type]
         drawing = self._drawn(ending, scale, margin, mm, dpi)
@@ -174,10 +177,11 @@ class Symbol:
         with open(path, "wb") as file:  # type: ignore[arg-type]
             file.write(drawing)
 
-    def data_uri(self, *wrong: NoReturn, kind: str = "png", scale: int = 8, margin: int = 4, mm: Optional[float] = None) -> str:
+    def data_uri(self, *wrong: NoReturn, kind: str = "png", scale: int = 8, margin: int = 4, mm: Optional[float] = None,
+                 **others: NoReturn) -> str:
         """Returns the drawing as a URI that holds it, as for the attribute src of an image: `kind` is 'png' or 'svg'. Raises and
         warns as png does, and raises SettingsError for another kind."""
-        _no_more("data_uri", "", wrong, "kind", "scale", "margin", "mm")
+        _no_more("data_uri", "", wrong, others, "kind", "scale", "margin", "mm")
         if kind not in ("png", "svg"):
             raise SettingsError(f"kind is 'png' or 'svg', and not {kind!r}")
         media = {"png": "image/png", "svg": "image/svg+xml"}[kind]
@@ -228,8 +232,8 @@ class Symbol:
         return self.png(scale=4)
 
     def _repr_svg_(self) -> str:
-        """Returns the SVG drawing with a size, four pixels a module, and without the line that makes it a document."""
-        return _sized(self.svg(), str(4 * (self.side + 8))).decode().split("?>\n", 1)[-1]
+        """Returns the SVG drawing with a size, four pixels a module, for a place within a page."""
+        return _sized(self.svg(inline=True), str(4 * (self.side + 8))).decode()
 
 
 class Drawn(List[Tuple[bytes, int]]):
@@ -383,8 +387,17 @@ def _settings(version: int, level: Name, rule: Name) -> tuple[int, int, int]:
     return _setting("version", version, 1, 40), _named("level", Level, level), _named("rule", Rule, rule)
 
 
-def _no_more(call: str, first: str, wrong: Sequence[object], *names: str) -> None:
-    """Refuses arguments without a name, with the call that was meant."""
+# What segno, python-qrcode and other packages call the options.
+OTHER_NAMES = {"error": "level", "error_correction": "level", "ec_level": "level", "ecl": "level", "mode": "rule", "encoding": "eci",
+               "boost_error": "boost", "border": "margin", "quiet_zone": "margin", "box_size": "scale", "module_size": "scale",
+               "format": "kind", "xmldecl": "inline"}
+
+
+def _no_more(call: str, first: str, wrong: Sequence[object], others: Mapping[str, object], *names: str) -> None:
+    """Refuses options that there are not, with those that there are, and arguments without a name, with the call that was meant."""
+    for other in others:
+        ours = OTHER_NAMES.get(other)
+        raise TypeError(f"there is no option {other}; " + (f"did you mean {ours}?" if ours in names else f"there are {', '.join(names)}"))
     if not wrong:
         return
     free, said = list(names), []
@@ -449,11 +462,18 @@ def _bytes(name: str, data: Optional[Bytes]) -> bytes:
         raise TypeError(f"{name} is a text or bytes, and not of type {type(data).__name__}") from None
 
 
-def _square(modules: Union[Symbol, Bytes], side: Optional[int]) -> tuple[Bytes, int]:
+def _square(call: str, modules: Union[Symbol, Bytes], side: Optional[int]) -> tuple[bytes, int]:
     """Returns modules and their side, which a symbol has itself."""
     if isinstance(modules, Symbol):
-        return modules.modules, _side(modules.side if side is None else side)
-    return modules, _side(side)  # type: ignore[arg-type]
+        return _copied(modules.modules), _side(modules.side if side is None else side)
+    others = "for a picture call parse_picture(picture), and for a drawing as text parse_drawing(text)"
+    try:
+        copied = _copied(modules)
+    except TypeError:
+        raise TypeError(f"{call}: modules are bytes, and not of type {type(modules).__name__}; {others}") from None
+    if side is None:
+        raise TypeError(f"{call}: modules are given with their side, as in {call}(modules, 21); {others}")
+    return copied, _side(side)
 
 
 def _first(buffer: ctypes.Array[ctypes.c_uint8], length: int) -> bytes:
@@ -461,7 +481,7 @@ def _first(buffer: ctypes.Array[ctypes.c_uint8], length: int) -> bytes:
 
 
 def encode(data: Optional[Input] = None, *wrong: NoReturn, version: int = 1, level: Name = Level.L, rule: Name = Rule.AUTO,
-           eci: Optional[int] = None, gs1: Optional[Input] = None, boost: bool = True) -> Symbol:
+           eci: Optional[int] = None, gs1: Optional[Input] = None, boost: bool = True, **others: NoReturn) -> Symbol:
     """Returns the symbol of a text, of some bytes or of GS1 data, of the least version from `version` on that holds them.
 
     data     a text, or bytes; from 1 byte to BYTES_MAX
@@ -482,7 +502,7 @@ def encode(data: Optional[Input] = None, *wrong: NoReturn, version: int = 1, lev
     not in the character set, and for a text in a set that is not known; Gs1Error, which is one too, for a text that is no GS1 data,
     and FieldsError for such bytes.
     """
-    _no_more("encode", "data, ", wrong, "version", "level", "rule", "eci", "gs1", "boost")
+    _no_more("encode", "data, ", wrong, others, "version", "level", "rule", "eci", "gs1", "boost")
     settings = _settings(version, level, rule)
     given, is_boosted = _given(data, gs1, eci, settings[2]), _flag("boost", boost)
     modules, symbol = (ctypes.c_uint8 * SYMBOL_MAX)(), _library.Symbol()
@@ -495,14 +515,14 @@ def encode(data: Optional[Input] = None, *wrong: NoReturn, version: int = 1, lev
 
 
 def encode_series(data: Optional[Input] = None, *wrong: NoReturn, version: Optional[int] = None, level: Name = Level.L,
-                  rule: Name = Rule.AUTO, eci: Optional[int] = None, gs1: Optional[Input] = None) -> list[Symbol]:
+                  rule: Name = Rule.AUTO, eci: Optional[int] = None, gs1: Optional[Input] = None, **others: NoReturn) -> list[Symbol]:
     """Returns the symbols of the series of a text, of some bytes or of GS1 data, all of `version`, from 1 to COUNT_MAX of them.
 
     What fits one symbol is one plain symbol. Each symbol has the ECI header, or says that its data are GS1 data. The arguments are
     those of encode, but `version` has to be given: without it a TypeError is raised. Raises as encode does, but in place of
     TooLongError TooManyError, if the bytes take more than COUNT_MAX symbols.
     """
-    _no_more("encode_series", "data, ", wrong, "version", "level", "rule", "eci", "gs1")
+    _no_more("encode_series", "data, ", wrong, others, "version", "level", "rule", "eci", "gs1")
     if version is None:
         raise TypeError("encode_series: the version of all symbols has to be given: encode_series(data, version=5)")
     settings = _settings(version, level, rule)
@@ -533,8 +553,7 @@ def read(modules: Union[Symbol, Bytes], side: Optional[int] = None) -> Content:
     The finder, timing and alignment patterns and the version information are not checked, so a symbol that is read here
     may not scan. mend checks each module.
     """
-    square, checked = _square(modules, side)
-    given = _copied(square)
+    given, checked = _square("read", modules, side)
     data, ecis, content = (ctypes.c_uint8 * BYTES_MAX)(), (_library.Eci * ECIS_MAX)(), _library.Content()
     raise_for(_calls.qrproved_read(given, len(given), checked, data, BYTES_MAX, ecis, ECIS_MAX, ctypes.byref(content)))
     return _content_of(content, data, ecis)
@@ -554,8 +573,7 @@ def mend(modules: Union[Symbol, Bytes], side: Optional[int] = None) -> Mended:
     FormatError if both copies of the format information are too damaged, CheckError if a block is, SegmentsError if the data
     codewords cannot be parsed, and OutOfMemoryError.
     """
-    square, checked = _square(modules, side)
-    given = _copied(square)
+    given, checked = _square("mend", modules, side)
     data, ecis, mended = (ctypes.c_uint8 * BYTES_MAX)(), (_library.Eci * ECIS_MAX)(), _library.Mended()
     raise_for(_calls.qrproved_mend(given, len(given), checked, data, BYTES_MAX, ecis, ECIS_MAX, ctypes.byref(mended)))
     return Mended(_content_of(mended, data, ecis), Level(mended.level), mended.mask, mended.wrong_modules, mended.wrong_format_modules,
@@ -567,7 +585,8 @@ def _listed(symbols: Union[Symbol, Sequence[Symbol]]) -> list[Symbol]:
     return [symbols] if isinstance(symbols, Symbol) else list(symbols)
 
 
-def draw(symbols: Union[Symbol, Sequence[Symbol]], *wrong: NoReturn, drawing: Name = Drawing.UTF8, margin: int = 4) -> bytes:
+def draw(symbols: Union[Symbol, Sequence[Symbol]], *wrong: NoReturn, drawing: Name = Drawing.UTF8, margin: int = 4,
+         **others: NoReturn) -> bytes:
     """Returns the drawing of symbols of one side: texts one after the other, or one document with one below the other.
 
     symbols  from 1 to COUNT_MAX, or a symbol alone
@@ -577,7 +596,7 @@ def draw(symbols: Union[Symbol, Sequence[Symbol]], *wrong: NoReturn, drawing: Na
     Raises SettingsError if a number is out of range, a name is not known or the sides are not the same, RoomError if a symbol
     has too few modules, and OutOfMemoryError.
     """
-    _no_more("draw", "symbols, ", wrong, "drawing", "margin")
+    _no_more("draw", "symbols, ", wrong, others, "drawing", "margin")
     kind, light, listed = _named("drawing", Drawing, drawing), _setting("margin", margin, 0, MARGIN_MAX), _listed(symbols)
     count = _setting("the number of symbols", len(listed), 1, COUNT_MAX)
     side = _setting("side", listed[0].side, 1, SIDE_MAX)
@@ -622,7 +641,7 @@ def parse_drawing(text: Union[str, Bytes]) -> Drawn:
     square of a symbol: the first and the last row and column of a symbol each need a module that is not light. Raises
     UnicodeDecodeError for bytes that are no UTF-8, and OutOfMemoryError.
     """
-    given = text if isinstance(text, str) else _copied(text).decode()
+    given = text if isinstance(text, str) else _bytes("the drawing", text).decode()
     for drawing in undone(given):
         # (half a surrogate pair is in no drawing)
         found = _exactly(drawing.encode(errors="surrogatepass"))

@@ -2,6 +2,7 @@
 compared by tests/library."""
 import array
 import json
+import pathlib
 import re
 import unittest
 import unittest.mock
@@ -192,6 +193,17 @@ class Calls(unittest.TestCase):
         self.assertEqual(runs, {(row + 4, column + 4) for row in range(21) for column in range(21) if symbol[row, column]})
         self.assertIn(b"viewBox=\"0 0 21 42\"", qrproved.draw([symbol] * 2, drawing=Drawing.SVG, margin=0))
 
+    def test_a_document_within_a_page(self):
+        symbol = qrproved.encode("A")
+        for named in ({}, {"margin": 1}, {"mm": 20}):
+            head, inline = symbol.svg(**named).split(b"\n", 1)
+            self.assertEqual((head, symbol.svg(inline=True, **named)), (b'<?xml version="1.0" encoding="UTF-8"?>', inline))
+            self.assertTrue(inline.startswith(b"<svg "))
+            self.assertEqual(symbol.svg(inline=False, **named), symbol.svg(**named))
+        self.assertEqual(qrproved.parse_picture(symbol.svg(inline=True)), [(symbol.modules, symbol.side)])
+        with self.assertRaisesRegex(TypeError, "^inline is True or False"):
+            symbol.svg(inline=1)
+
     def test_modules_that_are_not_known(self):
         modules = bytearray(EIGHT_DIGITS)
         for row in range(9, 21):  # six codewords; eight can be mended
@@ -227,6 +239,33 @@ class Refusals(unittest.TestCase):
             with self.assertRaises(TypeError) as caught:
                 call()
             self.assertIn(wanted, str(caught.exception))
+
+    def test_options_of_other_packages(self):
+        symbol, of_encode = qrproved.encode("A"), "there are version, level, rule, eci, gs1, boost"
+        rows = [(lambda: qrproved.encode("A", error="H"), "error; did you mean level?"),
+                (lambda: qrproved.encode("A", error_correction=1), "error_correction; did you mean level?"),
+                (lambda: qrproved.encode("A", boost_error=False), "boost_error; did you mean boost?"),
+                (lambda: qrproved.encode("A", mask=3), f"mask; {of_encode}"), (lambda: qrproved.encode("A", border=4), f"border; {of_encode}"),
+                (lambda: qrproved.encode_series("A", version=1, boost=True), "boost; there are version, level, rule, eci, gs1"),
+                (lambda: symbol.png(border=4), "border; did you mean margin?"), (lambda: symbol.png(box_size=4), "box_size; did you mean scale?"),
+                (lambda: symbol.png(dark="red"), "dark; there are scale, margin, mm, dpi"),
+                (lambda: symbol.svg(scale=3), "scale; there are margin, mm, inline"),
+                (lambda: symbol.save("a.png", light=None), "light; there are scale, margin, mm, dpi, kind"),
+                (lambda: symbol.data_uri(border=1), "border; did you mean margin?"), (lambda: symbol.text(border=1), "border; did you mean margin?"),
+                (lambda: qrproved.draw(symbol, compact=True), "compact; there are drawing, margin")]
+        for call, wanted in rows:
+            with self.assertRaises(TypeError) as caught:
+                call()
+            self.assertEqual(str(caught.exception), f"there is no option {wanted}")
+
+    def test_a_picture_is_no_modules(self):
+        symbol = qrproved.encode("A")
+        for call in (qrproved.read, qrproved.mend):
+            for given in (symbol.png(), symbol.svg(), b"", "label.png", pathlib.Path("label.png"), symbol.text(), None):
+                with self.assertRaisesRegex(TypeError, f"^{call.__name__}: .*; for a picture call parse_picture\\(picture\\), and for a drawing"):
+                    call(given)
+        with self.assertRaisesRegex(TypeError, "^the drawing is a text or bytes, and not of type"):
+            qrproved.parse_drawing(pathlib.Path("label.txt"))
 
     def test_inputs(self):
         self.refused(qrproved.EmptyError, 1, qrproved.encode, b"")
