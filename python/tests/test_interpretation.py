@@ -168,7 +168,7 @@ class Command(unittest.TestCase):
                  ("\u70b9", "-k"): qrproved.encode("\u70b9", rule="with_kanji"), (label, "--gs1"): qrproved.encode(gs1=label)}
         for words, symbol in drawn.items():
             self.assertEqual(self.run_by(*words), symbol.text().encode(), words)
-        self.assertEqual(self.run_by(given=text.encode()), qrproved.encode(text.encode()).text().encode())
+        self.assertEqual(self.run_by(given=text.encode()), qrproved.encode(text).text().encode())
         self.assertEqual(self.run_by("--eci", "26", given=text.encode()), qrproved.encode(text).text().encode())
         self.assertEqual(self.run_by("--gs1", given=label.encode() + b"\n"), qrproved.encode(gs1=label).text().encode())
         self.assertIn("check digit", self.run_by("(01)04012345678902", "--gs1", status=1))
@@ -178,10 +178,10 @@ class Command(unittest.TestCase):
 
     def test_labels_of_a_batch_are_texts(self):
         with tempfile.TemporaryDirectory() as room:
-            self.run_by("--batch", "-", "-o", f"{room}/a", given="Gr\u00fc\u00dfe\nA\n".encode() + b"\xe9\n")
+            self.run_by("--batch", "-", "-o", f"{room}/a", given="Gr\u00fc\u00dfe\nA\n".encode())
             got = [it.read_bytes() for it in sorted(pathlib.Path(room, "a").iterdir())]
-            self.assertEqual(got, [qrproved.encode(it).png() for it in ("Gr\u00fc\u00dfe", "A", b"\xe9")])
-            said = self.run_by("--batch", "-", "--gs1", "-o", f"{room}/b", given=b"(20)01\n(20)1\n(10)\xff\n", status=1)
+            self.assertEqual(got, [qrproved.encode(it).png() for it in ("Gr\u00fc\u00dfe", "A")])
+            said = self.run_by("--batch", "-", "--gs1", "-o", f"{room}/b", given="(20)01\n(20)1\n(10)\xff\n".encode(), status=1)
             self.assertEqual(said, "qrproved: line 2: (20) has 2 characters, and not 1\n"
                              "qrproved: line 3: (10) '\\xff' is not a character of GS1's set 82\n")
             self.assertEqual([it.read_bytes() for it in pathlib.Path(room, "b").iterdir()], [qrproved.encode(gs1="(20)01").png()])
