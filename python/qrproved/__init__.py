@@ -51,6 +51,7 @@ SIZE_MAX = 100_000  # of mm and dpi
 ECI_MAX = 999_999
 MM_OF_INCH = 25.4
 MARGIN_WANTED, MODULE_MIN = 4, 0.25  # modules, and millimetres
+WRONG_FORMAT_MAX = 3  # wrong modules of a copy of the format information that can be read (ISO/IEC 18004:2015, Annex C)
 
 
 class PrintWarning(UserWarning):
@@ -273,12 +274,15 @@ class Content:
     """True for GS1 data: FNC1 in first position."""
     application: Optional[str] = None
     """The application indicator, two digits or a letter, of data with FNC1 in second position; else None."""
+    kanji: bool = False
+    """True if some of the data are in kanji mode, which is for characters of Shift JIS."""
 
     def text(self) -> str:
-        """Returns the data as text, each byte by the ECI in effect, and by UTF-8 where there is none. Raises EciError for an ECI whose
-        characters are not known, or that means bytes, and UnicodeDecodeError for bytes that are no characters; both are
-        ValueErrors. A symbol of a series may begin or end within a character."""
-        return text_of(self.data, self.ecis)
+        """Returns the data as text, each byte by the ECI in effect, and by UTF-8 where there is none. But if `kanji` is True, and there
+        are no ECI headers and no GS1 data, all bytes are read as Shift JIS. Raises EciError for an ECI whose characters are not known,
+        or that means bytes, and UnicodeDecodeError for bytes that are no characters; both are ValueErrors. A symbol of a series may
+        begin or end within a character."""
+        return text_of(self.data, self.ecis, SHIFT_JIS if self.kanji and not self.ecis and not self.gs1 else UTF_8)
 
     def fields(self) -> list[tuple[str, str]]:
         """Returns the fields of GS1 data, each as its application identifier and its value. Raises Gs1Error, which is a ValueError, if
@@ -291,7 +295,8 @@ class Content:
     def to_dict(self) -> dict[str, object]:
         """Returns the content as json.dumps takes it: the data as a list of numbers."""
         header, ecis = None if self.header is None else self.header._asdict(), [it._asdict() for it in self.ecis]
-        return {"data": list(self.data), "version": self.version, "header": header, "ecis": ecis, "gs1": self.gs1, "application": self.application}
+        return {"data": list(self.data), "version": self.version, "header": header, "ecis": ecis, "gs1": self.gs1,
+                "application": self.application, "kanji": self.kanji}
 
 
 @dataclass(frozen=True)
@@ -306,10 +311,23 @@ class Mended:
     """Modules of the whole square that are not the symbol's, or not known."""
     wrong_format_modules: int
     """Of the 30 modules of format information, those that are wrong or not known."""
+    wrong_format_least: int
+    """Of the 15 modules of a copy of the format information, those that are wrong or not known, in the copy that has fewer of them.
+    A scanner reads this copy if they are at most WRONG_FORMAT_MAX."""
     changed_most: int
     """The most codewords that were changed in a block, without those with a module that is not known."""
     changed_allowed: int
     """How many codewords may be changed in each block, from 2 to 15."""
+    spent_most: int
+    """The most correction that was spent in a block: 1 for a codeword with a module that is not known, and 2 for another wrong one.
+    At most 2 * changed_allowed."""
+    worst_misread: int
+    """Of the worst block for a scanner, which is the one with the most codewords that are wrong or have a module that is not known:
+    how many are wrong of the codewords whose modules are all known."""
+    worst_unknown: int
+    """How many codewords of the same block have a module that is not known. A scanner takes them as wrong."""
+    worst_unknown_wrong: int
+    """How many of these are wrong if each module that is not known is dark."""
 
     @property
     def is_sound(self) -> bool:
@@ -317,10 +335,22 @@ class Mended:
         return self.wrong_modules == 0
 
     @property
+    def scannable(self) -> bool:
+        """True if a scanner can mend the symbol too, which takes each module that is not known as wrong. Whether it finds the symbol is
+        another matter."""
+        return self.worst_misread + self.worst_unknown <= self.changed_allowed and self.wrong_format_least <= WRONG_FORMAT_MAX
+
+    @property
     def spent(self) -> float:
-        """The share of the correction that the block with the most wrong codewords has spent, from 0.0 to 1.0, without codewords
-        with a module that is not known."""
-        return self.changed_most / self.changed_allowed
+        """The share of the correction that is spent for a scanner, which takes each module that is not known as wrong: 0.0 for none, 1.0
+        for all, and more if a scanner cannot mend the symbol."""
+        return (self.worst_misread + self.worst_unknown) / self.changed_allowed
+
+    @property
+    def spent_here(self) -> float:
+        """The share of the correction that is spent for this package, from 0.0 to 1.0: a codeword with a module that is not known
+        spends half as much as another wrong one."""
+        return self.spent_most / (2 * self.changed_allowed)
 
 
 def _whole(name: str, value: int) -> int:
@@ -576,8 +606,8 @@ def mend(modules: Union[Symbol, Bytes], side: Optional[int] = None) -> Mended:
     given, checked = _square("mend", modules, side)
     data, ecis, mended = (ctypes.c_uint8 * BYTES_MAX)(), (_library.Eci * ECIS_MAX)(), _library.Mended()
     raise_for(_calls.qrproved_mend(given, len(given), checked, data, BYTES_MAX, ecis, ECIS_MAX, ctypes.byref(mended)))
-    return Mended(_content_of(mended, data, ecis), Level(mended.level), mended.mask, mended.wrong_modules, mended.wrong_format_modules,
-                  mended.changed_most, mended.changed_allowed)
+    counts = (getattr(mended, name) for name, _ in _library.DAMAGED)
+    return Mended(_content_of(mended, data, ecis), Level(mended.level), mended.mask, mended.wrong_modules, *counts)
 
 
 def _listed(symbols: Union[Symbol, Sequence[Symbol]]) -> list[Symbol]:
@@ -654,7 +684,7 @@ def _content_of(it: Union[_library.Content, _library.Mended], data: ctypes.Array
     header = Header(it.position, it.last, it.parity) if it.has_header else None
     application = _application_of(it.application) if it.fnc1 == FNC1_SECOND else None
     found = tuple(Eci(eci.begin, eci.number) for eci in ecis[:it.eci_count])
-    return Content(_first(data, it.len), it.version, header, found, it.fnc1 == FNC1_FIRST, application)
+    return Content(_first(data, it.len), it.version, header, found, it.fnc1 == FNC1_FIRST, application, it.has_kanji != 0)
 
 
 def _application_of(number: int) -> str:

@@ -3,6 +3,7 @@ checks pictures and drawings."""
 from __future__ import annotations
 
 import argparse
+import dataclasses
 import io
 import os
 import sys
@@ -130,8 +131,13 @@ def said_of(content: Content) -> Iterator[str]:
 
 def state_of(it: Mended) -> tuple[int, str]:
     """Returns the status of a symbol and what it means. The share that is spent is rounded up, so that 100 % says that all is."""
-    share = -(-100 * it.changed_most // it.changed_allowed)
-    return (SOUND, "sound") if it.is_sound else (READABLE, f"readable, {share} % of its correction spent")
+    share = -(-100 * (it.worst_misread + it.worst_unknown) // it.changed_allowed)
+    if it.is_sound:
+        return SOUND, "sound"
+    if it.scannable:
+        return READABLE, f"readable, {share} % of its correction spent"
+    why = f"{share} % of its correction spent" if share > 100 else "its format information is damaged too much"
+    return NOT_READABLE, f"read here, but scanners will not: {why}"
 
 
 def mended_of(modules: bytes, side: int) -> Union[Mended, str]:
@@ -140,6 +146,14 @@ def mended_of(modules: bytes, side: int) -> Union[Mended, str]:
         return qrproved.mend(modules, side)
     except Error as fault:
         return "the symbol is mirrored" if is_mirrored(modules, side) else str(fault)
+
+
+def with_kanji(all_mended: list[Union[Mended, str]]) -> list[Union[Mended, str]]:
+    """Returns symbols of which each that is in a series with kanji has kanji too: what is joined has one encoding."""
+    headers = [it.content.header for it in all_mended if isinstance(it, Mended) and it.content.kanji]
+    series = {(it.last, it.parity) for it in headers if it}
+    return [dataclasses.replace(it, content=dataclasses.replace(it.content, kanji=True))
+            if isinstance(it, Mended) and it.content.header and it.content.header[1:] in series else it for it in all_mended]
 
 
 def verdict(modules: bytes, it: Union[Mended, str]) -> tuple[int, list[str]]:
@@ -153,7 +167,7 @@ def verdict(modules: bytes, it: Union[Mended, str]) -> tuple[int, list[str]]:
     if it.content.header:
         lines.append(f"symbol {it.content.header.position + 1} of {it.content.header.last + 1} of its series")
     if unknown:
-        lines.append(f"{of_unknown}, and their codewords not counted")
+        lines.append(f"{of_unknown}, and their codewords count as wrong")
     return status, lines + list(said_of(it.content))
 
 
@@ -175,7 +189,7 @@ def checked(data: bytes) -> tuple[int, list[str]]:
         squares = squares_of(data)
     except ValueError as fault:
         return NOT_READABLE, [f"not readable: {fault}"]
-    all_mended = [mended_of(*it) for it in squares]
+    all_mended = with_kanji([mended_of(*it) for it in squares])
     verdicts = [verdict(modules, it) for (modules, _), it in zip(squares, all_mended)]
     lines = [line for _, said in verdicts for line in said]
     if isinstance(squares, qrproved.Drawn) and squares.drawing is None:
@@ -202,7 +216,7 @@ def check(words: list[str]) -> int:
     """Checks the symbols of pictures or of drawings as text, and returns the greatest status."""
     parser = argparse.ArgumentParser(prog=f"{PROGRAM} check", description="Checks the symbols of PNG pictures, of SVG documents or of"
                                      " drawings in ASCII or in UTF8. They are upright; photographs are not read. The status is 0 if each is"
-                                     " sound, 1 if each can be read, and 2 otherwise. Of several files the name stands before what is"
+                                     " sound, 1 if scanners can read each, and 2 otherwise. Of several files the name stands before what is"
                                      " said of each.")
     parser.add_argument("file", nargs="*", default=["-"], help="files with pictures or drawings; without one, standard input")
     files, status = parser.parse_args(words).file, SOUND

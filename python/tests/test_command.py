@@ -1,12 +1,14 @@
 """python -m qrproved: what it writes, what it says, and its status."""
 import os
 import pathlib
+import shutil
 import subprocess
 import sys
 import tempfile
 import unittest
 
 import qrproved
+from test_reading import GREY, numbers, png_of, shown
 
 
 def run(*words, given=b"", status=0):
@@ -172,12 +174,70 @@ class Command(unittest.TestCase):
 
     def test_check_of_modules_that_are_not_known(self):
         symbol = qrproved.encode("Shelf 12", level="h")
-        lines = symbol.text(drawing="ascii").split("\n")
-        lines[20] = lines[20][:40] + "??????" + lines[20][46:]
-        self.assertEqual(run("check", given="\n".join(lines).encode(), status=1)[0],
-                         f"readable, 0 % of its correction spent: {symbol.version}-H, mask {symbol.mask}\n"
-                         "3 modules are not known, and their codewords not counted\ncontains Shelf 12\n"
-                         "found by its look: the text is damaged, or another program drew it\n".encode())
+        # in the alignment pattern, and of the first two codewords, of which 14 may be wrong
+        for row, column, share in ((16, 16, 0), (24, 22, 15)):
+            lines = symbol.text(drawing="ascii").split("\n")
+            line, start = lines[4 + row], 2 * (4 + column)
+            lines[4 + row] = line[:start] + "??????" + line[start + 6:]
+            self.assertEqual(run("check", given="\n".join(lines).encode(), status=1)[0],
+                             f"readable, {share} % of its correction spent: {symbol.version}-H, mask {symbol.mask}\n"
+                             "3 modules are not known, and their codewords count as wrong\ncontains Shelf 12\n"
+                             "found by its look: the text is damaged, or another program drew it\n".encode())
+
+    def spotted(self, side, brightness=130):
+        """Returns a picture of a symbol of version 8-H, full of data, whose modules in the middle have another brightness."""
+        symbol = qrproved.encode("x" * 84, level="h", boost=False)  # Table 7
+        self.assertEqual((symbol.version, symbol.side), (8, 49))
+        rows, first = shown(symbol, scale=4, margin=4), (49 - side) // 2
+        for row in rows[4 * (4 + first):4 * (4 + first + side)]:
+            row[4 * (4 + first):4 * (4 + first + side)] = [2] * (4 * side)
+        return png_of(numbers(rows, of_0=[20], of_1=[240], of_2=[brightness]), 8, GREY)
+
+    # A square in the middle of a symbol of version 8-H, in which 13 codewords of each block may be wrong: its modules on a side, the most
+    # codewords of a block that have a module in it (7.7.3), what is said, and whether zbar reads it.
+    SPOTS = [(15, 7, "readable, 54 % of its correction spent", True), (21, 12, "readable, 93 % of its correction spent", True),
+             (25, 19, "read here, but scanners will not: 147 % of its correction spent", False),
+             (31, 26, "read here, but scanners will not: 200 % of its correction spent", False)]
+
+    def test_check_of_a_spot_counts_for_scanners(self):
+        for side, codewords, said, is_scannable in self.SPOTS:
+            picture = self.spotted(side)
+            ((modules, count),) = qrproved.parse_picture(picture)
+            self.assertEqual((modules.count(2), count), (side * side, 49))
+            it = qrproved.mend(modules, count)
+            self.assertEqual((it.worst_misread, it.worst_unknown, it.changed_allowed, it.spent_most, it.scannable),
+                             (0, codewords, 13, codewords, is_scannable))
+            lines = run("check", given=picture, status=1 if is_scannable else 2)[0].decode().splitlines()
+            self.assertEqual([line[:len(said)] for line in lines[:1]] + lines[1:],
+                             [said, f"{side * side} modules are not known, and their codewords count as wrong", f"contains {'x' * 84}"])
+
+    @unittest.skipUnless(shutil.which("zbarimg"), "there is no zbarimg")
+    def test_zbar_reads_what_check_says_that_scanners_read(self):
+        for side, _, _, is_scannable in self.SPOTS:
+            (self.room / "a.png").write_bytes(self.spotted(side))
+            ran = subprocess.run(["zbarimg", "--quiet", "--raw", self.room / "a.png"], capture_output=True, text=True)
+            self.assertEqual(ran.stdout, "x" * 84 + "\n" if is_scannable else "", side)
+
+    def test_check_of_the_format_information(self):
+        symbol = qrproved.encode("Shelf 12", level="h")
+        first, second = [(row, 8) for row in range(4)], [(8, symbol.side - 1 - k) for k in range(4)]  # 7.9.1
+        for count, status, said in ((3, 1, "readable, 0 % of its correction spent"),
+                                    (4, 2, "read here, but scanners will not: its format information is damaged too much")):
+            modules = bytearray(symbol.modules)
+            for row, column in first[:count] + second:
+                modules[row * symbol.side + column] = 2
+            drawing = "".join("".join(("  ", "##", "??")[it] for it in modules[y * symbol.side:(y + 1) * symbol.side]) + "\n"
+                              for y in range(symbol.side))
+            self.assertTrue(run("check", given=drawing.encode(), status=status)[0].decode().startswith(f"{said}: {symbol.version}-H, "), count)
+
+    def test_check_of_kanji(self):
+        symbol = qrproved.encode("\u70b9\u8317", rule="with_kanji")
+        self.assertEqual(run("check", given=symbol.png())[0].decode().splitlines()[1:], ["contains \u70b9\u8317"])
+        # the second symbol of a series may have no kanji mode of its own
+        symbols = qrproved.encode_series("\u70b9" * 9 + "\uff71" * 8, version=1, rule="with_kanji")
+        self.assertEqual([qrproved.read(it).kanji for it in symbols], [True, False])
+        said = run("check", given=qrproved.draw(symbols, drawing="ascii"))[0].decode().splitlines()
+        self.assertEqual("".join(line[9:] for line in said if line.startswith("contains ")), "\u70b9" * 9 + "\uff71" * 8)
 
     def test_check_of_several_files(self):
         symbol = qrproved.encode("Shelf 12", level="h")
