@@ -9,6 +9,7 @@ import os
 import sys
 import time
 import warnings
+from pathlib import Path
 from typing import TYPE_CHECKING, Optional, Union
 
 import qrproved
@@ -40,13 +41,13 @@ def batch(given: argparse.Namespace, settings: Settings) -> int:
     faults = 0
     for number, line in enumerate(lines, 1):
         if isinstance(line, str) and not is_text(line):
-            say(f"line {number}: it is no text in {given.encoding}" if given.encoding else f"line {number}: it is no UTF-8: --encoding names another encoding")
+            why = f"it is no text in {given.encoding}" if given.encoding else "it is no UTF-8: --encoding names another encoding"
+            say(f"line {number}: {why}")
             lines[number - 1] = ""
             faults += 1
     labels = labels_of(lines, given.output, SUFFIXES[settings.kind], given.names == "text")
     parts = [Part(settings, labels[start:start + PART]) for start in range(0, len(labels), PART)]
-    start, done, is_shown = time.monotonic(), 0, sys.stderr.isatty()
-    count_of_all = len(labels) + faults
+    start, done, is_shown, total = time.monotonic(), 0, sys.stderr.isatty(), len(labels) + faults
     for count, wrong in written(parts, given.jobs or processors()):
         done += count
         faults += len(wrong)
@@ -57,7 +58,7 @@ def batch(given: argparse.Namespace, settings: Settings) -> int:
         if is_shown:
             print(f"qrproved: {done:,} of {len(labels):,}", end="", file=sys.stderr, flush=True)
     if is_shown:
-        print(f"\rqrproved: {count_of_all - faults:,} labels in {time.monotonic() - start:.1f} s", file=sys.stderr)
+        print(f"\rqrproved: {total - faults:,} labels in {time.monotonic() - start:.1f} s", file=sys.stderr)
     return 1 if faults else 0
 
 
@@ -224,8 +225,7 @@ def check(words: list[str]) -> int:
         sys.stdout.reconfigure(errors="backslashreplace")  # of characters that the terminal's encoding has not
     for path in files:
         try:
-            with sys.stdin.buffer if path == "-" else open(path, "rb") as source:
-                data = source.read()
+            data = sys.stdin.buffer.read() if path == "-" else Path(path).read_bytes()
         except OSError as fault:
             say(str(fault))
             status = NOT_READABLE
@@ -301,8 +301,9 @@ def main(words: Optional[list[str]] = None) -> int:
     if words in (["--version"], ["-V"]):
         print(f"qrproved {qrproved.__version__}")
         return 0
+    is_check = words[:1] == ["check"]
     try:
-        if words[:1] == ["check"]:
+        if is_check:
             return check(words[1:])
         given = parsed(words)
         rule = Rule.BYTES_ONLY if given.bytes else Rule.WITH_KANJI if given.kanji else Rule.AUTO
@@ -320,7 +321,7 @@ def main(words: Optional[list[str]] = None) -> int:
         return 1
     except (Error, EciError, Gs1Error, SourceError, OSError) as fault:
         say(str(fault))
-        return 1
+        return NOT_READABLE if is_check else 1
 
 
 if __name__ == "__main__":

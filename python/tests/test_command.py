@@ -252,7 +252,8 @@ class Command(unittest.TestCase):
         self.assertEqual(run("check", good, bad, good, status=1)[0].decode(), said_of_good + said_of_bad + said_of_good)
         out, said = run("check", none, bad, good, status=2)
         self.assertEqual((out.decode(), said.startswith("qrproved: "), str(none) in said), (said_of_bad + said_of_good, True, True))
-        self.assertEqual(run("check", "-", good, given=b"hello", status=2)[0].decode().splitlines()[0], "-:")
+        self.assertEqual(run("check", "-", good, "-", given=symbol.png(), status=2)[0].decode(),
+                         f"-:\n  sound: {of}{said_of_good}-:\n  not readable: there is no drawing\n")
 
     @unittest.skipIf(os.name == "nt", "there are other pipes")
     def test_a_reader_that_ends_early(self):
@@ -264,6 +265,16 @@ class Command(unittest.TestCase):
             ran = subprocess.run([sys.executable, "-B", "-m", "qrproved", *words], stdin=subprocess.DEVNULL, stdout=writer, stderr=subprocess.PIPE)
             os.close(writer)
             self.assertEqual((ran.returncode, ran.stderr), (status, b""), words)
+
+    @unittest.skipUnless(os.path.exists("/dev/full"), "there is no /dev/full")
+    def test_output_that_cannot_be_written(self):
+        symbol = qrproved.encode("Shelf 12")
+        symbol.save(self.room / "a.png")
+        for words, status in ((["check", self.room / "a.png"], 2), (["A"], 1)):
+            with open("/dev/full", "wb") as full:
+                ran = subprocess.run([sys.executable, "-B", "-m", "qrproved", *words], stdout=full, stderr=subprocess.PIPE, text=True)
+            self.assertEqual(ran.returncode, status, ran.stderr)
+            self.assertTrue(ran.stderr.startswith("qrproved: [Errno 28]"), ran.stderr)
 
     def test_check_of_pictures(self):
         symbol = qrproved.encode("Shelf 12", level="h")
