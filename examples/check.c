@@ -8,19 +8,22 @@
  * Prints a line for each symbol, and another if the drawing is damaged but can be read; ends with the greatest status of a symbol:
  *
  *   0  sound                                     each module is that of the symbol
- *   1  readable, 40 % of its correction spent    some modules are wrong, but it can be read
+ *   1  readable, 40 % of its correction spent    some modules are wrong or not known, but scanners can read it
+ *   2  read here, but scanners will not: ...     and why: 130 % of its correction spent, or its format information is damaged too much
  *   2  not readable: ...                         and why
  *
  * Symbols with ECI headers and FNC1 have further lines: 'ECI 26 from byte 0 on', 'GS1 data', 'data of the application 37'.
  *
- * What is spent is that of the block with the most wrong codewords. It is 0 % if only modules outside the codewords are wrong:
- * function patterns, format and version information, remainder bits. It is 100 % if no more can be mended. Codewords with a module
- * that is not known do not count in it. */
+ * The share that is spent is that of a scanner, which takes each module that is not known as wrong. It is counted in the block with the
+ * most codewords that are wrong or have a module that is not known. It is 0 % if only modules outside the codewords are damaged:
+ * function patterns, format and version information, remainder bits. It is 100 % if a scanner can mend no more. The library mends
+ * twice as many codewords if it is told which ones have modules that are not known, so it can read symbols beyond 100 %. */
 #include "qrproved.h"
 #include <stdio.h>
 #include <string.h>
 
-enum { SOUND, READABLE, NOT_READABLE };
+enum { SOUND, READABLE, NO_SCANNER, NOT_READABLE };
+enum { WRONG_FORMAT_MAX = 3 }; /* wrong modules of a copy of the format information that can be read (Annex C) */
 enum { LIGHT, DARK, UNKNOWN };
 enum empty_lines { KEPT, IN_SQUARES, LEFT_OUT };
 enum { LINES_MAX = 512, TEXT_MAX = 10000000 };
@@ -178,7 +181,28 @@ static void tell_interpretation(const struct qrproved_mended *mended)
 		printf("data of the application %c\n", mended->application - 100);
 }
 
-/* Prints the line of the square that `modules` begins with, and returns the status. The share that is spent is rounded up. */
+/* Prints how damaged a symbol is, and returns the status. The share that is spent is rounded up. */
+static int tell_damage(const struct qrproved_mended *mended)
+{
+	int wrong = mended->worst_misread + mended->worst_unknown, allowed = mended->changed_allowed;
+	int share = (100 * wrong + allowed - 1) / allowed;
+	if (mended->wrong_modules == 0) {
+		puts("sound");
+		return SOUND;
+	}
+	if (wrong > allowed) {
+		printf("read here, but scanners will not: %d %% of its correction spent\n", share);
+		return NO_SCANNER;
+	}
+	if (mended->wrong_format_least > WRONG_FORMAT_MAX) {
+		puts("read here, but scanners will not: its format information is damaged too much");
+		return NO_SCANNER;
+	}
+	printf("readable, %d %% of its correction spent\n", share);
+	return READABLE;
+}
+
+/* Prints the lines of the square that `modules` begins with, and returns the status. */
 static int judge(const uint8_t *modules, int side)
 {
 	struct qrproved_mended mended;
@@ -191,13 +215,9 @@ static int judge(const uint8_t *modules, int side)
 	case QRPROVED_MEMORY: return not_readable("out of memory");
 	default: return not_readable("not checked");
 	}
-	int share = (100 * mended.changed_most + mended.changed_allowed - 1) / mended.changed_allowed;
-	if (mended.wrong_modules == 0)
-		puts("sound");
-	else
-		printf("readable, %d %% of its correction spent\n", share);
+	int status = tell_damage(&mended);
 	tell_interpretation(&mended);
-	return mended.wrong_modules == 0 ? SOUND : READABLE;
+	return status;
 }
 
 /* Judges each square of the text, if it is exactly a drawing; else returns -1. */
@@ -232,5 +252,6 @@ int main(void)
 		status = judge_drawing(lines, copy_lines((enum empty_lines)empty));
 	if (status < 0)
 		status = judge_damaged();
-	return fflush(stdout) == 0 && !ferror(stdin) && !ferror(stdout) ? status : NOT_READABLE;
+	int is_done = fflush(stdout) == 0 && !ferror(stdin) && !ferror(stdout);
+	return is_done ? least(status, 2) : 2;
 }

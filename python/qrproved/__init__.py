@@ -25,13 +25,13 @@ from . import _library, _png
 from ._drawings import found_by_look, undone
 from ._gs1 import Gs1Error, data_of, fields_of
 from ._interpretation import SHIFT_JIS, UTF_8, Eci, EciError, encoded, text_of
-from ._pictures import parse_picture
+from ._pictures import WORK_MAX, parse_picture
 from ._errors import (CheckError, EmptyError, Error, FieldsError, FormatError, NoDrawingError, OutOfMemoryError, RoomError,
                       SegmentsError, SettingsError, SideError, TooLongError, TooManyError, raise_for, too_long)
 from ._library import BYTES_MAX, COUNT_MAX, ECIS_MAX, MARGIN_MAX, SERIES_MAX, SIDE_MAX, SYMBOL_MAX
 
 if TYPE_CHECKING:
-    from collections.abc import Iterable, Sequence
+    from collections.abc import Iterable, Mapping, Sequence
 
     Bytes = Union[bytes, bytearray, memoryview]
     Input = Union[str, bytes, bytearray, memoryview]
@@ -40,8 +40,8 @@ if TYPE_CHECKING:
 __all__ = ["BYTES_MAX", "COUNT_MAX", "ECI_MAX", "MARGIN_MAX", "SCALE_MAX", "SERIES_MAX", "SIDE_MAX", "SYMBOL_MAX", "CheckError", "Content",
            "Drawing", "Drawn", "Eci", "EciError", "EmptyError", "Error", "FieldsError", "FormatError", "Gs1Error", "Header", "Level",
            "Mended", "NoDrawingError", "OutOfMemoryError", "PrintWarning", "RoomError", "Rule", "SegmentsError", "SettingsError",
-           "SideError", "Symbol", "TooLongError", "TooManyError", "draw", "encode", "encode_series", "mend", "parse_drawing",
-           "parse_picture", "read"]
+           "SideError", "Symbol", "TooLongError", "TooManyError", "WORK_MAX", "draw", "encode", "encode_series", "mend",
+           "parse_drawing", "parse_picture", "read"]
 
 __version__ = "0.2.0"
 _calls = _library.load()
@@ -51,6 +51,7 @@ SIZE_MAX = 100_000  # of mm and dpi
 ECI_MAX = 999_999
 MM_OF_INCH = 25.4
 MARGIN_WANTED, MODULE_MIN = 4, 0.25  # modules, and millimetres
+WRONG_FORMAT_MAX = 3  # wrong modules of a copy of the format information that can be read (ISO/IEC 18004:2015, Annex C)
 
 
 class PrintWarning(UserWarning):
@@ -127,7 +128,8 @@ class Symbol:
         starts = range(0, len(self.modules), self.side)
         return [[module != 0 for module in self.modules[start:start + self.side]] for start in starts]
 
-    def png(self, *wrong: NoReturn, scale: int = 8, margin: int = 4, mm: Optional[float] = None, dpi: Optional[float] = None) -> bytes:
+    def png(self, *wrong: NoReturn, scale: int = 8, margin: int = 4, mm: Optional[float] = None, dpi: Optional[float] = None,
+            **others: NoReturn) -> bytes:
         """Returns the drawing as a PNG picture of black and white.
 
         scale   the pixels of a module on each side, from 1 to SCALE_MAX
@@ -139,23 +141,25 @@ class Symbol:
         is one that PNG cannot state: its pixels are counted by the metre. Raises TypeError for both mm and dpi, and RoomError if
         there are too few modules. Warns by PrintWarning of what scanners may not read.
         """
-        _no_more("png", "", wrong, "scale", "margin", "mm", "dpi")
+        _no_more("png", "", wrong, others, "scale", "margin", "mm", "dpi")
         return self._png(scale, margin, mm, dpi)
 
-    def svg(self, *wrong: NoReturn, margin: int = 4, mm: Optional[float] = None) -> bytes:
+    def svg(self, *wrong: NoReturn, margin: int = 4, mm: Optional[float] = None, inline: bool = False, **others: NoReturn) -> bytes:
         """Returns the drawing as an SVG document, with `margin` light modules on each side. `mm` is its width with the margin, in
-        millimetres; without it a module is one unit wide, and each program chooses a size. Raises as draw does, and warns by
-        PrintWarning of what scanners may not read."""
-        _no_more("svg", "", wrong, "margin", "mm")
-        return self._svg(margin, mm)
+        millimetres; without it a module is one unit wide, and each program chooses a size. If `inline` is True, the line that makes
+        it a document of its own is left out, the XML declaration: it may then stand within a page of HTML. Raises as draw does, and
+        warns by PrintWarning of what scanners may not read."""
+        _no_more("svg", "", wrong, others, "margin", "mm", "inline")
+        document = self._svg(margin, mm)
+        return document.split(b"?>\n", 1)[-1] if _flag("inline", inline) else document
 
-    def text(self, *wrong: NoReturn, drawing: Name = Drawing.UTF8, margin: int = 4) -> str:
+    def text(self, *wrong: NoReturn, drawing: Name = Drawing.UTF8, margin: int = 4, **others: NoReturn) -> str:
         """Returns the drawing as text, with `margin` light modules on each side. Raises as draw does."""
-        _no_more("text", "", wrong, "drawing", "margin")
+        _no_more("text", "", wrong, others, "drawing", "margin")
         return draw([self], drawing=drawing, margin=margin).decode()
 
     def save(self, path: Union[str, os.PathLike[str], BinaryIO], *wrong: NoReturn, kind: Optional[str] = None, scale: int = 8,
-             margin: int = 4, mm: Optional[float] = None, dpi: Optional[float] = None) -> None:
+             margin: int = 4, mm: Optional[float] = None, dpi: Optional[float] = None, **others: NoReturn) -> None:
         """Writes the drawing to a file, or to an object with a method `write` that takes bytes.
 
         kind    'png', 'svg' or 'txt'; unless it is given, the end of the file's name, or 'png' for an object
@@ -164,7 +168,7 @@ class Symbol:
 
         Raises as png and draw do, and SettingsError for another kind or ending. Warns as png does.
         """
-        _no_more("save", "path, ", wrong, "scale", "margin", "mm", "dpi", "kind")
+        _no_more("save", "path, ", wrong, others, "scale", "margin", "mm", "dpi", "kind")
         write = getattr(path, "write", None)
         ending = kind or ("png" if write else os.path.splitext(os.fspath(path))[1].lower()[1:])  # type: ignore[arg-type]
         drawing = self._drawn(ending, scale, margin, mm, dpi)
@@ -174,10 +178,11 @@ class Symbol:
         with open(path, "wb") as file:  # type: ignore[arg-type]
             file.write(drawing)
 
-    def data_uri(self, *wrong: NoReturn, kind: str = "png", scale: int = 8, margin: int = 4, mm: Optional[float] = None) -> str:
+    def data_uri(self, *wrong: NoReturn, kind: str = "png", scale: int = 8, margin: int = 4, mm: Optional[float] = None,
+                 **others: NoReturn) -> str:
         """Returns the drawing as a URI that holds it, as for the attribute src of an image: `kind` is 'png' or 'svg'. Raises and
         warns as png does, and raises SettingsError for another kind."""
-        _no_more("data_uri", "", wrong, "kind", "scale", "margin", "mm")
+        _no_more("data_uri", "", wrong, others, "kind", "scale", "margin", "mm")
         if kind not in ("png", "svg"):
             raise SettingsError(f"kind is 'png' or 'svg', and not {kind!r}")
         media = {"png": "image/png", "svg": "image/svg+xml"}[kind]
@@ -228,8 +233,8 @@ class Symbol:
         return self.png(scale=4)
 
     def _repr_svg_(self) -> str:
-        """Returns the SVG drawing with a size, four pixels a module, and without the line that makes it a document."""
-        return _sized(self.svg(), str(4 * (self.side + 8))).decode().split("?>\n", 1)[-1]
+        """Returns the SVG drawing with a size, four pixels a module, for a place within a page."""
+        return _sized(self.svg(inline=True), str(4 * (self.side + 8))).decode()
 
 
 class Drawn(List[Tuple[bytes, int]]):
@@ -269,12 +274,15 @@ class Content:
     """True for GS1 data: FNC1 in first position."""
     application: Optional[str] = None
     """The application indicator, two digits or a letter, of data with FNC1 in second position; else None."""
+    kanji: bool = False
+    """True if some of the data are in kanji mode, which is for characters of Shift JIS."""
 
     def text(self) -> str:
-        """Returns the data as text, each byte by the ECI in effect, and by UTF-8 where there is none. Raises EciError for an ECI whose
-        characters are not known, or that means bytes, and UnicodeDecodeError for bytes that are no characters; both are
-        ValueErrors. A symbol of a series may begin or end within a character."""
-        return text_of(self.data, self.ecis)
+        """Returns the data as text, each byte by the ECI in effect, and by UTF-8 where there is none. But if `kanji` is True, and there
+        are no ECI headers and no GS1 data, all bytes are read as Shift JIS. Raises EciError for an ECI whose characters are not known,
+        or that means bytes, and UnicodeDecodeError for bytes that are no characters; both are ValueErrors. A symbol of a series may
+        begin or end within a character."""
+        return text_of(self.data, self.ecis, SHIFT_JIS if self.kanji and not self.ecis and not self.gs1 else UTF_8)
 
     def fields(self) -> list[tuple[str, str]]:
         """Returns the fields of GS1 data, each as its application identifier and its value. Raises Gs1Error, which is a ValueError, if
@@ -287,7 +295,8 @@ class Content:
     def to_dict(self) -> dict[str, object]:
         """Returns the content as json.dumps takes it: the data as a list of numbers."""
         header, ecis = None if self.header is None else self.header._asdict(), [it._asdict() for it in self.ecis]
-        return {"data": list(self.data), "version": self.version, "header": header, "ecis": ecis, "gs1": self.gs1, "application": self.application}
+        return {"data": list(self.data), "version": self.version, "header": header, "ecis": ecis, "gs1": self.gs1,
+                "application": self.application, "kanji": self.kanji}
 
 
 @dataclass(frozen=True)
@@ -302,10 +311,23 @@ class Mended:
     """Modules of the whole square that are not the symbol's, or not known."""
     wrong_format_modules: int
     """Of the 30 modules of format information, those that are wrong or not known."""
+    wrong_format_least: int
+    """Of the 15 modules of a copy of the format information, those that are wrong or not known, in the copy that has fewer of them.
+    A scanner reads this copy if they are at most WRONG_FORMAT_MAX."""
     changed_most: int
     """The most codewords that were changed in a block, without those with a module that is not known."""
     changed_allowed: int
     """How many codewords may be changed in each block, from 2 to 15."""
+    spent_most: int
+    """The most correction that was spent in a block: 1 for a codeword with a module that is not known, and 2 for another wrong one.
+    At most 2 * changed_allowed."""
+    worst_misread: int
+    """Of the worst block for a scanner, which is the one with the most codewords that are wrong or have a module that is not known:
+    how many are wrong of the codewords whose modules are all known."""
+    worst_unknown: int
+    """How many codewords of the same block have a module that is not known. A scanner takes them as wrong."""
+    worst_unknown_wrong: int
+    """How many of these are wrong if each module that is not known is dark."""
 
     @property
     def is_sound(self) -> bool:
@@ -313,10 +335,22 @@ class Mended:
         return self.wrong_modules == 0
 
     @property
+    def scannable(self) -> bool:
+        """True if a scanner can mend the symbol too, which takes each module that is not known as wrong. Whether it finds the symbol is
+        another matter."""
+        return self.worst_misread + self.worst_unknown <= self.changed_allowed and self.wrong_format_least <= WRONG_FORMAT_MAX
+
+    @property
     def spent(self) -> float:
-        """The share of the correction that the block with the most wrong codewords has spent, from 0.0 to 1.0, without codewords
-        with a module that is not known."""
-        return self.changed_most / self.changed_allowed
+        """The share of the correction that is spent for a scanner, which takes each module that is not known as wrong: 0.0 for none, 1.0
+        for all, and more if a scanner cannot mend the symbol."""
+        return (self.worst_misread + self.worst_unknown) / self.changed_allowed
+
+    @property
+    def spent_here(self) -> float:
+        """The share of the correction that is spent for this package, from 0.0 to 1.0: a codeword with a module that is not known
+        spends half as much as another wrong one."""
+        return self.spent_most / (2 * self.changed_allowed)
 
 
 def _whole(name: str, value: int) -> int:
@@ -383,8 +417,17 @@ def _settings(version: int, level: Name, rule: Name) -> tuple[int, int, int]:
     return _setting("version", version, 1, 40), _named("level", Level, level), _named("rule", Rule, rule)
 
 
-def _no_more(call: str, first: str, wrong: Sequence[object], *names: str) -> None:
-    """Refuses arguments without a name, with the call that was meant."""
+# What segno, python-qrcode and other packages call the options.
+OTHER_NAMES = {"error": "level", "error_correction": "level", "ec_level": "level", "ecl": "level", "mode": "rule", "encoding": "eci",
+               "boost_error": "boost", "border": "margin", "quiet_zone": "margin", "box_size": "scale", "module_size": "scale",
+               "format": "kind", "xmldecl": "inline"}
+
+
+def _no_more(call: str, first: str, wrong: Sequence[object], others: Mapping[str, object], *names: str) -> None:
+    """Refuses options that there are not, with those that there are, and arguments without a name, with the call that was meant."""
+    for other in others:
+        ours = OTHER_NAMES.get(other)
+        raise TypeError(f"there is no option {other}; " + (f"did you mean {ours}?" if ours in names else f"there are {', '.join(names)}"))
     if not wrong:
         return
     free, said = list(names), []
@@ -449,11 +492,18 @@ def _bytes(name: str, data: Optional[Bytes]) -> bytes:
         raise TypeError(f"{name} is a text or bytes, and not of type {type(data).__name__}") from None
 
 
-def _square(modules: Union[Symbol, Bytes], side: Optional[int]) -> tuple[Bytes, int]:
+def _square(call: str, modules: Union[Symbol, Bytes], side: Optional[int]) -> tuple[bytes, int]:
     """Returns modules and their side, which a symbol has itself."""
     if isinstance(modules, Symbol):
-        return modules.modules, _side(modules.side if side is None else side)
-    return modules, _side(side)  # type: ignore[arg-type]
+        return _copied(modules.modules), _side(modules.side if side is None else side)
+    others = "for a picture call parse_picture(picture), and for a drawing as text parse_drawing(text)"
+    try:
+        copied = _copied(modules)
+    except TypeError:
+        raise TypeError(f"{call}: modules are bytes, and not of type {type(modules).__name__}; {others}") from None
+    if side is None:
+        raise TypeError(f"{call}: modules are given with their side, as in {call}(modules, 21); {others}")
+    return copied, _side(side)
 
 
 def _first(buffer: ctypes.Array[ctypes.c_uint8], length: int) -> bytes:
@@ -461,7 +511,7 @@ def _first(buffer: ctypes.Array[ctypes.c_uint8], length: int) -> bytes:
 
 
 def encode(data: Optional[Input] = None, *wrong: NoReturn, version: int = 1, level: Name = Level.L, rule: Name = Rule.AUTO,
-           eci: Optional[int] = None, gs1: Optional[Input] = None, boost: bool = True) -> Symbol:
+           eci: Optional[int] = None, gs1: Optional[Input] = None, boost: bool = True, **others: NoReturn) -> Symbol:
     """Returns the symbol of a text, of some bytes or of GS1 data, of the least version from `version` on that holds them.
 
     data     a text, or bytes; from 1 byte to BYTES_MAX
@@ -482,7 +532,7 @@ def encode(data: Optional[Input] = None, *wrong: NoReturn, version: int = 1, lev
     not in the character set, and for a text in a set that is not known; Gs1Error, which is one too, for a text that is no GS1 data,
     and FieldsError for such bytes.
     """
-    _no_more("encode", "data, ", wrong, "version", "level", "rule", "eci", "gs1", "boost")
+    _no_more("encode", "data, ", wrong, others, "version", "level", "rule", "eci", "gs1", "boost")
     settings = _settings(version, level, rule)
     given, is_boosted = _given(data, gs1, eci, settings[2]), _flag("boost", boost)
     modules, symbol = (ctypes.c_uint8 * SYMBOL_MAX)(), _library.Symbol()
@@ -495,14 +545,14 @@ def encode(data: Optional[Input] = None, *wrong: NoReturn, version: int = 1, lev
 
 
 def encode_series(data: Optional[Input] = None, *wrong: NoReturn, version: Optional[int] = None, level: Name = Level.L,
-                  rule: Name = Rule.AUTO, eci: Optional[int] = None, gs1: Optional[Input] = None) -> list[Symbol]:
+                  rule: Name = Rule.AUTO, eci: Optional[int] = None, gs1: Optional[Input] = None, **others: NoReturn) -> list[Symbol]:
     """Returns the symbols of the series of a text, of some bytes or of GS1 data, all of `version`, from 1 to COUNT_MAX of them.
 
     What fits one symbol is one plain symbol. Each symbol has the ECI header, or says that its data are GS1 data. The arguments are
     those of encode, but `version` has to be given: without it a TypeError is raised. Raises as encode does, but in place of
     TooLongError TooManyError, if the bytes take more than COUNT_MAX symbols.
     """
-    _no_more("encode_series", "data, ", wrong, "version", "level", "rule", "eci", "gs1")
+    _no_more("encode_series", "data, ", wrong, others, "version", "level", "rule", "eci", "gs1")
     if version is None:
         raise TypeError("encode_series: the version of all symbols has to be given: encode_series(data, version=5)")
     settings = _settings(version, level, rule)
@@ -533,8 +583,7 @@ def read(modules: Union[Symbol, Bytes], side: Optional[int] = None) -> Content:
     The finder, timing and alignment patterns and the version information are not checked, so a symbol that is read here
     may not scan. mend checks each module.
     """
-    square, checked = _square(modules, side)
-    given = _copied(square)
+    given, checked = _square("read", modules, side)
     data, ecis, content = (ctypes.c_uint8 * BYTES_MAX)(), (_library.Eci * ECIS_MAX)(), _library.Content()
     raise_for(_calls.qrproved_read(given, len(given), checked, data, BYTES_MAX, ecis, ECIS_MAX, ctypes.byref(content)))
     return _content_of(content, data, ecis)
@@ -554,12 +603,11 @@ def mend(modules: Union[Symbol, Bytes], side: Optional[int] = None) -> Mended:
     FormatError if both copies of the format information are too damaged, CheckError if a block is, SegmentsError if the data
     codewords cannot be parsed, and OutOfMemoryError.
     """
-    square, checked = _square(modules, side)
-    given = _copied(square)
+    given, checked = _square("mend", modules, side)
     data, ecis, mended = (ctypes.c_uint8 * BYTES_MAX)(), (_library.Eci * ECIS_MAX)(), _library.Mended()
     raise_for(_calls.qrproved_mend(given, len(given), checked, data, BYTES_MAX, ecis, ECIS_MAX, ctypes.byref(mended)))
-    return Mended(_content_of(mended, data, ecis), Level(mended.level), mended.mask, mended.wrong_modules, mended.wrong_format_modules,
-                  mended.changed_most, mended.changed_allowed)
+    counts = (getattr(mended, name) for name, _ in _library.DAMAGED)
+    return Mended(_content_of(mended, data, ecis), Level(mended.level), mended.mask, mended.wrong_modules, *counts)
 
 
 def _listed(symbols: Union[Symbol, Sequence[Symbol]]) -> list[Symbol]:
@@ -567,7 +615,8 @@ def _listed(symbols: Union[Symbol, Sequence[Symbol]]) -> list[Symbol]:
     return [symbols] if isinstance(symbols, Symbol) else list(symbols)
 
 
-def draw(symbols: Union[Symbol, Sequence[Symbol]], *wrong: NoReturn, drawing: Name = Drawing.UTF8, margin: int = 4) -> bytes:
+def draw(symbols: Union[Symbol, Sequence[Symbol]], *wrong: NoReturn, drawing: Name = Drawing.UTF8, margin: int = 4,
+         **others: NoReturn) -> bytes:
     """Returns the drawing of symbols of one side: texts one after the other, or one document with one below the other.
 
     symbols  from 1 to COUNT_MAX, or a symbol alone
@@ -577,7 +626,7 @@ def draw(symbols: Union[Symbol, Sequence[Symbol]], *wrong: NoReturn, drawing: Na
     Raises SettingsError if a number is out of range, a name is not known or the sides are not the same, RoomError if a symbol
     has too few modules, and OutOfMemoryError.
     """
-    _no_more("draw", "symbols, ", wrong, "drawing", "margin")
+    _no_more("draw", "symbols, ", wrong, others, "drawing", "margin")
     kind, light, listed = _named("drawing", Drawing, drawing), _setting("margin", margin, 0, MARGIN_MAX), _listed(symbols)
     count = _setting("the number of symbols", len(listed), 1, COUNT_MAX)
     side = _setting("side", listed[0].side, 1, SIDE_MAX)
@@ -622,7 +671,7 @@ def parse_drawing(text: Union[str, Bytes]) -> Drawn:
     square of a symbol: the first and the last row and column of a symbol each need a module that is not light. Raises
     UnicodeDecodeError for bytes that are no UTF-8, and OutOfMemoryError.
     """
-    given = text if isinstance(text, str) else _copied(text).decode()
+    given = text if isinstance(text, str) else _bytes("the drawing", text).decode()
     for drawing in undone(given):
         # (half a surrogate pair is in no drawing)
         found = _exactly(drawing.encode(errors="surrogatepass"))
@@ -635,7 +684,7 @@ def _content_of(it: Union[_library.Content, _library.Mended], data: ctypes.Array
     header = Header(it.position, it.last, it.parity) if it.has_header else None
     application = _application_of(it.application) if it.fnc1 == FNC1_SECOND else None
     found = tuple(Eci(eci.begin, eci.number) for eci in ecis[:it.eci_count])
-    return Content(_first(data, it.len), it.version, header, found, it.fnc1 == FNC1_FIRST, application)
+    return Content(_first(data, it.len), it.version, header, found, it.fnc1 == FNC1_FIRST, application, it.has_kanji != 0)
 
 
 def _application_of(number: int) -> str:

@@ -3,17 +3,20 @@ checks pictures and drawings."""
 from __future__ import annotations
 
 import argparse
+import dataclasses
 import io
 import os
 import sys
 import time
 import warnings
-from typing import TYPE_CHECKING, Optional
+from pathlib import Path
+from typing import TYPE_CHECKING, Optional, Union
 
 import qrproved
-from qrproved import Content, EciError, Error, Gs1Error, Level, Rule
-from qrproved._batch import PART, Part, Settings, gs1_text, labels_of, processors, text_of, written
+from qrproved import Content, EciError, Error, Gs1Error, Level, Mended, Rule
+from qrproved._batch import PART, Part, Settings, labels_of, processors, written
 from qrproved._pictures import is_picture
+from qrproved._sources import BINARY, SourceError, decoded, encoding_of, is_text, lines_of
 
 if TYPE_CHECKING:
     from collections.abc import Iterator
@@ -22,6 +25,7 @@ PROGRAM = "qrproved" if os.path.splitext(os.path.basename(sys.argv[0]))[0] == "q
 SOUND, READABLE, NOT_READABLE = range(3)
 KINDS = {".png": "png", ".svg": "svg", ".txt": "utf8"}
 SUFFIXES = {"png": ".png", "svg": ".svg", **dict.fromkeys(("txt", "utf8", "ascii", "asciii"), ".txt")}
+INPUT = "standard input"
 
 
 def say(text: str) -> None:
@@ -30,15 +34,20 @@ def say(text: str) -> None:
 
 def batch(given: argparse.Namespace, settings: Settings) -> int:
     """Writes a symbol for each line that is not empty."""
-    source = sys.stdin.buffer if given.batch == "-" else open(given.batch, "rb")
-    with source:
-        lines = [line.rstrip(b"\r") for line in source.read().split(b"\n")]
-    if lines and not lines[-1]:
-        lines.pop()
+    is_input = given.batch == "-"
+    with sys.stdin.buffer if is_input else open(given.batch, "rb") as source:
+        lines = lines_of(source.read(), given.encoding, INPUT if is_input else given.batch)
     os.makedirs(given.output, exist_ok=True)
+    faults = 0
+    for number, line in enumerate(lines, 1):
+        if isinstance(line, str) and not is_text(line):
+            why = f"it is no text in {given.encoding}" if given.encoding else "it is no UTF-8: --encoding names another encoding"
+            say(f"line {number}: {why}")
+            lines[number - 1] = ""
+            faults += 1
     labels = labels_of(lines, given.output, SUFFIXES[settings.kind], given.names == "text")
     parts = [Part(settings, labels[start:start + PART]) for start in range(0, len(labels), PART)]
-    start, done, faults, is_shown = time.monotonic(), 0, 0, sys.stderr.isatty()
+    start, done, is_shown, total = time.monotonic(), 0, sys.stderr.isatty(), len(labels) + faults
     for count, wrong in written(parts, given.jobs or processors()):
         done += count
         faults += len(wrong)
@@ -49,17 +58,38 @@ def batch(given: argparse.Namespace, settings: Settings) -> int:
         if is_shown:
             print(f"qrproved: {done:,} of {len(labels):,}", end="", file=sys.stderr, flush=True)
     if is_shown:
-        print(f"\rqrproved: {done - faults:,} labels in {time.monotonic() - start:.1f} s", file=sys.stderr)
+        print(f"\rqrproved: {total - faults:,} labels in {time.monotonic() - start:.1f} s", file=sys.stderr)
     return 1 if faults else 0
+
+
+def text_of(data: bytes) -> Union[str, bytes]:
+    """Returns an argument as text if it is UTF-8, and else its bytes."""
+    try:
+        return data.decode()
+    except UnicodeDecodeError:
+        return data
+
+
+def of_input(data: bytes, encoding: Optional[str], is_quiet: bool) -> Union[str, bytes]:
+    """Returns what standard input has: a text, or bytes as they are if they are no UTF-8 and no encoding is named."""
+    if encoding == BINARY:
+        return data
+    text = decoded(data, encoding, INPUT)
+    if is_text(text):
+        return text
+    if encoding is not None:
+        raise SourceError(f"{INPUT} is no text in {encoding}")
+    if not is_quiet:
+        say(f"{INPUT} is no UTF-8, so its bytes are encoded as they are; --encoding names its encoding, or '{BINARY}'")
+    return data
 
 
 def one(given: argparse.Namespace, settings: Settings) -> int:
     """Writes the symbol of the text, or of what standard input has."""
-    data = sys.stdin.buffer.read() if given.text is None else os.fsencode(given.text)
+    data = of_input(sys.stdin.buffer.read(), given.encoding, given.quiet) if given.text is None else text_of(os.fsencode(given.text))
     if given.gs1:
-        drawing = settings.drawn(gs1_text(data.rstrip(b"\r\n")))
-    else:
-        drawing = settings.drawn(data if given.text is None else text_of(data))
+        data = data.rstrip("\r\n") if isinstance(data, str) else data.rstrip(b"\r\n")
+    drawing = settings.drawn(data)
     if given.output is None or given.output == "-":
         if settings.kind == "png" and sys.stdout.isatty():
             raise SystemExit("qrproved: a PNG picture is not written to a terminal: name a file by -o")
@@ -100,27 +130,46 @@ def said_of(content: Content) -> Iterator[str]:
     yield f"contains {shown}"
 
 
-def verdict(modules: bytes, side: int) -> int:
-    """Prints what a symbol contains and how much of its correction is spent, and returns the status."""
+def state_of(it: Mended) -> tuple[int, str]:
+    """Returns the status of a symbol and what it means. The share that is spent is rounded up, so that 100 % says that all is."""
+    share = -(-100 * (it.worst_misread + it.worst_unknown) // it.changed_allowed)
+    if it.is_sound:
+        return SOUND, "sound"
+    if it.scannable:
+        return READABLE, f"readable, {share} % of its correction spent"
+    why = f"{share} % of its correction spent" if share > 100 else "its format information is damaged too much"
+    return NOT_READABLE, f"read here, but scanners will not: {why}"
+
+
+def mended_of(modules: bytes, side: int) -> Union[Mended, str]:
+    """Returns a symbol, or why it cannot be read."""
+    try:
+        return qrproved.mend(modules, side)
+    except Error as fault:
+        return "the symbol is mirrored" if is_mirrored(modules, side) else str(fault)
+
+
+def with_kanji(all_mended: list[Union[Mended, str]]) -> list[Union[Mended, str]]:
+    """Returns symbols of which each that is in a series with kanji has kanji too: what is joined has one encoding."""
+    headers = [it.content.header for it in all_mended if isinstance(it, Mended) and it.content.kanji]
+    series = {(it.last, it.parity) for it in headers if it}
+    return [dataclasses.replace(it, content=dataclasses.replace(it.content, kanji=True))
+            if isinstance(it, Mended) and it.content.header and it.content.header[1:] in series else it for it in all_mended]
+
+
+def verdict(modules: bytes, it: Union[Mended, str]) -> tuple[int, list[str]]:
+    """Returns the status of a symbol, and what it contains and how much of its correction is spent."""
     unknown = modules.count(2)
     of_unknown = f"{unknown} {'module is' if unknown == 1 else 'modules are'} not known"
-    try:
-        it = qrproved.mend(modules, side)
-    except Error as fault:
-        why = "the symbol is mirrored" if is_mirrored(modules, side) else fault
-        print(f"not readable: {why}" + (f"; {of_unknown}" if unknown else ""))
-        return NOT_READABLE
-    # rounded up, so that 100 % says that all is spent
-    share = -(-100 * it.changed_most // it.changed_allowed)
-    state = "sound" if it.is_sound else f"readable, {share} % of its correction spent"
-    print(f"{state}: {it.content.version}-{it.level.name}, mask {it.mask}")
+    if isinstance(it, str):
+        return NOT_READABLE, [f"not readable: {it}" + (f"; {of_unknown}" if unknown else "")]
+    status, state = state_of(it)
+    lines = [f"{state}: {it.content.version}-{it.level.name}, mask {it.mask}"]
     if it.content.header:
-        print(f"symbol {it.content.header.position + 1} of {it.content.header.last + 1} of its series")
+        lines.append(f"symbol {it.content.header.position + 1} of {it.content.header.last + 1} of its series")
     if unknown:
-        print(f"{of_unknown}, and their codewords not counted")
-    for line in said_of(it.content):
-        print(line)
-    return SOUND if it.is_sound else READABLE
+        lines.append(f"{of_unknown}, and their codewords count as wrong")
+    return status, lines + list(said_of(it.content))
 
 
 def squares_of(data: bytes) -> list[tuple[bytes, int]]:
@@ -135,25 +184,56 @@ def squares_of(data: bytes) -> list[tuple[bytes, int]]:
         raise ValueError("it is no PNG picture, no SVG document and no text in UTF-8") from None
 
 
-def check(words: list[str]) -> int:
-    """Checks the symbols of a picture or of a drawing as text, and returns the status."""
-    parser = argparse.ArgumentParser(prog=f"{PROGRAM} check", description="Checks the symbols of a PNG picture, of an SVG document or of a"
-                                     " drawing in ASCII or in UTF8. They are upright; photographs are not read. The status is 0 if each is"
-                                     " sound, 1 if each can be read, and 2 otherwise.")
-    parser.add_argument("file", nargs="?", default="-", help="a file with the picture or the drawing; without it, standard input")
-    given = parser.parse_args(words)
-    if isinstance(sys.stdout, io.TextIOWrapper):
-        sys.stdout.reconfigure(errors="backslashreplace")  # of characters that the terminal's encoding has not
-    with sys.stdin.buffer if given.file == "-" else open(given.file, "rb") as source:
-        data = source.read()
+def checked(data: bytes) -> tuple[int, list[str]]:
+    """Returns the greatest status of the symbols of a picture or of a drawing, and what is said of them."""
     try:
         squares = squares_of(data)
     except ValueError as fault:
-        print(f"not readable: {fault}")
-        return NOT_READABLE
-    status = max(verdict(*square) for square in squares)
+        return NOT_READABLE, [f"not readable: {fault}"]
+    all_mended = with_kanji([mended_of(*it) for it in squares])
+    verdicts = [verdict(modules, it) for (modules, _), it in zip(squares, all_mended)]
+    lines = [line for _, said in verdicts for line in said]
     if isinstance(squares, qrproved.Drawn) and squares.drawing is None:
-        print("found by its look: the text is damaged, or another program drew it")
+        lines.append("found by its look: the text is damaged, or another program drew it")
+    return max(status for status, _ in verdicts), lines
+
+
+def is_printed(lines: list[str]) -> bool:
+    """Prints lines, and returns whether anybody reads them: a program like head ends before them."""
+    try:
+        print("\n".join(lines), flush=True)
+    except BrokenPipeError:
+        end_output()
+        return False
+    return True
+
+
+def end_output() -> None:
+    """Sends what is left of the output nowhere, so that the interpreter does not complain of it when it ends."""
+    os.dup2(os.open(os.devnull, os.O_WRONLY), sys.stdout.fileno())
+
+
+def check(words: list[str]) -> int:
+    """Checks the symbols of pictures or of drawings as text, and returns the greatest status."""
+    parser = argparse.ArgumentParser(prog=f"{PROGRAM} check", description="Checks the symbols of PNG pictures, of SVG documents or of"
+                                     " drawings in ASCII or in UTF8. They are upright; photographs are not read. The status is 0 if each is"
+                                     " sound, 1 if scanners can read each, and 2 otherwise. Of several files the name stands before what is"
+                                     " said of each.")
+    parser.add_argument("file", nargs="*", default=["-"], help="files with pictures or drawings; without one, standard input")
+    files, status = parser.parse_args(words).file, SOUND
+    if isinstance(sys.stdout, io.TextIOWrapper):
+        sys.stdout.reconfigure(errors="backslashreplace")  # of characters that the terminal's encoding has not
+    for path in files:
+        try:
+            data = sys.stdin.buffer.read() if path == "-" else Path(path).read_bytes()
+        except OSError as fault:
+            say(str(fault))
+            status = NOT_READABLE
+            continue
+        found, lines = checked(data)
+        status = max(status, found)
+        if not is_printed(lines if len(files) == 1 else [f"{path}:", *(f"  {line}" for line in lines)]):
+            break
     return status
 
 
@@ -166,9 +246,11 @@ def parsed(words: list[str]) -> argparse.Namespace:
     """Returns the arguments, or ends the program with their fault."""
     parser = argparse.ArgumentParser(
         prog=PROGRAM, description="Writes the QR Code symbol of a text as PNG, as SVG or as text.",
-        epilog=f"'{PROGRAM} check [FILE]' checks a picture or a drawing. To encode a text that begins with a hyphen, or the text"
-        " 'check', write -- before it. '--version' alone prints which version of the package this is.")
-    parser.add_argument("text", nargs="?", help="the text to encode; without it, the bytes of standard input")
+        epilog=f"'{PROGRAM} check [FILE..]' checks pictures or drawings. To encode a text that begins with a hyphen, or the text"
+        " 'check', write -- before it, and all options before the --: after it no option is taken. '--version' or '-V' alone prints which"
+        " version of the package this is.")
+    parser.add_argument("text", nargs="?", help="the text to encode; without it, the text that standard input has, with its line end if"
+                        " it has one. If that is no UTF-8, its bytes are encoded as they are, with a note")
     parser.add_argument("-o", "--output", metavar="FILE", help="the file to write, .png, .svg or .txt; with --batch a folder")
     parser.add_argument("-t", "--type", choices=sorted(SUFFIXES), type=str.lower, help="the type of the drawing, if the file does not tell")
     parser.add_argument("-l", "--level", choices=list(Level.__members__), type=str.upper, default="L", help="the least level of error correction; L")
@@ -178,11 +260,14 @@ def parsed(words: list[str]) -> argparse.Namespace:
     parser.add_argument("-s", "--scale", type=int, default=8, metavar="N", help="pixels of a module of a PNG, from 1 to 100; 8")
     parser.add_argument("--mm", type=float, metavar="N", help="the width of a PNG or an SVG with its margin, in millimetres")
     parser.add_argument("--dpi", type=float, metavar="N", help="in place of --mm, the pixels of an inch of a PNG")
-    parser.add_argument("-q", "--quiet", action="store_true", help="do not warn of small margins and modules")
+    parser.add_argument("-q", "--quiet", action="store_true", help="do not warn of small margins and modules, nor of bytes"
+                        " that are no UTF-8")
     parser.add_argument("-8", "--bytes", action="store_true", help="encode the whole input in byte mode")
     parser.add_argument("-k", "--kanji", action="store_true", help="allow kanji mode too: texts are encoded as Shift JIS")
     parser.add_argument("--eci", type=eci, metavar="N", help="the ECI header, from 0 to 999999, or 'none'; else a text that is not ASCII has 26,"
-                        " for UTF-8, and standard input has none")
+                        " for UTF-8, and bytes have none")
+    parser.add_argument("--encoding", metavar="NAME", help="the encoding of standard input or of the file of --batch; utf-8. 'binary' is for"
+                        " bytes, which are encoded as they are")
     parser.add_argument("--gs1", action="store_true", help="the text is GS1 data, as '(01)04012345678901(10)AB'")
     parser.add_argument("--batch", metavar="FILE", help="write a symbol for each line of a file; - is standard input")
     parser.add_argument("--names", choices=["number", "text"], default="number", help="how --batch names files: by number")
@@ -190,6 +275,13 @@ def parsed(words: list[str]) -> argparse.Namespace:
     given = parser.parse_args(words)
     if given.batch is not None and (given.output is None or given.text is not None):
         parser.error("--batch FILE takes no text, and needs the folder of the symbols: -o FOLDER")
+    if given.encoding is not None:
+        if given.text is not None:
+            parser.error("--encoding is that of standard input or of the file of --batch; for the characters of the symbol there is --eci")
+        try:
+            given.encoding = encoding_of(given.encoding)
+        except SourceError as fault:
+            parser.error(f"--encoding: {fault}")
     if given.type is None:
         suffix = os.path.splitext(given.output or "")[1].lower()
         if given.batch is None and given.output not in (None, "-") and suffix not in KINDS:
@@ -206,7 +298,7 @@ def parsed(words: list[str]) -> argparse.Namespace:
 
 def main(words: Optional[list[str]] = None) -> int:
     words = sys.argv[1:] if words is None else words
-    if words == ["--version"]:
+    if words in (["--version"], ["-V"]):
         print(f"qrproved {qrproved.__version__}")
         return 0
     is_check = words[:1] == ["check"]
@@ -224,7 +316,10 @@ def main(words: Optional[list[str]] = None) -> int:
         # so that a setting that is out of range is told once, and not for each label
         settings.drawn("(20)01" if given.gs1 else "A")
         return batch(given, settings)
-    except (Error, EciError, Gs1Error, OSError) as fault:
+    except BrokenPipeError:
+        end_output()
+        return 1
+    except (Error, EciError, Gs1Error, SourceError, OSError) as fault:
         say(str(fault))
         return NOT_READABLE if is_check else 1
 

@@ -35,9 +35,12 @@ class Settings(NamedTuple):
     boost: bool = True
 
     def drawn(self, data: Union[str, bytes]) -> bytes:
-        """Returns the drawing of the symbol of a text or of some bytes. GS1 data are a text."""
+        """Returns the drawing of the symbol of a text or of some bytes. GS1 data are a text of ASCII: other bytes are refused with it."""
         settings = {"version": self.version, "level": self.level, "rule": self.rule, "boost": self.boost}
-        symbol = qrproved.encode(gs1=data, **settings) if self.is_gs1 else qrproved.encode(data, eci=self.eci, **settings)
+        if self.is_gs1:
+            symbol = qrproved.encode(gs1=data.decode("latin-1") if isinstance(data, bytes) else data, **settings)
+        else:
+            symbol = qrproved.encode(data, eci=self.eci, **settings)
         if self.kind == "png":
             return symbol.png(scale=self.scale, margin=self.margin, mm=self.mm, dpi=self.dpi)
         if self.kind == "svg":
@@ -45,34 +48,24 @@ class Settings(NamedTuple):
         return qrproved.draw([symbol], drawing=DRAWINGS[self.kind], margin=self.margin)
 
 
+# The number of a line, the path of its file, and the line.
+Label = tuple[int, str, Union[str, bytes]]
+
+
 class Part(NamedTuple):
-    """Some labels of a batch: the number of the line, the path of the file and the line of each."""
+    """Some labels of a batch."""
 
     settings: Settings
-    labels: list[tuple[int, str, bytes]]
-
-
-def text_of(data: bytes) -> Union[str, bytes]:
-    """Returns bytes as text if they are UTF-8, and else as they are."""
-    try:
-        return data.decode()
-    except UnicodeDecodeError:
-        return data
-
-
-def gs1_text(data: bytes) -> str:
-    """Returns bytes as the text of GS1 data, which are ASCII: other bytes are refused with it."""
-    return data.decode("latin-1")
+    labels: list[Label]
 
 
 def write(part: Part) -> tuple[int, list[str]]:
     """Writes the labels of a part; returns how many there were, and why some could not be written."""
     faults = []
     warnings.simplefilter("ignore", PrintWarning)  # of one label the command has warned before
-    text = gs1_text if part.settings.is_gs1 else text_of
     for number, path, data in part.labels:
         try:
-            drawing = part.settings.drawn(text(data))
+            drawing = part.settings.drawn(data)
             file = os.open(path, os.O_WRONLY | os.O_CREAT | os.O_TRUNC | getattr(os, "O_BINARY", 0), 0o666)
             try:
                 left = memoryview(drawing)
@@ -85,13 +78,14 @@ def write(part: Part) -> tuple[int, list[str]]:
     return len(part.labels), faults
 
 
-def name_of(text: bytes) -> str:
-    """Returns a name for the file of a text: its letters, digits, points and hyphens; '_' stands for all between them."""
-    name = re.sub(r"[^\w.-]+", "_", text.decode(errors="replace"))[:NAME_MAX].strip("_.")
+def name_of(line: Union[str, bytes]) -> str:
+    """Returns a name for the file of a line: its letters, digits, points and hyphens; '_' stands for all between them."""
+    text = line.decode(errors="replace") if isinstance(line, bytes) else line
+    name = re.sub(r"[^\w.-]+", "_", text)[:NAME_MAX].strip("_.")
     return name.encode()[:3 * NAME_MAX].decode(errors="ignore") or "_"
 
 
-def labels_of(lines: list[bytes], folder: str, suffix: str, by_text: bool) -> list[tuple[int, str, bytes]]:
+def labels_of(lines: list[Union[str, bytes]], folder: str, suffix: str, by_text: bool) -> list[Label]:
     """Returns the lines that are not empty, each with its number and the path of its file. Two files never have one name, also
     where capitals do not count."""
     width, taken, labels = max(DIGITS, len(str(len(lines)))), set(), []

@@ -30,6 +30,17 @@ def _clean(text: str) -> str:
     return text.replace("\r\n", "\n").replace("\ufeff", "").replace("\u00a0", " ")
 
 
+def _lines(text: str) -> list[str]:
+    """Returns the lines of a text from the first to the last that is not empty, without their common indentation, and without spaces at
+    their ends."""
+    return [line.rstrip(" ") for line in textwrap.dedent(text).strip("\n").split("\n")]
+
+
+def _is_large(lines: list[str]) -> bool:
+    """Whether these are more lines, or longer ones, than a drawing has."""
+    return len(lines) > LINES_MAX or max(map(len, lines)) > WIDTH_MAX
+
+
 def _padded(lines: list[str]) -> str:
     """Returns lines of one length, each with its end. Spaces at the ends of lines are often lost."""
     width = max(map(len, lines))
@@ -64,8 +75,8 @@ def undone(text: str) -> Iterator[str]:
         yield SIZE.sub("<svg ", clean.strip() + "\n", count=1)
         return
     yield clean if clean.endswith("\n") else clean + "\n"
-    lines = [line.rstrip(" ") for line in textwrap.dedent(clean).strip("\n").split("\n")]
-    if len(lines) > LINES_MAX or max(map(len, lines)) > WIDTH_MAX:
+    lines = _lines(clean)
+    if _is_large(lines):
         return
     yield _padded(lines)
     filled = [line for line in lines if line]
@@ -80,26 +91,23 @@ def undone(text: str) -> Iterator[str]:
 
 def _grid(text: str) -> Grid:
     """Returns the rows of a text's modules, all of one length."""
-    lines = textwrap.dedent(_clean(text)).split("\n")
-    lines = [line.rstrip(" ") for line in lines]
-    while lines and not lines[0]:
-        lines.pop(0)
-    while lines and not lines[-1]:
-        lines.pop()
-    if not lines:
+    lines = _lines(_clean(text))
+    if not any(lines):
         raise NoDrawingError("there is no drawing")
+    characters = set().union(*lines)
+    if not (characters <= set(CHARACTERS) or characters <= set(HALVES)):
+        raise NoDrawingError("the drawing is of other characters than '#', '?' and spaces, or half blocks and spaces")
+    if _is_large(lines):
+        raise NoDrawingError("the text has more lines or longer lines than a drawing")
     width = max(map(len, lines))
-    characters = set("".join(lines))
     if characters <= set(CHARACTERS):
         width += width % 2
         padded = [line.ljust(width) for line in lines]
         if any(line[k] != line[k + 1] for line in padded for k in range(0, width, 2)):
             raise NoDrawingError("a module of the drawing is two characters that differ")
         return [[CHARACTERS[line[k]] for k in range(0, width, 2)] for line in padded]
-    if characters <= set(HALVES):
-        padded = [line.ljust(width) for line in lines]
-        return [[HALVES[it][half] for it in line] for line in padded for half in (0, 1)]
-    raise NoDrawingError("the drawing is of other characters than '#', '?' and spaces, or half blocks and spaces")
+    padded = [line.ljust(width) for line in lines]
+    return [[HALVES[it][half] for it in line] for line in padded for half in (0, 1)]
 
 
 def _cut(grid: Grid) -> list[tuple[int, int, int]]:

@@ -59,10 +59,10 @@ def stretches(data: bytes, ecis: Sequence[Eci]) -> Iterator[tuple[int | None, by
             yield number, data[begin:end]
 
 
-def text_of(data: bytes, ecis: Sequence[Eci]) -> str:
-    """Returns the characters: those without an ECI as UTF-8. Raises EciError for an ECI that is not known or that means bytes, and
-    UnicodeDecodeError for bytes that are no characters."""
-    return "".join(_decoded(part, _codec(number)) for number, part in stretches(data, ecis))
+def text_of(data: bytes, ecis: Sequence[Eci], default: int = UTF_8) -> str:
+    """Returns the characters: those without an ECI as those of the ECI `default`. Raises EciError for an ECI that is not known or that
+    means bytes, and UnicodeDecodeError for bytes that are no characters."""
+    return "".join(_decoded(part, _codec(default if number is None else number)) for number, part in stretches(data, ecis))
 
 
 def _decoded(data: bytes, codec: str) -> str:
@@ -74,9 +74,7 @@ def _decoded(data: bytes, codec: str) -> str:
     return text
 
 
-def _codec(number: int | None) -> str:
-    if number is None:
-        return "utf-8"
+def _codec(number: int) -> str:
     if number == BYTES:
         raise EciError(f"ECI {BYTES} means bytes, and no characters")
     if number not in CODECS:

@@ -35,7 +35,9 @@ class Eci(ctypes.Structure):
     _fields_ = [("begin", c_size_t), ("number", c_uint32)]
 
 
-HEADED = [(name, c_uint8) for name in ("version", "has_header", "position", "last", "parity", "fnc1", "application")]
+HEADED = [(name, c_uint8) for name in ("version", "has_header", "position", "last", "parity", "fnc1", "application", "has_kanji")]
+DAMAGED = [(name, c_uint8) for name in ("wrong_format_modules", "wrong_format_least", "changed_most", "changed_allowed", "spent_most",
+                                        "worst_misread", "worst_unknown", "worst_unknown_wrong")]
 
 
 class Content(ctypes.Structure):
@@ -43,8 +45,7 @@ class Content(ctypes.Structure):
 
 
 class Mended(ctypes.Structure):
-    _fields_ = [("len", c_size_t), ("eci_count", c_size_t), ("wrong_modules", c_uint32), *HEADED, ("level", c_uint8), ("mask", c_uint8),
-                ("wrong_format_modules", c_uint8), ("changed_most", c_uint8), ("changed_allowed", c_uint8)]
+    _fields_ = [("len", c_size_t), ("eci_count", c_size_t), ("wrong_modules", c_uint32), *HEADED, ("level", c_uint8), ("mask", c_uint8), *DAMAGED]
 
 
 class Drawn(ctypes.Structure):

@@ -5,9 +5,13 @@ and dark change after 1, 1, 3, 1 and 1 modules. Any two of the three say where t
 Brightness is a byte, from 0 for black to 255 for white. A module between the dark and the light ones is not known."""
 from __future__ import annotations
 
+import operator
+import os
 import re
+from bisect import bisect_right
 from collections.abc import Iterator
-from typing import NamedTuple
+from functools import lru_cache
+from typing import NamedTuple, Union
 
 from . import _png, _svg
 from ._drawings import FINDER, SIDES, UNKNOWN
@@ -21,6 +25,9 @@ SHARE_MIN = 0.75  # of the modules of finder and timing patterns that have to be
 # A module is known if it is nearer to dark or to light than this share of their difference.
 KNOWN = 0.375
 PIXELS_MIN = 2.1  # of a module, if it has no whole number of pixels
+WORK_MAX = 20_000_000  # units of work, after which a search is given up
+
+Run = tuple[int, int, int]  # places that are alike, in a row or a column: the first, the one after the last, and their colour
 
 
 class Finder(NamedTuple):
@@ -44,12 +51,37 @@ class Box(NamedTuple):
     is_inverse: bool
 
 
+class Modules(NamedTuple):
+    """Some modules of a square: the row and the column of each, and whether it is dark."""
+
+    side: int
+    places: list[tuple[int, int]]
+    dark: list[bool]
+
+
+class _Work:
+    """The work of a search, which is limited so that each search ends soon. A unit is one comparison: of five runs of a row with five
+    runs of a column; of a pixel with a module of a pattern; of the two finder patterns of a pair; of what may be a finder pattern or a
+    symbol with one that was found before."""
+
+    def __init__(self) -> None:
+        self.left = WORK_MAX
+
+    def add(self, units: int) -> None:
+        """Adds some units. Raises ValueError if they are too many."""
+        self.left -= units
+        if self.left < 0:
+            raise ValueError("the picture has too many marks that look like finder patterns: cut out the symbol")
+
+
 class _Picture:
     """The rows of a picture, and the same in two brightnesses: 1 is dark."""
 
     def __init__(self, rows: Rows) -> None:
         self.rows, self.height, self.width = rows, len(rows), len(rows[0])
-        self.groups: list[tuple[bytes, int, int]] = []  # rows that are alike: their dark places, the first row, and the row after
+        # A row of places has one more at its end, which is light, as all places outside are. A group of rows that are alike is their
+        # places, the first row, and the row after.
+        self.groups: list[tuple[bytes, int, int]] = []
         self.places: list[bytes] = []
         different = list({id(row): row for row in rows}.values())
         least, most = min(map(min, different)), max(map(max, different))
@@ -59,36 +91,46 @@ class _Picture:
         before, dark = None, b""
         for y, row in enumerate(rows):
             if row is not before and row != before:
-                dark, before = row.translate(table), row
+                dark, before = row.translate(table) + b"\0", row
                 self.groups.append((dark, y, y + 1))
             else:
                 self.groups[-1] = (dark, self.groups[-1][1], y + 1)
             self.places.append(dark)
-        self.columns: dict[int, list[tuple[int, int, int]]] = {}
+        self.work = _Work()
+        self.columns: dict[int, list[Run]] = {}
 
-    def column(self, x: int) -> list[tuple[int, int, int]]:
+    def column(self, x: int, y: float) -> list[Run]:
+        """Returns the runs of a column around a row: the run in which the row is, and up to four runs above it and four below it."""
         if x not in self.columns:
-            self.columns[x] = _runs(bytes(row[x] for row in self.places))
-        return self.columns[x]
+            self.columns[x] = _runs(bytes([row[x] for row in self.places]), self.height)
+        runs = self.columns[x]
+        after = bisect_right(runs, (int(y), self.height + 1, 0))
+        return runs[max(0, after - 5):after + 4]
 
-    def is_dark(self, x: float, y: float) -> bool:
-        """Whether a place is dark; all places outside are light."""
-        return 0 <= x < self.width and 0 <= y < self.height and self.places[int(y)][int(x)] == 1
+    def count(self, left: float, top: float, across: float, down: float, modules: Modules, is_inverse: bool) -> int:
+        """Counts the modules that are right, of some that are `across` pixels wide and `down` pixels high."""
+        self.work.add(len(modules.places))
+        light = bytes(self.width + 1)
+        ys, xs = [top + (k + 0.5) * down for k in range(modules.side)], [left + (k + 0.5) * across for k in range(modules.side)]
+        rows = [self.places[int(y)] if 0 <= y < self.height else light for y in ys]
+        columns = [int(x) if 0 <= x < self.width else self.width for x in xs]
+        found = [rows[y][columns[x]] for y, x in modules.places]
+        right = sum(map(operator.eq, found, modules.dark))
+        return len(found) - right if is_inverse else right
 
 
-def _runs(places: bytes) -> list[tuple[int, int, int]]:
-    """Returns the runs of places that are alike: the start, the end and the colour of each."""
-    return [(*found.span(), places[found.start()]) for found in RUNS.finditer(places)]
+def _runs(places: bytes, count: int) -> list[Run]:
+    """Returns the runs of the first `count` places."""
+    return [(*found.span(), places[found.start()]) for found in RUNS.finditer(places, 0, count)]
 
 
-def _middles(runs: list[tuple[int, int, int]]) -> Iterator[tuple[float, float, int]]:
+def _middles(runs: list[Run]) -> Iterator[tuple[float, float, int]]:
     """Yields where five runs may go across the middle of a finder pattern: its start, its size and its colour. The first and the
     last run may go on, into a neighbour."""
-    for k in range(len(runs) - 4):
-        (first, one, _), _, (two, three, colour), _, (four, last, _) = runs[k:k + 5]
+    for (first, one, _), _, (two, three, colour), _, (four, last, _) in zip(runs, runs[1:], runs[2:], runs[3:], runs[4:]):
         unit = (four - one) / 5
-        inner = abs(two - one - unit) < unit / 2 and abs(four - three - unit) < unit / 2 and abs(three - two - 3 * unit) < unit
-        if inner and one - first > unit / 2 and last - four > unit / 2:
+        if (abs(three - two - 3 * unit) < unit and abs(two - one - unit) < unit / 2 and abs(four - three - unit) < unit / 2
+                and one - first > unit / 2 and last - four > unit / 2):
             yield one - unit, 7 * unit, colour
 
 
@@ -97,24 +139,40 @@ def _ring(y: int, x: int, side: int) -> bool:
     return FINDER[y if y < 7 else y - side + 7][x if x < 7 else x - side + 7] == "1"
 
 
+@lru_cache(maxsize=None)
+def _patterns(side: int) -> Modules:
+    """Returns the modules of the finder and timing patterns."""
+    last = side - 7
+    found = [(top + y, left + x, FINDER[y][x] == "1") for top, left in ((0, 0), (0, last), (last, 0)) for y in range(7) for x in range(7)]
+    found += [it for k in range(8, side - 8) for it in ((6, k, k % 2 == 0), (k, 6, k % 2 == 0))]
+    return Modules(side, [it[:2] for it in found], [it[2] for it in found])
+
+
+ONE_FINDER = Modules(7, [(y, x) for y in range(7) for x in range(7)], [it == "1" for it in "".join(FINDER)])
+
+
 def _likeness(picture: _Picture, left: float, top: float, unit: float, is_inverse: bool) -> int:
     """Counts the modules of a finder pattern that are right."""
-    return sum((picture.is_dark(left + (x + 0.5) * unit, top + (y + 0.5) * unit) != is_inverse) == (FINDER[y][x] == "1")
-               for y in range(7) for x in range(7))
+    return picture.count(left, top, unit, unit, ONE_FINDER, is_inverse)
 
 
 def _finders(picture: _Picture) -> list[Finder]:
     found: list[Finder] = []
+    near: list[Finder] = []  # those that reach down to the row
     for dark, start, end in picture.groups:
         y = (start + end) / 2
-        for left, size, colour in _middles(_runs(dark)):
+        near = [it for it in near if y < it.top + it.size]
+        for left, size, colour in _middles(_runs(dark, picture.width)):
             middle = left + size / 2
-            if any(it.left < middle < it.left + it.size and it.top < y < it.top + it.size for it in found):
+            picture.work.add(len(near))
+            if any(it.left < middle < it.left + it.size and it.top < y for it in near):
                 continue
-            for top, height, _ in _middles(picture.column(int(middle))):
+            for top, height, _ in _middles(picture.column(int(middle), y)):
+                picture.work.add(1)
                 if top < y < top + height and abs(height - size) <= max(1.0, size / 7):
                     if _likeness(picture, left, top, size / 7, colour == 0) >= LIKE_MIN:
-                        found.append(Finder(left, top, (size + height) / 2, colour == 0))
+                        near.append(Finder(left, top, (size + height) / 2, colour == 0))
+                        found.append(near[-1])
                         break
     return found
 
@@ -134,18 +192,15 @@ def _squares(one: Finder, two: Finder) -> Iterator[tuple[float, float, float, fl
 
 def _share(picture: _Picture, left: float, top: float, width: float, height: float, side: int, is_inverse: bool) -> float:
     """Returns which share of the finder and timing patterns is right."""
-    across, down, last = width / side, height / side, side - 7
-    wanted = [(top_row + y, left_column + x, FINDER[y][x] == "1")
-              for top_row, left_column in ((0, 0), (0, last), (last, 0)) for y in range(7) for x in range(7)]
-    wanted += [place for k in range(8, side - 8) for place in ((6, k, k % 2 == 0), (k, 6, k % 2 == 0))]
-    right = sum((picture.is_dark(left + (x + 0.5) * across, top + (y + 0.5) * down) != is_inverse) == dark for y, x, dark in wanted)
-    return right / len(wanted)
+    patterns = _patterns(side)
+    return picture.count(left, top, width / side, height / side, patterns, is_inverse) / len(patterns.places)
 
 
 def _boxes(picture: _Picture, finders: list[Finder]) -> list[Box]:
     """Returns the squares that have the patterns of a symbol, of those that overlap the one that is most like it."""
     found = []
     for one in finders:
+        picture.work.add(len(finders))
         for two in finders:
             if one is two or one.is_inverse != two.is_inverse or abs(one.size - two.size) > max(1.0, one.size / 7):
                 continue
@@ -156,10 +211,12 @@ def _boxes(picture: _Picture, finders: list[Finder]) -> list[Box]:
                 for side in SIDES:
                     if abs(width / unit - side) <= 1 + side / 16:
                         share = _share(picture, left, top, width, height, side, one.is_inverse)
-                        found.append(Box(left, top, width, height, side, share, one.is_inverse))
+                        if share >= SHARE_MIN:
+                            found.append(Box(left, top, width, height, side, share, one.is_inverse))
     chosen: list[Box] = []
     for box in sorted(found, key=lambda it: -it.share):
-        if box.share >= SHARE_MIN and not any(_overlap(box, other) for other in chosen):
+        picture.work.add(len(chosen))
+        if not any(_overlap(box, other) for other in chosen):
             chosen.append(box)
     return sorted(chosen, key=lambda it: (it.top, it.left))
 
@@ -216,12 +273,15 @@ def _symbols(rows: Rows) -> list[tuple[bytes, int]]:
     if not picture.has_contrast:
         return []
     boxes = _boxes(picture, _finders(picture))
-    if any(_is_turned(picture, box) for box in boxes):
+    turned = [box for box in boxes if _is_turned(picture, box)]
+    # A caption may have marks that look like finder patterns, and so like the corners of a symbol.
+    good = [box for box in boxes if box not in turned and not _is_coarse(box)]
+    if turned and not good:
         raise ValueError("a symbol of the picture is not upright: its three finder patterns are not at the top left, top right and"
                          " bottom left")
-    if any(map(_is_coarse, boxes)):
+    if boxes and not good:
         raise ValueError("the modules of a symbol are less than two pixels wide: take a larger picture")
-    return [(_modules(picture, box), box.side) for box in boxes]
+    return [(_modules(picture, box), box.side) for box in good]
 
 
 def is_picture(data: bytes) -> bool:
@@ -229,23 +289,35 @@ def is_picture(data: bytes) -> bool:
     return data.startswith(_png.SIGNATURE) or data.lstrip(b"\xef\xbb\xbf \t\r\n").startswith(b"<")
 
 
-def parse_picture(picture: bytes) -> list[tuple[bytes, int]]:
+def parse_picture(picture: Union[bytes, bytearray, memoryview, str, os.PathLike[str]]) -> list[tuple[bytes, int]]:
     """Returns the modules and the side of each symbol of a picture, those above and at the left first. A module is 0 for light, 1
     for dark, and 2 if it is between them and so not known.
 
-    picture  the bytes of a PNG picture or of an SVG document. Symbols are upright, dark on light or light on dark, of any margin,
-             and of any scale that is whole or at least 2.2 pixels a module. Photographs are not read. Of an SVG document
-             rectangles and upright lines are drawn, and texts are left out.
+    picture  the bytes of a PNG picture or of an SVG document, or the path of a file with them. Symbols are upright, dark on light or
+             light on dark, of any margin, and of any scale that is whole or at least 2.2 pixels a module. Photographs are not read.
+             Of an SVG document rectangles and upright lines are drawn, and texts are left out.
 
-    Raises ValueError if it is no such picture, or if no upright symbol is found.
+    What is turned, or has modules of less than two pixels, is left out if another symbol is found: a text may have marks like those
+    in the corners of a symbol. Raises ValueError if it is no such picture, if no upright symbol is found, or if the search takes more
+    than WORK_MAX units of work. Raises OSError for a file that cannot be read.
     """
-    data = memoryview(picture).tobytes()
+    if isinstance(picture, (str, os.PathLike)):
+        with open(picture, "rb") as file:
+            data = file.read()
+    else:
+        try:
+            data = memoryview(picture).tobytes()
+        except TypeError:
+            raise TypeError(f"a picture is its bytes or the path of its file, and not of type {type(picture).__name__}") from None
     if not is_picture(data):
         raise ValueError("the picture is neither a PNG picture nor an SVG document")
     read = _png.pixels if data.startswith(_png.SIGNATURE) else _svg.pixels
     # A light symbol without a ground is seen on a dark one.
-    for ground in (255, 0):
-        found = _symbols(read(data, ground))
-        if found:
-            return found
-    raise ValueError("no upright symbol is found in the picture")
+    rows = read(data, 255)
+    found = _symbols(rows)
+    if not found:
+        on_dark = read(data, 0)
+        found = _symbols(on_dark) if on_dark != rows else []
+    if not found:
+        raise ValueError("no upright symbol is found in the picture")
+    return found

@@ -11,6 +11,8 @@ from xml.etree import ElementTree
 FINE = 1000  # steps of a unit of length that are told apart
 PIXELS_MAX = 2000  # on a side; a finer document is drawn coarser
 NUMBER = r"[-+]?(?:\d+\.?\d*|\.\d+)(?:[eE][-+]?\d+)?"
+UNITS = {"": 1.0, "px": 1.0, "pt": 4 / 3, "pc": 16.0, "mm": 96 / 25.4, "cm": 960 / 25.4, "in": 96.0}  # of CSS 2.1, in pixels
+LENGTH = re.compile(rf"\s*({NUMBER})({'|'.join(UNITS)})\s*")
 PATH = re.compile(rf"([A-Za-z])|({NUMBER})|([\s,]+)|(.)")
 # The names of CSS 2.1.
 NAMES = {"black": "000000", "silver": "c0c0c0", "gray": "808080", "grey": "808080", "white": "ffffff", "maroon": "800000", "red": "ff0000",
@@ -49,13 +51,18 @@ def _refuse(what: str) -> ValueError:
     return ValueError(f"the SVG document has {what}: only rectangles and paths of upright lines are read")
 
 
+def _name(element: ElementTree.Element) -> str:
+    """Returns the name of an element without its namespace. (A comment has none.)"""
+    return element.tag.rsplit("}", 1)[-1] if isinstance(element.tag, str) else "title"
+
+
 def _number(text: Optional[str], default: float) -> float:
     if text is None:
         return default
-    found = re.fullmatch(rf"\s*({NUMBER})(?:px)?\s*", text)
+    found = LENGTH.fullmatch(text)
     if not found:
         raise _refuse(f"the length {text!r}")
-    return float(found.group(1))
+    return float(found.group(1)) * UNITS[found.group(2)]
 
 
 def _opacity(text: Optional[str], default: float) -> float:
@@ -70,7 +77,7 @@ def _brightness(colour: str, alpha: float, ground: int) -> Optional[int]:
     digits = NAMES.get(text) or (text[1:] if text.startswith("#") else "")
     found = re.fullmatch(r"rgb\(\s*(\d+)\s*,\s*(\d+)\s*,\s*(\d+)\s*\)", text)
     if found:
-        digits = "".join(f"{min(255, int(it)):02x}" for it in found.groups())
+        digits = "".join(f"{int(min(255.0, float(it))):02x}" for it in found.groups())
     if not re.fullmatch(r"[0-9a-f]{3,4}|[0-9a-f]{6}|[0-9a-f]{8}", digits):
         raise _refuse(f"the colour {colour!r}")
     if len(digits) < 6:
@@ -113,6 +120,8 @@ def _box(style: Style, x: float, y: float, width: float, height: float, brightne
     if brightness is None or width <= 0 or height <= 0:
         return
     (a, b), (c, d) = style.placed(x, y), style.placed(x + width, y + height)
+    if not all(map(math.isfinite, (a, b, c, d))):
+        raise OverflowError
     yield Rectangle(min(a, c), min(b, d), max(a, c), max(b, d), brightness)
 
 
@@ -183,7 +192,7 @@ def _lined(style: Style, points: list[tuple[float, float]], brightness: Optional
 
 def _rectangles(element: ElementTree.Element, style: Style, ground: int) -> Iterator[Rectangle]:
     """Yields what an element draws, in the order in which it is drawn."""
-    name = element.tag.rsplit("}", 1)[-1] if isinstance(element.tag, str) else "title"
+    name = _name(element)
     given = _attributes(element)
     if name in SILENT or given.get("display") == "none":
         return
@@ -226,9 +235,9 @@ def pixels(document: bytes, ground: int) -> list[bytes]:
     white. Rows that are alike are one object. Raises ValueError if it is no such document."""
     try:
         root = ElementTree.fromstring(document)
-    except (ElementTree.ParseError, LookupError) as fault:  # (an encoding that is not known)
+    except (ElementTree.ParseError, LookupError, ValueError) as fault:  # (an encoding that is not known, or that is not read)
         raise ValueError(f"the SVG document cannot be parsed: {fault}") from None
-    if root.tag.rsplit("}", 1)[-1] != "svg":
+    if _name(root) != "svg":
         raise ValueError("the document is not SVG")
     try:
         drawn = [Rectangle(*(round(FINE * edge) for edge in it[:4]), it.brightness) for it in _rectangles(root, Style(), ground)]

@@ -1,12 +1,14 @@
 """python -m qrproved: what it writes, what it says, and its status."""
 import os
 import pathlib
+import shutil
 import subprocess
 import sys
 import tempfile
 import unittest
 
 import qrproved
+from test_reading import GREY, numbers, png_of, shown
 
 
 def run(*words, given=b"", status=0):
@@ -50,9 +52,41 @@ class Command(unittest.TestCase):
         for words in (["--mm", "5", "--dpi", "300", "-t", "png"], ["--mm", "5"], ["--dpi", "300", "-t", "svg"]):
             self.assertIn("--mm" if "--mm" in words else "--dpi", run("A", *words, status=2)[1])
 
-    def test_standard_input_is_bytes(self):
-        self.assertEqual(run("-8", given=b"A\xff\n")[0], qrproved.encode(b"A\xff\n", rule="bytes_only").text().encode())
-        self.assertEqual(run("-k", given=b"\x93\x5f")[0], qrproved.encode(b"\x93\x5f", rule="with_kanji").text().encode())
+    def test_standard_input_is_a_text(self):
+        text = "Gr\u00fc\u00dfe"
+        wanted = qrproved.encode(text).text().encode()
+        for words, given in (([], text.encode()), ([], b"\xef\xbb\xbf" + text.encode()), (["--encoding", "latin-1"], text.encode("latin-1")),
+                             (["--encoding", "utf-16"], text.encode("utf-16")), (["--encoding", "UTF-16-LE"], text.encode("utf-16-le")),
+                             ([text], b"")):
+            self.assertEqual(run(*words, given=given), (wanted, ""), words)
+        self.assertEqual(run(given=text.encode() + b"\n")[0], qrproved.encode(text + "\n").text().encode())
+        self.assertEqual(run("--eci", "3", given=text.encode())[0], qrproved.encode(text, eci=3).text().encode())
+        self.assertEqual(run("-k", given="\u70b9".encode())[0], qrproved.encode("\u70b9", rule="with_kanji").text().encode())
+
+    def test_standard_input_that_is_no_text_is_bytes(self):
+        note = "qrproved: standard input is no UTF-8, so its bytes are encoded as they are; --encoding names its encoding, or 'binary'\n"
+        for words, named, data in ((["-8"], {"rule": "bytes_only"}, b"A\xff\n"), (["-k"], {"rule": "with_kanji"}, b"\x93\x5f"),
+                                   (["--eci", "3"], {"eci": 3}, b"Gr\xfc\xdfe"), ([], {}, b"\xef\xbb\xbf\xff")):
+            wanted = qrproved.encode(data, **named).text().encode()
+            self.assertEqual(run(*words, given=data), (wanted, note), words)
+            for more in (["-q"], ["--encoding", "binary"]):
+                self.assertEqual(run(*words, *more, given=data), (wanted, ""), words)
+        for data in (b"Gr\xc3\xbc\xc3\x9fe", b"\xef\xbb\xbfA", b"\xff\xfeA\0"):
+            self.assertEqual(run("--encoding", "Binary", given=data)[0], qrproved.encode(data).text().encode())
+        self.assertEqual(run("--encoding", "utf-8", given=b"A\xff", status=1), (b"", "qrproved: standard input is no text in utf-8\n"))
+        self.assertEqual(run("--encoding", "undefined", given=b"A", status=1)[1], "qrproved: standard input is no text in undefined\n")
+
+    def test_encodings(self):
+        for name, why in (("latin-99", "there is no encoding 'latin-99'"), ("hex", "'hex' is no encoding of texts"), ("rot13", "'rot13' is no")):
+            self.assertIn(why, run("--encoding", name, given=b"A", status=2)[1])
+        self.assertIn("there is --eci", run("A", "--encoding", "latin-1", status=2)[1])
+        for data, name in (("A\nB\n".encode("utf-16"), "utf-16"), (b"\xfe\xff\0A", "utf-16"), ("Shelf 1\r\n".encode("utf-16-le"), "utf-16-le"),
+                           ("Shelf 1\r\nShelf 2".encode("utf-16-be"), "utf-16-be")):
+            said = f" is in UTF-16: save it as UTF-8, or add --encoding {name}\n"
+            self.assertEqual(run(given=data, status=1), (b"", f"qrproved: standard input{said}"))
+            (self.room / "list").write_bytes(data)
+            self.assertEqual(run("--batch", self.room / "list", "-o", self.room / "o", status=1)[1], f"qrproved: {self.room / 'list'}{said}")
+            self.assertFalse((self.room / "o").exists())
 
     def test_the_help_names_the_command_as_it_was_called(self):
         self.assertIn("usage: python -m qrproved ", run("-h")[0].decode())
@@ -62,7 +96,8 @@ class Command(unittest.TestCase):
 
     def test_the_version(self):
         version = pathlib.Path(__file__).resolve().parents[2].joinpath("VERSION").read_text().strip()
-        self.assertEqual(run("--version")[0].decode().split(), ["qrproved", version])
+        for word in ("--version", "-V"):
+            self.assertEqual(run(word)[0].decode().split(), ["qrproved", version])
         self.assertEqual(run("A", "--version", "7")[0], qrproved.encode("A", version=7).text().encode())
         self.assertIn("expected one argument", run("A", "--version", status=2)[1])
 
@@ -87,6 +122,31 @@ class Command(unittest.TestCase):
         run("--batch", "-", "--names", "text", "-t", "svg", "-o", self.room / "texts", given=lines.replace(b"a" * 3000, b"../../x"))
         self.assertEqual({it.name for it in (self.room / "texts").iterdir()},
                          {"Shelf_1.svg", "Shelf_2.svg", "Shelf_2-4.svg", "shelf_2-5.svg", "x.svg", "last.svg"})
+
+    def test_a_batch_in_an_encoding(self):
+        texts = ["Gr\u00fc\u00dfe", "Shelf 2", "\u20ac"]
+        lines = "\r\n".join(texts)
+        wanted = [qrproved.encode(it).png() for it in texts]
+        for words, data in (([], b"\xef\xbb\xbf" + lines.encode()), (["--encoding", "utf-16"], lines.encode("utf-16")),
+                            (["--encoding", "cp1252"], lines.encode("cp1252")), (["--encoding", "utf-32-be"], lines.encode("utf-32-be"))):
+            self.assertEqual(run("--batch", "-", "-o", self.room / "out", *words, given=data), (b"", ""))
+            self.assertEqual([(self.room / f"out/0000{k}.png").read_bytes() for k in (1, 2, 3)], wanted, words)
+        names = run("--batch", "-", "-o", self.room / "names", "--names", "text", "--encoding", "utf-16", given=lines.encode("utf-16"))
+        self.assertEqual(names, (b"", ""))
+        self.assertEqual({it.name for it in (self.room / "names").iterdir()}, {"Gr\u00fc\u00dfe.png", "Shelf_2.png", "_.png"})
+
+    def test_a_line_that_is_no_text_cannot_be_drawn(self):
+        data = b"\xef\xbb\xbfShelf 1\nGr\xfc\n\n\xef\xbb\xbf4\n" + "Gr\u00fc".encode() + b"\n\x81\n"
+        said = "".join(f"qrproved: line {number}: it is no UTF-8: --encoding names another encoding\n" for number in (2, 6))
+        self.assertEqual(run("--batch", "-", "-o", self.room / "out", given=data, status=1), (b"", said))
+        wanted = {"00001.png": "Shelf 1", "00004.png": "\ufeff4", "00005.png": "Gr\u00fc"}
+        self.assertEqual({it.name: it.read_bytes() for it in (self.room / "out").iterdir()},
+                         {name: qrproved.encode(text).png() for name, text in wanted.items()})
+        said = run("--batch", "-", "-o", self.room / "out", "--encoding", "cp1252", given=data, status=1)[1]
+        self.assertEqual(said, "qrproved: line 6: it is no text in cp1252\n")
+        self.assertEqual(run("--batch", "-", "-o", self.room / "binary", "--encoding", "binary", given=data), (b"", ""))
+        self.assertEqual((self.room / "binary/00002.png").read_bytes(), qrproved.encode(b"Gr\xfc").png())
+        self.assertEqual((self.room / "binary/00005.png").read_bytes(), qrproved.encode("Gr\u00fc".encode()).png())
 
     def test_many_labels_by_several_processes(self):
         run("--batch", "-", "--jobs", "2", "-o", self.room / "many", "-s", "1", given=b"".join(b"%d\n" % k for k in range(3600)))
@@ -114,12 +174,107 @@ class Command(unittest.TestCase):
 
     def test_check_of_modules_that_are_not_known(self):
         symbol = qrproved.encode("Shelf 12", level="h")
-        lines = symbol.text(drawing="ascii").split("\n")
-        lines[20] = lines[20][:40] + "??????" + lines[20][46:]
-        self.assertEqual(run("check", given="\n".join(lines).encode(), status=1)[0],
-                         f"readable, 0 % of its correction spent: {symbol.version}-H, mask {symbol.mask}\n"
-                         "3 modules are not known, and their codewords not counted\ncontains Shelf 12\n"
-                         "found by its look: the text is damaged, or another program drew it\n".encode())
+        # in the alignment pattern, and of the first two codewords, of which 14 may be wrong
+        for row, column, share in ((16, 16, 0), (24, 22, 15)):
+            lines = symbol.text(drawing="ascii").split("\n")
+            line, start = lines[4 + row], 2 * (4 + column)
+            lines[4 + row] = line[:start] + "??????" + line[start + 6:]
+            self.assertEqual(run("check", given="\n".join(lines).encode(), status=1)[0],
+                             f"readable, {share} % of its correction spent: {symbol.version}-H, mask {symbol.mask}\n"
+                             "3 modules are not known, and their codewords count as wrong\ncontains Shelf 12\n"
+                             "found by its look: the text is damaged, or another program drew it\n".encode())
+
+    def spotted(self, side, brightness=130):
+        """Returns a picture of a symbol of version 8-H, full of data, whose modules in the middle have another brightness."""
+        symbol = qrproved.encode("x" * 84, level="h", boost=False)  # Table 7
+        self.assertEqual((symbol.version, symbol.side), (8, 49))
+        rows, first = shown(symbol, scale=4, margin=4), (49 - side) // 2
+        for row in rows[4 * (4 + first):4 * (4 + first + side)]:
+            row[4 * (4 + first):4 * (4 + first + side)] = [2] * (4 * side)
+        return png_of(numbers(rows, of_0=[20], of_1=[240], of_2=[brightness]), 8, GREY)
+
+    # A square in the middle of a symbol of version 8-H, in which 13 codewords of each block may be wrong: its modules on a side, the most
+    # codewords of a block that have a module in it (7.7.3), what is said, and whether zbar reads it.
+    SPOTS = [(15, 7, "readable, 54 % of its correction spent", True), (21, 12, "readable, 93 % of its correction spent", True),
+             (25, 19, "read here, but scanners will not: 147 % of its correction spent", False),
+             (31, 26, "read here, but scanners will not: 200 % of its correction spent", False)]
+
+    def test_check_of_a_spot_counts_for_scanners(self):
+        for side, codewords, said, is_scannable in self.SPOTS:
+            picture = self.spotted(side)
+            ((modules, count),) = qrproved.parse_picture(picture)
+            self.assertEqual((modules.count(2), count), (side * side, 49))
+            it = qrproved.mend(modules, count)
+            self.assertEqual((it.worst_misread, it.worst_unknown, it.changed_allowed, it.spent_most, it.scannable),
+                             (0, codewords, 13, codewords, is_scannable))
+            lines = run("check", given=picture, status=1 if is_scannable else 2)[0].decode().splitlines()
+            self.assertEqual([line[:len(said)] for line in lines[:1]] + lines[1:],
+                             [said, f"{side * side} modules are not known, and their codewords count as wrong", f"contains {'x' * 84}"])
+
+    @unittest.skipUnless(shutil.which("zbarimg"), "there is no zbarimg")
+    def test_zbar_reads_what_check_says_that_scanners_read(self):
+        for side, _, _, is_scannable in self.SPOTS:
+            (self.room / "a.png").write_bytes(self.spotted(side))
+            ran = subprocess.run(["zbarimg", "--quiet", "--raw", self.room / "a.png"], capture_output=True, text=True)
+            self.assertEqual(ran.stdout, "x" * 84 + "\n" if is_scannable else "", side)
+
+    def test_check_of_the_format_information(self):
+        symbol = qrproved.encode("Shelf 12", level="h")
+        first, second = [(row, 8) for row in range(4)], [(8, symbol.side - 1 - k) for k in range(4)]  # 7.9.1
+        for count, status, said in ((3, 1, "readable, 0 % of its correction spent"),
+                                    (4, 2, "read here, but scanners will not: its format information is damaged too much")):
+            modules = bytearray(symbol.modules)
+            for row, column in first[:count] + second:
+                modules[row * symbol.side + column] = 2
+            drawing = "".join("".join(("  ", "##", "??")[it] for it in modules[y * symbol.side:(y + 1) * symbol.side]) + "\n"
+                              for y in range(symbol.side))
+            self.assertTrue(run("check", given=drawing.encode(), status=status)[0].decode().startswith(f"{said}: {symbol.version}-H, "), count)
+
+    def test_check_of_kanji(self):
+        symbol = qrproved.encode("\u70b9\u8317", rule="with_kanji")
+        self.assertEqual(run("check", given=symbol.png())[0].decode().splitlines()[1:], ["contains \u70b9\u8317"])
+        # the second symbol of a series may have no kanji mode of its own
+        symbols = qrproved.encode_series("\u70b9" * 9 + "\uff71" * 8, version=1, rule="with_kanji")
+        self.assertEqual([qrproved.read(it).kanji for it in symbols], [True, False])
+        said = run("check", given=qrproved.draw(symbols, drawing="ascii"))[0].decode().splitlines()
+        self.assertEqual("".join(line[9:] for line in said if line.startswith("contains ")), "\u70b9" * 9 + "\uff71" * 8)
+
+    def test_check_of_several_files(self):
+        symbol = qrproved.encode("Shelf 12", level="h")
+        spoilt = bytearray(symbol.modules)
+        spoilt[-1] ^= 1
+        good, bad, none = (self.room / name for name in ("good.png", "bad.png", "none.png"))
+        good.write_bytes(symbol.png())
+        bad.write_bytes(qrproved.Symbol(symbol.version, symbol.side, 0, bytes(spoilt)).png())
+        of = f"{symbol.version}-H, mask {symbol.mask}\n  contains Shelf 12\n"
+        said_of_good, said_of_bad = f"{good}:\n  sound: {of}", f"{bad}:\n  readable, 8 % of its correction spent: {of}"
+        self.assertEqual(run("check", good, good)[0].decode(), said_of_good * 2)
+        self.assertEqual(run("check", good, bad, good, status=1)[0].decode(), said_of_good + said_of_bad + said_of_good)
+        out, said = run("check", none, bad, good, status=2)
+        self.assertEqual((out.decode(), said.startswith("qrproved: "), str(none) in said), (said_of_bad + said_of_good, True, True))
+        self.assertEqual(run("check", "-", good, "-", given=symbol.png(), status=2)[0].decode(),
+                         f"-:\n  sound: {of}{said_of_good}-:\n  not readable: there is no drawing\n")
+
+    @unittest.skipIf(os.name == "nt", "there are other pipes")
+    def test_a_reader_that_ends_early(self):
+        symbol = qrproved.encode("Shelf 12")
+        symbol.save(self.room / "a.png")
+        for words, status in ((["check", self.room / "a.png"], 0), (["check", *[self.room / "a.png"] * 3], 0), (["A"], 1)):
+            reader, writer = os.pipe()
+            os.close(reader)
+            ran = subprocess.run([sys.executable, "-B", "-m", "qrproved", *words], stdin=subprocess.DEVNULL, stdout=writer, stderr=subprocess.PIPE)
+            os.close(writer)
+            self.assertEqual((ran.returncode, ran.stderr), (status, b""), words)
+
+    @unittest.skipUnless(os.path.exists("/dev/full"), "there is no /dev/full")
+    def test_output_that_cannot_be_written(self):
+        symbol = qrproved.encode("Shelf 12")
+        symbol.save(self.room / "a.png")
+        for words, status in ((["check", self.room / "a.png"], 2), (["A"], 1)):
+            with open("/dev/full", "wb") as full:
+                ran = subprocess.run([sys.executable, "-B", "-m", "qrproved", *words], stdout=full, stderr=subprocess.PIPE, text=True)
+            self.assertEqual(ran.returncode, status, ran.stderr)
+            self.assertTrue(ran.stderr.startswith("qrproved: [Errno 28]"), ran.stderr)
 
     def test_check_of_pictures(self):
         symbol = qrproved.encode("Shelf 12", level="h")

@@ -12,6 +12,11 @@ import qrproved
 from qrproved import Eci, EciError, FieldsError, Gs1Error, Level, SettingsError
 from test_labels import FIELDS, SETS
 
+try:
+    import segno
+except ImportError:
+    segno = None
+
 # Bytes that fit version 1 at the levels L, M, Q and H (ISO/IEC 18004:2015, Table 7).
 IN_VERSION_1 = (17, 14, 11, 7)
 # A text that is no GS1 data, and what the error says.
@@ -50,6 +55,30 @@ class Texts(unittest.TestCase):
             self.assertEqual(said(qrproved.encode(text.encode(), eci=26)), (text.encode(), (Eci(0, 26),), False))
         self.assertEqual(said(qrproved.encode("Shelf 12\x7f")), (b"Shelf 12\x7f", (), False))
         self.assertEqual(said(qrproved.encode("Shelf 12", eci=26)), (b"Shelf 12", (Eci(0, 26),), False))
+
+    def test_kanji_are_read_as_shift_jis(self):
+        for text in ("\u70b9\u8317", "\u70b9", "\u30c6\u30b9\u30c8 12", "A" + "\u70b9\u8317" * 9 + "\uff711"):
+            symbol = qrproved.encode(text, rule="with_kanji")
+            for content in (qrproved.read(symbol), qrproved.mend(symbol).content):
+                self.assertEqual((content.kanji, content.text()), (True, text))
+            headed = qrproved.read(qrproved.encode(text, rule="with_kanji", eci=20))
+            self.assertEqual((headed.kanji, headed.text()), (True, text))
+        for symbol in (qrproved.encode("Shelf 12", rule="with_kanji"), qrproved.encode("\u70b9\u8317"), qrproved.encode("\u70b9\u8317", eci=20)):
+            self.assertFalse(qrproved.read(symbol).kanji)
+        for content in (qrproved.Content(b"\x93\x5f", 1, None), qrproved.Content(b"\x93\x5f", 1, None, (), True, None, True)):
+            with self.assertRaises(UnicodeDecodeError):  # no kanji mode, and GS1 data
+                content.text()
+        self.assertEqual(qrproved.Content("\u70b9".encode(), 1, None, (Eci(0, 26),), False, None, True).text(), "\u70b9")
+        series = [qrproved.read(it) for it in qrproved.encode_series("\u70b9" * 30, version=1, rule="with_kanji")]
+        self.assertEqual({it.kanji for it in series}, {True})
+        self.assertEqual("".join(it.text() for it in series), "\u70b9" * 30)  # no character is cut there
+
+    @unittest.skipUnless(segno, "there is no segno")
+    def test_kanji_of_segno(self):
+        for text in ("\u70b9\u8317", "\u5730\u8c37\u6e2c\u70b9"):
+            made = segno.make(text, mode="kanji", micro=False)
+            content = qrproved.read(b"".join(map(bytes, made.matrix)), len(made.matrix))
+            self.assertEqual((content.kanji, content.text(), content.data), (True, text, text.encode("shift_jis")))
 
     def test_each_symbol_of_a_series_says_it(self):
         text = "Gr\u00fc\u00dfe aus K\u00f6ln, " * 12
@@ -168,7 +197,7 @@ class Command(unittest.TestCase):
                  ("\u70b9", "-k"): qrproved.encode("\u70b9", rule="with_kanji"), (label, "--gs1"): qrproved.encode(gs1=label)}
         for words, symbol in drawn.items():
             self.assertEqual(self.run_by(*words), symbol.text().encode(), words)
-        self.assertEqual(self.run_by(given=text.encode()), qrproved.encode(text.encode()).text().encode())
+        self.assertEqual(self.run_by(given=text.encode()), qrproved.encode(text).text().encode())
         self.assertEqual(self.run_by("--eci", "26", given=text.encode()), qrproved.encode(text).text().encode())
         self.assertEqual(self.run_by("--gs1", given=label.encode() + b"\n"), qrproved.encode(gs1=label).text().encode())
         self.assertIn("check digit", self.run_by("(01)04012345678902", "--gs1", status=1))
@@ -178,10 +207,10 @@ class Command(unittest.TestCase):
 
     def test_labels_of_a_batch_are_texts(self):
         with tempfile.TemporaryDirectory() as room:
-            self.run_by("--batch", "-", "-o", f"{room}/a", given="Gr\u00fc\u00dfe\nA\n".encode() + b"\xe9\n")
+            self.run_by("--batch", "-", "-o", f"{room}/a", given="Gr\u00fc\u00dfe\nA\n".encode())
             got = [it.read_bytes() for it in sorted(pathlib.Path(room, "a").iterdir())]
-            self.assertEqual(got, [qrproved.encode(it).png() for it in ("Gr\u00fc\u00dfe", "A", b"\xe9")])
-            said = self.run_by("--batch", "-", "--gs1", "-o", f"{room}/b", given=b"(20)01\n(20)1\n(10)\xff\n", status=1)
+            self.assertEqual(got, [qrproved.encode(it).png() for it in ("Gr\u00fc\u00dfe", "A")])
+            said = self.run_by("--batch", "-", "--gs1", "-o", f"{room}/b", given="(20)01\n(20)1\n(10)\xff\n".encode(), status=1)
             self.assertEqual(said, "qrproved: line 2: (20) has 2 characters, and not 1\n"
                              "qrproved: line 3: (10) '\\xff' is not a character of GS1's set 82\n")
             self.assertEqual([it.read_bytes() for it in pathlib.Path(room, "b").iterdir()], [qrproved.encode(gs1="(20)01").png()])

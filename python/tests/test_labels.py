@@ -186,9 +186,10 @@ class Others(unittest.TestCase):
             self.assertEqual((content.data, content.application, content.gs1, content.ecis), (data, application, False, ()))
 
     def test_json(self):
-        wanted = {"data": list(b"AA12"), "version": 1, "header": None, "ecis": [], "gs1": False, "application": "37"}
+        wanted = {"data": list(b"AA12"), "version": 1, "header": None, "ecis": [], "gs1": False, "application": "37", "kanji": False}
         self.assertEqual(qrproved.read(modules_of(APPLICATION_37), 21).to_dict(), wanted)
-        wanted = {"data": [0xC3, 0xA9], "version": 1, "header": None, "ecis": [{"begin": 0, "number": 26}], "gs1": True, "application": None}
+        wanted = {"data": [0xC3, 0xA9], "version": 1, "header": None, "ecis": [{"begin": 0, "number": 26}], "gs1": True, "application": None,
+                  "kanji": False}
         self.assertEqual(json.loads(json.dumps(Content("é".encode(), 1, None, (Eci(0, 26),), True).to_dict())), wanted)
 
     def test_check_says_the_interpretation(self):

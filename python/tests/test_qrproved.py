@@ -2,6 +2,7 @@
 compared by tests/library."""
 import array
 import json
+import pathlib
 import re
 import unittest
 import unittest.mock
@@ -33,6 +34,13 @@ EIGHT_DIGITS = bytes(map(int, "".join("""
     101110101101011100101
     100000100001110111000
     111111101001011100101""".split())))
+
+
+def mended_with(**counts):
+    """Returns what mend returns of the eight digits with some damage, of which no other counts than these are 0."""
+    names = ("wrong_modules", "wrong_format_modules", "wrong_format_least", "changed_most", "spent_most", "worst_misread", "worst_unknown",
+             "worst_unknown_wrong")
+    return qrproved.Mended(qrproved.Content(b"01234567", 1, None), Level.M, 0, changed_allowed=4, **{**dict.fromkeys(names, 0), **counts})
 
 
 def inverted(modules, *places):
@@ -118,7 +126,7 @@ class Calls(unittest.TestCase):
         series = qrproved.encode_series(b"ab" * 20, version=1)
         self.assertEqual(json.loads(json.dumps(qrproved.read(series[0]).to_dict()))["header"], {"position": 0, "last": len(series) - 1, "parity": 0})
         self.assertEqual(qrproved.read(qrproved.encode(b"A\xff")).to_dict(),
-                         {"data": [65, 255], "version": 1, "header": None, "ecis": [], "gs1": False, "application": None})
+                         {"data": [65, 255], "version": 1, "header": None, "ecis": [], "gs1": False, "application": None, "kanji": False})
 
     def test_content_as_text(self):
         self.assertEqual(qrproved.mend(qrproved.encode("Gr\u00fc\u00dfe")).content.text(), "Gr\u00fc\u00dfe")
@@ -161,14 +169,33 @@ class Calls(unittest.TestCase):
 
     def test_a_sound_symbol(self):
         mended = qrproved.mend(EIGHT_DIGITS, 21)
-        self.assertEqual(mended, qrproved.Mended(qrproved.Content(b"01234567", 1, None), Level.M, 0, 0, 0, 0, 4))
-        self.assertEqual((mended.is_sound, mended.spent), (True, 0.0))
+        self.assertEqual(mended, mended_with())
+        self.assertEqual((mended.is_sound, mended.spent, mended.spent_here, mended.scannable), (True, 0.0, 0.0, True))
 
     def test_damage_is_counted(self):
         timing, last, format_module = 6 * 21 + 8, 20 * 21 + 20, 8 * 21
         mended = qrproved.mend(inverted(EIGHT_DIGITS, timing, last, format_module), 21)
-        self.assertEqual(mended, qrproved.Mended(qrproved.Content(b"01234567", 1, None), Level.M, 0, 3, 1, 1, 4))
-        self.assertEqual((mended.is_sound, mended.spent), (False, 0.25))
+        self.assertEqual(mended, mended_with(wrong_modules=3, wrong_format_modules=1, changed_most=1, spent_most=2, worst_misread=1))
+        self.assertEqual((mended.is_sound, mended.spent, mended.spent_here, mended.scannable), (False, 0.25, 0.25, True))
+
+    def test_a_scanner_takes_what_is_not_known_as_wrong(self):
+        modules = bytearray(inverted(EIGHT_DIGITS, 12 * 21 + 20))  # of the codeword in rows 9 to 12 of the last two columns
+        for row in (18, 20, 13):  # of the codewords in rows 17 to 20, two dark modules, and in rows 13 to 16, a light one
+            modules[row * 21 + 20] = 2
+        mended = qrproved.mend(modules, 21)
+        self.assertEqual(mended, mended_with(wrong_modules=4, changed_most=1, spent_most=4, worst_misread=1, worst_unknown=2, worst_unknown_wrong=1))
+        self.assertEqual((mended.spent, mended.spent_here, mended.scannable), (0.75, 0.5, True))
+
+    def test_a_scanner_needs_a_copy_of_the_format_information(self):
+        # modules of both copies: below and beside the finder pattern at the top left, and beside the other two (7.9.1)
+        first, second = [(row, 8) for row in range(6)], [(8, 20 - k) for k in range(6)]
+        for count, is_scannable in ((3, True), (4, False)):
+            modules = bytearray(EIGHT_DIGITS)
+            for row, column in first[:4] + second[:count]:
+                modules[row * 21 + column] = 2
+            mended = qrproved.mend(modules, 21)
+            self.assertEqual(mended, mended_with(wrong_modules=4 + count, wrong_format_modules=4 + count, wrong_format_least=count))
+            self.assertEqual((mended.spent, mended.scannable), (0.0, is_scannable))
 
     def test_a_symbol_is_drawn_as_text(self):
         symbol = qrproved.Symbol(1, 21, 0, EIGHT_DIGITS)
@@ -192,12 +219,25 @@ class Calls(unittest.TestCase):
         self.assertEqual(runs, {(row + 4, column + 4) for row in range(21) for column in range(21) if symbol[row, column]})
         self.assertIn(b"viewBox=\"0 0 21 42\"", qrproved.draw([symbol] * 2, drawing=Drawing.SVG, margin=0))
 
+    def test_a_document_within_a_page(self):
+        symbol = qrproved.encode("A")
+        for named in ({}, {"margin": 1}, {"mm": 20}):
+            head, inline = symbol.svg(**named).split(b"\n", 1)
+            self.assertEqual((head, symbol.svg(inline=True, **named)), (b'<?xml version="1.0" encoding="UTF-8"?>', inline))
+            self.assertTrue(inline.startswith(b"<svg "))
+            self.assertEqual(symbol.svg(inline=False, **named), symbol.svg(**named))
+        self.assertEqual(qrproved.parse_picture(symbol.svg(inline=True)), [(symbol.modules, symbol.side)])
+        with self.assertRaisesRegex(TypeError, "^inline is True or False"):
+            symbol.svg(inline=1)
+
     def test_modules_that_are_not_known(self):
         modules = bytearray(EIGHT_DIGITS)
         for row in range(9, 21):  # six codewords; eight can be mended
             modules[row * 21 + 18] = modules[row * 21 + 20] = 2
         mended = qrproved.mend(modules, 21)
-        self.assertEqual(mended, qrproved.Mended(qrproved.Content(b"01234567", 1, None), Level.M, 0, 24, 0, 0, 4))
+        # each has a light module
+        self.assertEqual(mended, mended_with(wrong_modules=24, spent_most=6, worst_unknown=6, worst_unknown_wrong=6))
+        self.assertEqual((mended.is_sound, mended.spent, mended.spent_here, mended.scannable), (False, 1.5, 0.75, False))
 
     def test_all_kinds_of_bytes_are_taken(self):
         wanted = qrproved.encode(b"AB12")
@@ -227,6 +267,33 @@ class Refusals(unittest.TestCase):
             with self.assertRaises(TypeError) as caught:
                 call()
             self.assertIn(wanted, str(caught.exception))
+
+    def test_options_of_other_packages(self):
+        symbol, of_encode = qrproved.encode("A"), "there are version, level, rule, eci, gs1, boost"
+        rows = [(lambda: qrproved.encode("A", error="H"), "error; did you mean level?"),
+                (lambda: qrproved.encode("A", error_correction=1), "error_correction; did you mean level?"),
+                (lambda: qrproved.encode("A", boost_error=False), "boost_error; did you mean boost?"),
+                (lambda: qrproved.encode("A", mask=3), f"mask; {of_encode}"), (lambda: qrproved.encode("A", border=4), f"border; {of_encode}"),
+                (lambda: qrproved.encode_series("A", version=1, boost=True), "boost; there are version, level, rule, eci, gs1"),
+                (lambda: symbol.png(border=4), "border; did you mean margin?"), (lambda: symbol.png(box_size=4), "box_size; did you mean scale?"),
+                (lambda: symbol.png(dark="red"), "dark; there are scale, margin, mm, dpi"),
+                (lambda: symbol.svg(scale=3), "scale; there are margin, mm, inline"),
+                (lambda: symbol.save("a.png", light=None), "light; there are scale, margin, mm, dpi, kind"),
+                (lambda: symbol.data_uri(border=1), "border; did you mean margin?"), (lambda: symbol.text(border=1), "border; did you mean margin?"),
+                (lambda: qrproved.draw(symbol, compact=True), "compact; there are drawing, margin")]
+        for call, wanted in rows:
+            with self.assertRaises(TypeError) as caught:
+                call()
+            self.assertEqual(str(caught.exception), f"there is no option {wanted}")
+
+    def test_a_picture_is_no_modules(self):
+        symbol = qrproved.encode("A")
+        for call in (qrproved.read, qrproved.mend):
+            for given in (symbol.png(), symbol.svg(), b"", "label.png", pathlib.Path("label.png"), symbol.text(), None):
+                with self.assertRaisesRegex(TypeError, f"^{call.__name__}: .*; for a picture call parse_picture\\(picture\\), and for a drawing"):
+                    call(given)
+        with self.assertRaisesRegex(TypeError, "^the drawing is a text or bytes, and not of type"):
+            qrproved.parse_drawing(pathlib.Path("label.txt"))
 
     def test_inputs(self):
         self.refused(qrproved.EmptyError, 1, qrproved.encode, b"")
