@@ -307,6 +307,85 @@ test('images without an upright symbol', () => {
   }
 });
 
+/** Returns images beside each other on white. */
+function beside(...images) {
+  const width = images.reduce((sum, it) => sum + it.width, 0), height = Math.max(...images.map((it) => it.height));
+  const data = new Uint8ClampedArray(4 * width * height).fill(255);
+  let left = 0;
+  for (const it of images) {
+    for (let y = 0; y < it.height; y++) data.set(it.data.subarray(4 * y * it.width, 4 * (y + 1) * it.width), 4 * (y * width + left));
+    left += it.width;
+  }
+  return { data, width, height };
+}
+
+/** Returns an image of a function of its rows and columns, which returns the brightness. */
+function imageBy(width, height, bright) {
+  const data = new Uint8ClampedArray(4 * width * height).fill(255);
+  for (let at = 0; at < width * height; at++) data.fill(bright(Math.floor(at / width), at % width), 4 * at, 4 * at + 3);
+  return { data, width, height };
+}
+
+// The digits 888 in DejaVu Sans of 10 pixels, as Pillow 9.4 draws them: the brightness of a pixel has two digits.
+const CAPTION = `
+ff8f180c4ff2ffff8f180c4ff2ffff8f180c4ff2
+ea0fd8f24e8fffea0fd8f24e8fffea0fd8f24e8f
+f41fd9f24eaafff41fd9f24eaafff41fd9f24eaa
+ff97030047fbffff97030047fbffff97030047fb
+d126e1f46b7dffd126e1f46b7dffd126e1f46b7d
+c225e1f46b6bffc225e1f46b6bffc225e1f46b6b
+fe72140a43e4fffe72140a43e4fffe72140a43e4`.trim().split('\n');
+
+test('what looks like a symbol beside one is left out', () => {
+  const symbol = encode('Shelf 12'), label = imageOf([symbol], { scale: 4 }), two = encode('two');
+  const caption = imageBy(40, label.height, (row, column) => {
+    const place = 2 * (column - 10), line = CAPTION[row - 50] ?? '';
+    return place >= 0 && place < line.length ? parseInt(line.slice(place, place + 2), 16) : 255;
+  });
+  const turned = imageOf([two], { turn: (x, y, size) => [size - 1 - y, x] }), coarse = imageOf([two], { scale: 1.6 });
+  for (const other of [caption, turned, coarse]) {
+    assert.deepEqual(parsePicture(beside(label, other)), [symbol.modules]);
+    assert.deepEqual(parsePicture(beside(other, label)), [symbol.modules]);
+    assert.throws(() => parsePicture(other), errors.PictureError);
+  }
+  assert.deepEqual(parsePicture(beside(label, turned, coarse, imageOf([two], { scale: 4 }))), [symbol.modules, two.modules]);
+  assert.throws(() => parsePicture(beside(turned, coarse)), { name: 'PictureError', message: /not upright/ });
+});
+
+test('a picture with many marks like finder patterns is given up', () => {
+  const why = { name: 'PictureError', message: 'the picture has too many marks that look like finder patterns: cut out the symbol' };
+  const isDark = (row, column) => Math.max(Math.abs(row % 8 - 3), Math.abs(column % 8 - 3)) !== 2 && row % 8 < 7 && column % 8 < 7;
+  const marks = (side) => imageBy(8 * side, 8 * side, (row, column) => (isDark(row, column) ? 0 : 255));
+  assert.throws(() => parsePicture(marks(60)), why);
+  assert.throws(() => parsePicture(marks(2)), { message: /no upright symbol/ });
+  // 20,000,000 comparisons suffice for some 200 symbols, and for a symbol in noise
+  const sheet = imageOf(Array.from({ length: 20 }, (_, k) => encode(`${k}`, { level: 'H' }))), many = { ...sheet, height: 10 * sheet.height };
+  many.data = Uint8Array.from({ length: 10 * sheet.data.length }, (_, at) => sheet.data[at % sheet.data.length]);
+  assert.equal(parsePicture(many).length, 200);
+  const symbol = encode('Shelf 12'), label = imageOf([symbol]), size = 500, from = 200;
+  let state = 1;
+  const noise = imageBy(size, size, (row, column) => {
+    const [y, x] = [row - from, column - from], isLabel = y >= 0 && x >= 0 && y < label.height && x < label.width;
+    state = (Math.imul(state, 1664525) + 1013904223) >>> 0;
+    return isLabel ? label.data[4 * (y * label.width + x)] : state >>> 31 ? 0 : 255;
+  });
+  assert.deepEqual(parsePicture(noise), [symbol.modules]);
+});
+
+test('the brightness of a colour is rounded once', () => {
+  // 0.299, 0.587 and 0.114 of red, green and blue (ITU-R BT.601); a module is dark below 95.625, which is 0.375 of the difference of dark and light
+  const symbol = encode('Shelf 12', { level: 'H' }), colours = [
+    [[0, 114, 250, 255], 95.418, 1], [[0, 117, 235, 255], 95.469, 1], [[0, 123, 205, 255], 95.571, 2], [[0, 125, 195, 255], 95.605, 2],
+    [[0, 0, 0, 160], 95, 1], [[0, 0, 0, 159], 96, 2], // over white
+  ];
+  for (const [colour, bright, module] of colours) {
+    const image = imageOf([symbol], { scale: 1, margin: 4 }), place = 15 * symbol.side + 15, wanted = symbol.modules.slice();
+    image.data.set(colour, 4 * (19 * image.width + 19));
+    wanted[place] = module;
+    assert.deepEqual(parsePicture(image), [wanted], `${colour}: ${bright}`);
+  }
+});
+
 test('sizes in millimetres and pixels of an inch', () => {
   const symbol = encode('A'), plain = symbol.svg(); // 29 modules wide with its margin, and 232 pixels
   assert.equal(symbol.svg({ mm: 14.5 }), plain.replace('<svg ', '<svg width="14.5mm" height="14.5mm" '));
