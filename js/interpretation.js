@@ -45,7 +45,7 @@ function decodedBeyond(label, others, ofOthers = decoded(label)) {
   const parts = new RegExp(`[\\0-\\x7f]+|((?:${others})+)|[^]`, 'g');
   return (data) => latin1(data).replace(parts, (part, bytes) => {
     if (bytes !== undefined) return ofOthers(Uint8Array.from(bytes, (it) => it.charCodeAt(0)));
-    if (part > '\x7f') throw new TypeError(`byte ${part.charCodeAt(0).toString(16).toUpperCase()} is no character of ${label}`);
+    if (part.charCodeAt(0) > 0x7f) throw new TypeError(`byte ${part.charCodeAt(0).toString(16).toUpperCase()} is no character of ${label}`);
     return part;
   });
 }

@@ -574,6 +574,10 @@ test('each byte of each character set', () => {
 
 test('characters of several bytes', () => {
   const text = (number, ...data) => contentOf(data, { ecis: [{ begin: 0, number }] }).text();
+  for (const number of [20, 28, 29, 30, 32]) {
+    assert.equal(text(number, 0x7f, 0x41), '\x7fA', `${number}`);
+    assert.equal(text(number, 0x7f, 0x7f, 0x00, 0x41, 0x7f), '\x7f\x7f\0A\x7f', `${number}`);
+  }
   assert.equal(text(20, 0x1c, 0x93, 0x5f, 0x41, 0xb1, 0x1a, 0x7f), '\x1c点Aｱ\x1a\x7f');
   assert.equal(text(29, 0x41, 0xd6, 0xd0, 0x81, 0x30, 0x81, 0x30, 0x31), 'A中\x801');
   // a syllable beyond KS X 1001: some engines have it, the others know it for none
