@@ -96,9 +96,9 @@ function charactersOf(number, data) {
   }
 }
 
-/** Returns the characters: those without an ECI as UTF-8. */
-export function decodedText(data, ecis) {
-  const begins = [0, ...ecis.map((it) => it.begin), data.length], numbers = [null, ...ecis.map((it) => it.number)];
+/** Returns the characters: those without an ECI as UTF-8, or as those of another ECI, `first`. */
+export function decodedText(data, ecis, first = null) {
+  const begins = [0, ...ecis.map((it) => it.begin), data.length], numbers = [first, ...ecis.map((it) => it.number)];
   const parts = numbers.map((number, k) => [number, data.subarray(begins[k], begins[k + 1])]);
   return parts.filter(([, part]) => part.length > 0).map(([number, part]) => charactersOf(number, part)).join('');
 }
