@@ -398,13 +398,14 @@ test('a picture with many marks like finder patterns is given up', () => {
   const why = { name: 'PictureError', message: 'the picture has too many marks that look like finder patterns: cut out the symbol' };
   const isDark = (row, column) => Math.max(Math.abs(row % 8 - 3), Math.abs(column % 8 - 3)) !== 2 && row % 8 < 7 && column % 8 < 7;
   const marks = (side) => imageBy(8 * side, 8 * side, (row, column) => (isDark(row, column) ? 0 : 255));
-  assert.throws(() => parsePicture(marks(60)), why);
+  assert.throws(() => parsePicture(marks(40)), why);
   assert.throws(() => parsePicture(marks(2)), { message: /no upright symbol/ });
   // 20,000,000 comparisons suffice for some 200 symbols, and for a symbol in noise
-  const sheet = imageOf(Array.from({ length: 20 }, (_, k) => encode(`${k}`, { level: 'H' }))), many = { ...sheet, height: 10 * sheet.height };
-  many.data = Uint8Array.from({ length: 10 * sheet.data.length }, (_, at) => sheet.data[at % sheet.data.length]);
+  const sheet = imageOf(Array.from({ length: 20 }, (_, k) => encode(`${k}`, { level: 'H' })), { scale: 2 }), many = { ...sheet, height: 10 * sheet.height };
+  many.data = new Uint8Array(10 * sheet.data.length);
+  for (let k = 0; k < 10; k++) many.data.set(sheet.data, k * sheet.data.length);
   assert.equal(parsePicture(many).length, 200);
-  const symbol = encode('Shelf 12'), label = imageOf([symbol]), size = 500, from = 200;
+  const symbol = encode('Shelf 12'), label = imageOf([symbol]), size = 300, from = 100;
   let state = 1;
   const noise = imageBy(size, size, (row, column) => {
     const [y, x] = [row - from, column - from], isLabel = y >= 0 && x >= 0 && y < label.height && x < label.width;
