@@ -55,6 +55,19 @@ class Picture {
     if (this.work > WORK_MAX) throw new PictureError('the picture has too many marks that look like finder patterns: cut out the symbol');
   }
 
+  /** Yields groups of rows that are alike: the first row, and the one after the last. */
+  * groups() {
+    const { bright, width, height } = this;
+    const isAlike = (row) => {
+      for (let at = row * width; at < (row + 1) * width; at++) if (bright[at] !== bright[at - width]) return false;
+      return true;
+    };
+    for (let row = 0, after; row < height; row = after) {
+      for (after = row + 1; after < height && isAlike(after);) after++;
+      yield [row, after];
+    }
+  }
+
   /** Returns the runs of one column. */
   column(x) {
     if (!this.columns.has(x)) this.columns.set(x, runsOf(this.places, x, this.width, this.height));
@@ -86,6 +99,7 @@ function* middles(starts, least = 0, most = Infinity) {
 /** Returns how many modules of a finder pattern are right. */
 function likenessAt(picture, left, top, unit, isInverse) {
   let right = 0;
+  picture.count(49);
   for (let row = 0; row < 7; row++) {
     for (let column = 0; column < 7; column++) {
       const isDark = picture.isDark(left + (column + 0.5) * unit, top + (row + 0.5) * unit) !== isInverse;
@@ -112,7 +126,6 @@ function finderAt(picture, { start, size }, y, isInverse) {
   for (const { start: top, size: height } of middles(starts, run - 4, run)) {
     picture.count(1);
     if (!(top < y && y < top + height && Math.abs(height - size) <= Math.max(1, size / 7))) continue;
-    picture.count(49);
     if (likenessAt(picture, start, top, size / 7, isInverse) >= LIKE_MIN) return { left: start, top, size: (size + height) / 2, isInverse };
   }
   return null;
@@ -121,8 +134,8 @@ function finderAt(picture, { start, size }, y, isInverse) {
 function findersOf(picture) {
   const found = [], isInside = (start, size, at) => start < at && at < start + size;
   let near = []; // those that reach down to the row
-  for (let row = 0; row < picture.height; row++) {
-    const first = row * picture.width, isFirstDark = picture.places[first] === 1, y = row + 0.5;
+  for (const [row, after] of picture.groups()) {
+    const first = row * picture.width, isFirstDark = picture.places[first] === 1, y = (row + after) / 2;
     const starts = runsOf(picture.places, first, 1, picture.width);
     near = near.filter(({ top, size }) => y < top + size);
     for (const across of middles(starts)) {
@@ -221,7 +234,8 @@ function boxesOf(picture, finders) {
 /** Returns whether the corner that has no finder pattern in an upright symbol has one. */
 function isTurned(picture, { left, top, width, side, isInverse }) {
   const unit = width / side, likeness = ([row, column]) => likenessAt(picture, left + column * unit, top + row * unit, unit, isInverse);
-  return likeness([side - 7, side - 7]) >= SURE && Math.min(...cornersOf(side).map(likeness)) < SURE;
+  const corners = cornersOf(side).map(likeness);
+  return likeness([side - 7, side - 7]) >= SURE && Math.min(...corners) < SURE;
 }
 
 /** Returns whether modules are so narrow that some have no pixel of their own. */
@@ -229,9 +243,9 @@ function isCoarse({ width, height, side }) {
   return [width, height].some((it) => it < PIXELS_MIN * side && Math.abs(it - side * Math.round(it / side)) > 0.5);
 }
 
-/** Returns the pixels in the middle half of a module: the first, and the one after the last. */
+/** Returns the pixels in the middle half of a module: the first, and the one after the last. Half a pixel does not count. */
 function middleOf(start, size, limit) {
-  let first = Math.round(start + size / 4), after = Math.round(start + 3 * size / 4);
+  let first = Math.round(start + size / 4 + 1e-6), after = Math.round(start + 3 * size / 4 - 1e-6);
   if (after <= first) {
     first = Math.floor(start + size / 2);
     after = first + 1;
@@ -282,9 +296,9 @@ function isOpaque({ data }) {
 export function squaresIn(image) {
   for (const ground of isOpaque(image) ? [255] : [255, 0]) {
     const picture = new Picture(image, ground), boxes = picture.hasContrast ? boxesOf(picture, findersOf(picture)) : [];
-    const isTurnedHere = (box) => isTurned(picture, box), good = boxes.filter((box) => !isTurnedHere(box) && !isCoarse(box));
+    const turned = boxes.filter((box) => isTurned(picture, box)), good = boxes.filter((box) => !turned.includes(box) && !isCoarse(box));
     if (good.length) return good.map((box) => modulesOf(picture, box));
-    if (boxes.some(isTurnedHere)) {
+    if (turned.length) {
       throw new PictureError('a symbol of the picture is not upright: its three finder patterns are not at the top left, top right and'
         + ' bottom left');
     }
