@@ -153,21 +153,22 @@ export class Mended {
   /** The number of codewords that may be wrong in each block, from 2 to 15. */
   readonly changedAllowed: number;
   /**
-   * The greatest number that a block has of codewords with a module that is not known, and of twice its other codewords that were misread.
-   * It is at most twice `changedAllowed`.
+   * The greatest e + 2w of a block, where e is the number of its codewords with a module that is not known, and w the number of its other
+   * codewords that were misread. It is at most twice `changedAllowed`.
    */
   readonly spentMost: number;
-  /** The codewords without unknown modules that were misread in the block that is worst for a scanner, as `spent` says. */
+  /** The w of the block that is worst for a scanner: of the first block with the greatest e + w. */
   readonly worstMisread: number;
-  /** The codewords with a module that is not known in the block that is worst for a scanner. */
+  /** The e of this block. */
   readonly worstUnknown: number;
   /** How many of the codewords of `worstUnknown` are wrong if the modules that are not known are taken as dark. */
   readonly worstUnknownWrong: number;
   /** Whether every module is right. */
   readonly isSound: boolean;
   /**
-   * The share of the correction that is spent for a scanner, in the block that is worst for it. A scanner takes a codeword with a module
-   * that is not known for a wrong one, so the share may be above 1, and then few scanners read the symbol.
+   * The share of the correction that is spent for a scanner, in the block that is worst for it: (worstMisread + worstUnknown) /
+   * changedAllowed. A scanner takes a codeword with a module that is not known for a wrong one, so the share may be above 1. Then scanners do
+   * not read the symbol.
    */
   readonly spent: number;
   /** The share of the correction that is spent for `mend`, from 0 to 1: a codeword with a module that is not known counts half. */
@@ -237,8 +238,7 @@ export interface Picture {
  * Returns the squares of the symbols in an image, those above and at the left first, as mend takes them: a module between dark and
  * light is 2, not known. Symbols are upright, dark on light or light on dark, of any margin, and of any scale from 2.2 pixels a module
  * on, or 1 or 2. It is no reader of photographs: a label has to lie straight, in even light. Throws PictureError if it finds no
- * upright symbol, or only such as are too small, or if the picture has so many marks that look like finder patterns that the search
- * takes too much work.
+ * upright symbol that is large enough, or if the picture has so many marks like finder patterns that the search takes too much work.
  */
 export function parsePicture(image: Picture): Uint8Array[];
 

@@ -312,12 +312,12 @@ pub struct Mended {
     pub changed_most: u8,
     /// How many may be wrong in each block, from 2 to 15.
     pub changed_allowed: u8,
-    /// The greatest number that a block has of codewords with a module that is not known, and of twice its other codewords that
-    /// were misread. It is at most twice `changed_allowed`.
+    /// The greatest e + 2w of a block, where e is the number of its codewords with a module that is not known, and w the number of
+    /// its other codewords that were misread. It is at most twice `changed_allowed`.
     pub spent_most: u8,
-    /// How many codewords without unknown modules were misread in the block that is worst for a scanner, as [`Mended::spent`] says.
+    /// The w of the block that is worst for a scanner: of the first block with the greatest e + w.
     pub worst_misread: u8,
-    /// How many codewords have a module that is not known in the block that is worst for a scanner.
+    /// The e of this block.
     pub worst_unknown: u8,
     /// How many of the codewords of `worst_unknown` are wrong if the modules that are not known are taken as dark.
     pub worst_unknown_wrong: u8,
@@ -342,9 +342,9 @@ impl Mended {
         self.wrong_modules == 0
     }
 
-    /// Returns the share of the correction that is spent for a scanner, in the block that is worst for it: the block with the
-    /// most codewords that were misread or have a module that is not known. A scanner takes both for wrong, so the share may be
-    /// above 1, and then few scanners read the symbol.
+    /// Returns the share of the correction that is spent for a scanner, in the block that is worst for it: the sum of
+    /// `worst_misread` and `worst_unknown`, divided by `changed_allowed`. A scanner takes a codeword with a module that is not
+    /// known for a wrong one, so the share may be above 1. Then scanners do not read the symbol.
     #[must_use]
     pub fn spent(&self) -> f64 {
         f64::from(self.wrong_for_a_scanner()) / f64::from(self.changed_allowed)
