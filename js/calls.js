@@ -84,6 +84,10 @@ const SERIES_MAX = 501264;
 const BYTES_MAX = 7089;
 const ECIS_MAX = 1970, ECI_SIZE = 16;
 const FNC1_FIRST = 1, FNC1_SECOND = 2;
+// The last fields of the struct of mending, a byte each, and the offset of the first.
+const COUNTS = ['level', 'mask', 'wrongFormatModules', 'wrongFormatLeast', 'changedMost', 'changedAllowed', 'spentMost', 'worstMisread', 'worstUnknown',
+  'worstUnknownWrong'];
+const COUNTS_AT = 28;
 const MODULE_LIKELY = 8; // more bytes than most drawings have for each module
 const TOO_LONG = 2, TOO_MANY = 3, ROOM = 6, NO_DRAWING = 11; // statuses
 export const DEFAULT = 1000000, GS1 = 1000001; // interpretations; a smaller number is that of an ECI
@@ -139,6 +143,7 @@ function content(at, bytes, headers, version) {
     ecis,
     gs1: fnc1 === FNC1_FIRST,
     application: fnc1 === FNC1_SECOND ? applicationOf(byte(6)) : null,
+    kanji: byte(7) !== 0,
   };
 }
 
@@ -156,10 +161,9 @@ export function readOf(modules, side) {
 
 export function mendedOf(modules, side) {
   return run(() => {
-    const [at, to, headers] = readBy('qrproved_mend', modules, side, 32);
-    const [level, mask, wrongFormatModules, changedMost, changedAllowed] = [27, 28, 29, 30, 31].map((k) => at.getUint8(k));
-    const found = content(at, to, headers, 20), wrongModules = at.getUint32(16, true);
-    return { content: found, wrongModules, level, mask, wrongFormatModules, changedMost, changedAllowed };
+    const [at, to, headers] = readBy('qrproved_mend', modules, side, 40);
+    const counts = Object.fromEntries(COUNTS.map((name, k) => [name, at.getUint8(COUNTS_AT + k)]));
+    return { content: content(at, to, headers, 20), wrongModules: at.getUint32(16, true), ...counts };
   });
 }
 

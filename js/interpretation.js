@@ -45,7 +45,7 @@ function decodedBeyond(label, others, ofOthers = decoded(label)) {
   const parts = new RegExp(`[\\0-\\x7f]+|((?:${others})+)|[^]`, 'g');
   return (data) => latin1(data).replace(parts, (part, bytes) => {
     if (bytes !== undefined) return ofOthers(Uint8Array.from(bytes, (it) => it.charCodeAt(0)));
-    if (part > '\x7f') throw new TypeError(`byte ${part.charCodeAt(0).toString(16).toUpperCase()} is no character of ${label}`);
+    if (part.charCodeAt(0) > 0x7f) throw new TypeError(`byte ${part.charCodeAt(0).toString(16).toUpperCase()} is no character of ${label}`);
     return part;
   });
 }
@@ -96,9 +96,9 @@ function charactersOf(number, data) {
   }
 }
 
-/** Returns the characters: those without an ECI as UTF-8. */
-export function decodedText(data, ecis) {
-  const begins = [0, ...ecis.map((it) => it.begin), data.length], numbers = [null, ...ecis.map((it) => it.number)];
+/** Returns the characters: those without an ECI as UTF-8, or as those of another ECI, `first`. */
+export function decodedText(data, ecis, first = null) {
+  const begins = [0, ...ecis.map((it) => it.begin), data.length], numbers = [first, ...ecis.map((it) => it.number)];
   const parts = numbers.map((number, k) => [number, data.subarray(begins[k], begins[k + 1])]);
   return parts.filter(([, part]) => part.length > 0).map(([number, part]) => charactersOf(number, part)).join('');
 }

@@ -6,12 +6,18 @@
 import { PictureError } from './errors.js';
 
 const CONTRAST_MIN = 24; // of the lightest and the darkest pixel
+const WHOLE = 65536; // the sum of the shares of red, green and blue in the brightness of a pixel (ITU-R BT.601)
 const LIKE_MIN = 38; // of the 49 modules of a finder pattern, to be taken for one
 const SURE = 44; // of them, to be one for certain
 const SHARE_MIN = 0.75; // of the modules of finder and timing patterns that have to be right
 const KNOWN = 0.375; // the share of the difference of dark and light by which a known module may be off
 const UNKNOWN_MODULE = 2;
 const PIXELS_MIN = 2.1; // of a module, if it has no whole number of pixels
+/**
+ * How much work the search in a picture may take. A unit is one comparison: of five runs of a row with five runs of a column, of two finder
+ * patterns, of one of these or of a square with another one that was found before, or of a pixel with the module of a pattern.
+ */
+const WORK_MAX = 20000000;
 
 /** Returns whether a module of a finder pattern is dark. */
 function isDarkIn(row, column) {
@@ -21,14 +27,15 @@ function isDarkIn(row, column) {
 /** The pixels of an image over a ground, and which of them are dark. */
 class Picture {
   columns = new Map();
+  work = 0;
 
   constructor({ data, width, height }, ground) {
     Object.assign(this, { width, height, bright: new Uint8Array(width * height), places: new Uint8Array(width * height) });
     let least = 255, most = 0;
     for (let at = 0; at < this.bright.length; at++) {
-      const [red, green, blue, alpha] = [data[4 * at], data[4 * at + 1], data[4 * at + 2], data[4 * at + 3]];
-      const bright = ((0.299 * red + 0.587 * green + 0.114 * blue) * alpha + ground * (255 - alpha)) / 255;
-      this.bright[at] = bright + 0.5;
+      const alpha = data[4 * at + 3], bright = 19595 * data[4 * at] + 38470 * data[4 * at + 1] + 7471 * data[4 * at + 2];
+      // rounded once: the package for Python has the same brightness for each pixel
+      this.bright[at] = (bright * alpha + WHOLE * ground * (255 - alpha) + WHOLE * 255 / 2) / (WHOLE * 255);
       least = Math.min(least, this.bright[at]);
       most = Math.max(most, this.bright[at]);
     }
@@ -40,6 +47,25 @@ class Picture {
   /** Whether a place is dark; all places outside are light. */
   isDark(x, y) {
     return x >= 0 && x < this.width && y >= 0 && y < this.height && this.places[Math.floor(y) * this.width + Math.floor(x)] === 1;
+  }
+
+  /** Counts some units of work, and gives up if there were too many. */
+  count(units) {
+    this.work += units;
+    if (this.work > WORK_MAX) throw new PictureError('the picture has too many marks that look like finder patterns: cut out the symbol');
+  }
+
+  /** Yields groups of rows that are alike: the first row, and the one after the last. */
+  * groups() {
+    const { bright, width, height } = this;
+    const isAlike = (row) => {
+      for (let at = row * width; at < (row + 1) * width; at++) if (bright[at] !== bright[at - width]) return false;
+      return true;
+    };
+    for (let row = 0, after; row < height; row = after) {
+      for (after = row + 1; after < height && isAlike(after);) after++;
+      yield [row, after];
+    }
   }
 
   /** Returns the runs of one column. */
@@ -59,10 +85,10 @@ function runsOf(places, first, step, count) {
 
 /**
  * Yields where five runs may go across the middle of a finder pattern: its start, its size, and the number of its first run. The first
- * and the last run may go on, into a neighbour.
+ * and the last run may go on, into a neighbour. The first of the five runs has a number from `least` to `most`.
  */
-function* middles(starts) {
-  for (let k = 0; k + 5 < starts.length; k++) {
+function* middles(starts, least = 0, most = Infinity) {
+  for (let k = Math.max(0, least); k + 5 < starts.length && k <= most; k++) {
     const [first, one, two, three, four, last] = starts.slice(k, k + 6), unit = (four - one) / 5;
     const isUnit = (length) => Math.abs(length - unit) < unit / 2, isThree = Math.abs(three - two - 3 * unit) < unit;
     const isEdged = one - first > unit / 2 && last - four > unit / 2;
@@ -73,6 +99,7 @@ function* middles(starts) {
 /** Returns how many modules of a finder pattern are right. */
 function likenessAt(picture, left, top, unit, isInverse) {
   let right = 0;
+  picture.count(49);
   for (let row = 0; row < 7; row++) {
     for (let column = 0; column < 7; column++) {
       const isDark = picture.isDark(left + (column + 0.5) * unit, top + (row + 0.5) * unit) !== isInverse;
@@ -82,26 +109,44 @@ function likenessAt(picture, left, top, unit, isInverse) {
   return right;
 }
 
+/** Returns the number of the run that has a place; the starts are sorted. */
+function runWith(starts, place) {
+  let least = 0, most = starts.length - 2;
+  while (least < most) {
+    const middle = (least + most + 1) >> 1;
+    if (starts[middle] <= place) least = middle;
+    else most = middle - 1;
+  }
+  return least;
+}
+
 /** Returns the finder pattern whose middle is in a row, if there is one: its left and upper edge and its side. */
 function finderAt(picture, { start, size }, y, isInverse) {
-  for (const { start: top, size: height } of middles(picture.column(Math.floor(start + size / 2)))) {
-    const isHere = top < y && y < top + height && Math.abs(height - size) <= Math.max(1, size / 7);
-    const isLike = isHere && likenessAt(picture, start, top, size / 7, isInverse) >= LIKE_MIN;
-    if (isLike) return { left: start, top, size: (size + height) / 2, isInverse };
+  const starts = picture.column(Math.floor(start + size / 2)), run = runWith(starts, y);
+  for (const { start: top, size: height } of middles(starts, run - 4, run)) {
+    picture.count(1);
+    if (!(top < y && y < top + height && Math.abs(height - size) <= Math.max(1, size / 7))) continue;
+    if (likenessAt(picture, start, top, size / 7, isInverse) >= LIKE_MIN) return { left: start, top, size: (size + height) / 2, isInverse };
   }
   return null;
 }
 
 function findersOf(picture) {
   const found = [], isInside = (start, size, at) => start < at && at < start + size;
-  for (let row = 0; row < picture.height; row++) {
-    const first = row * picture.width, isFirstDark = picture.places[first] === 1, y = row + 0.5;
+  let near = []; // those that reach down to the row
+  for (const [row, after] of picture.groups()) {
+    const first = row * picture.width, isFirstDark = picture.places[first] === 1, y = (row + after) / 2;
     const starts = runsOf(picture.places, first, 1, picture.width);
+    near = near.filter(({ top, size }) => y < top + size);
     for (const across of middles(starts)) {
       const x = across.start + across.size / 2;
-      if (found.some(({ left, top, size }) => isInside(left, size, x) && isInside(top, size, y))) continue;
+      picture.count(near.length);
+      if (near.some(({ left, top, size }) => isInside(left, size, x) && isInside(top, size, y))) continue;
       const finder = finderAt(picture, across, y, (across.run % 2 === 0) !== isFirstDark);
-      if (finder) found.push(finder);
+      if (finder) {
+        found.push(finder);
+        near.push(finder);
+      }
     }
   }
   return found;
@@ -124,9 +169,13 @@ function* squaresOfTwo(one, two) {
 
 const cornersOf = (side) => [[0, 0], [0, side - 7], [side - 7, 0]];
 
+const patterns = new Map(); // those of the sides that were needed before
+
 /** Returns the places of the finder and timing patterns, and whether each is dark. */
 function patternsOf(side) {
-  const places = [];
+  const places = patterns.get(side) ?? [];
+  if (places.length) return places;
+  patterns.set(side, places);
   for (const [top, left] of cornersOf(side)) {
     for (let place = 0; place < 49; place++) {
       const row = Math.floor(place / 7), column = place % 7;
@@ -141,6 +190,7 @@ function patternsOf(side) {
 function shareOf(picture, { left, top, width, height }, side, isInverse) {
   const places = patternsOf(side), isRight = ([row, column, dark]) =>
     (picture.isDark(left + (column + 0.5) * width / side, top + (row + 0.5) * height / side) !== isInverse) === dark;
+  picture.count(places.length);
   return places.filter(isRight).length / places.length;
 }
 
@@ -159,19 +209,24 @@ function sidesNear(modules) {
 function boxesOf(picture, finders) {
   const found = [];
   for (const one of finders) {
+    picture.count(finders.length);
     for (const two of finders) {
       if (one === two || one.isInverse !== two.isInverse || Math.abs(one.size - two.size) > Math.max(1, one.size / 7)) continue;
       const unit = (one.size + two.size) / 14, { isInverse } = one;
       for (const box of squaresOfTwo(one, two)) {
         const isInside = (start, size, limit) => start >= -unit && start + size <= limit + unit;
         if (!isInside(box.left, box.width, picture.width) || !isInside(box.top, box.height, picture.height)) continue;
-        for (const side of sidesNear(box.width / unit)) found.push({ ...box, side, isInverse, share: shareOf(picture, box, side, isInverse) });
+        for (const side of sidesNear(box.width / unit)) {
+          const share = shareOf(picture, box, side, isInverse);
+          if (share >= SHARE_MIN) found.push({ ...box, side, isInverse, share });
+        }
       }
     }
   }
   const chosen = [];
   for (const box of found.sort((one, two) => two.share - one.share)) {
-    if (box.share >= SHARE_MIN && !chosen.some((other) => overlap(box, other))) chosen.push(box);
+    picture.count(chosen.length);
+    if (!chosen.some((other) => overlap(box, other))) chosen.push(box);
   }
   return chosen.sort((one, two) => one.top - two.top || one.left - two.left);
 }
@@ -179,7 +234,8 @@ function boxesOf(picture, finders) {
 /** Returns whether the corner that has no finder pattern in an upright symbol has one. */
 function isTurned(picture, { left, top, width, side, isInverse }) {
   const unit = width / side, likeness = ([row, column]) => likenessAt(picture, left + column * unit, top + row * unit, unit, isInverse);
-  return likeness([side - 7, side - 7]) >= SURE && Math.min(...cornersOf(side).map(likeness)) < SURE;
+  const corners = cornersOf(side).map(likeness);
+  return likeness([side - 7, side - 7]) >= SURE && Math.min(...corners) < SURE;
 }
 
 /** Returns whether modules are so narrow that some have no pixel of their own. */
@@ -187,9 +243,9 @@ function isCoarse({ width, height, side }) {
   return [width, height].some((it) => it < PIXELS_MIN * side && Math.abs(it - side * Math.round(it / side)) > 0.5);
 }
 
-/** Returns the pixels in the middle half of a module: the first, and the one after the last. */
+/** Returns the pixels in the middle half of a module: the first, and the one after the last. Half a pixel does not count. */
 function middleOf(start, size, limit) {
-  let first = Math.round(start + size / 4), after = Math.round(start + 3 * size / 4);
+  let first = Math.round(start + size / 4 + 1e-6), after = Math.round(start + 3 * size / 4 - 1e-6);
   if (after <= first) {
     first = Math.floor(start + size / 2);
     after = first + 1;
@@ -227,16 +283,26 @@ function modulesOf(picture, box) {
   });
 }
 
-/** Returns the squares of an image of RGBA pixels. A light symbol without a ground is seen on a dark one. */
+/** Returns whether no ground is seen through an image. */
+function isOpaque({ data }) {
+  for (let at = 3; at < data.length; at += 4) if (data[at] !== 255) return false;
+  return true;
+}
+
+/**
+ * Returns the squares of an image of RGBA pixels. A light symbol without a ground is seen on a dark one. Letters and digits beside a symbol
+ * may look like finder patterns of a small symbol or of one that is turned, so such squares are left out if there is another one.
+ */
 export function squaresIn(image) {
-  for (const ground of [255, 0]) {
+  for (const ground of isOpaque(image) ? [255] : [255, 0]) {
     const picture = new Picture(image, ground), boxes = picture.hasContrast ? boxesOf(picture, findersOf(picture)) : [];
-    if (boxes.some((box) => isTurned(picture, box))) {
+    const turned = boxes.filter((box) => isTurned(picture, box)), good = boxes.filter((box) => !turned.includes(box) && !isCoarse(box));
+    if (good.length) return good.map((box) => modulesOf(picture, box));
+    if (turned.length) {
       throw new PictureError('a symbol of the picture is not upright: its three finder patterns are not at the top left, top right and'
         + ' bottom left');
     }
-    if (boxes.some(isCoarse)) throw new PictureError('the modules of a symbol are less than two pixels wide: take a larger picture');
-    if (boxes.length) return boxes.map((box) => modulesOf(picture, box));
+    if (boxes.length) throw new PictureError('the modules of a symbol are less than two pixels wide: take a larger picture');
   }
   throw new PictureError('no upright symbol is found in the picture');
 }

@@ -64,8 +64,11 @@ export class QRSymbol {
    * Returns whether a module is dark; both numbers are from 0 to side - 1, from the top left. Throws SettingsError for others.
    */
   dark(row: number, column: number): boolean;
-  /** Returns an SVG document, in which a module is one unit wide. `mm` is its width with the margin, in millimetres. */
-  svg(options?: { margin?: number; mm?: number; quiet?: boolean }): string;
+  /**
+   * Returns an SVG document, in which a module is one unit wide. `mm` is its width with the margin, in millimetres. If `inline` is true,
+   * the document has no XML declaration, which HTML does not allow inside a page.
+   */
+  svg(options?: { margin?: number; mm?: number; quiet?: boolean; inline?: boolean }): string;
   /** Returns a drawing as text, of type 'UTF8' unless given. */
   text(options?: { margin?: number; type?: Drawing }): string;
   /**
@@ -114,10 +117,12 @@ export class Content {
   readonly gs1: boolean;
   /** The application indicator, two digits or a letter, of data with FNC1 in second position; else null. */
   readonly application: string | null;
+  /** Whether a part of the data is in kanji mode, which is for Shift JIS. */
+  readonly kanji: boolean;
   /**
-   * Returns the data as text, each byte by the ECI in effect, and by UTF-8 where there is none. Throws EciError for an ECI whose
-   * characters are not known, or that means bytes, and a TypeError for bytes that are no characters. A symbol of a series may begin or
-   * end within a character.
+   * Returns the data as text, each byte by the ECI in effect, and by UTF-8 where there is none. If `kanji` is true, and there is no ECI
+   * header and the data are no GS1 data, all bytes are taken for Shift JIS. Throws EciError for an ECI whose characters are not known, or
+   * that means bytes, and a TypeError for bytes that are no characters. A symbol of a series may begin or end within a character.
    */
   text(): string;
   /**
@@ -127,7 +132,7 @@ export class Content {
    */
   fields(): [identifier: string, value: string][];
   /** What JSON.stringify writes: the data as an array of numbers. */
-  toJSON(): { data: number[]; version: number; header: Header | null; ecis: Eci[]; gs1: boolean; application: string | null };
+  toJSON(): { data: number[]; version: number; header: Header | null; ecis: Eci[]; gs1: boolean; application: string | null; kanji: boolean };
 }
 
 /** What a damaged symbol contains, and its damage. */
@@ -141,14 +146,38 @@ export class Mended {
   readonly wrongModules: number;
   /** The number of the 30 modules of format information that are wrong or not known. */
   readonly wrongFormatModules: number;
+  /** Of the two copies of the format information, the number of modules that are wrong or not known in the copy with fewer of them. */
+  readonly wrongFormatLeast: number;
   /** The number of wrong codewords in the block with the most; codewords with a module that is not known do not count. */
   readonly changedMost: number;
   /** The number of codewords that may be wrong in each block, from 2 to 15. */
   readonly changedAllowed: number;
+  /**
+   * The greatest e + 2w of a block, where e is the number of its codewords with a module that is not known, and w the number of its other
+   * codewords that were misread. It is at most twice `changedAllowed`.
+   */
+  readonly spentMost: number;
+  /** The w of the block that is worst for a scanner: of the first block with the greatest e + w. */
+  readonly worstMisread: number;
+  /** The e of this block. */
+  readonly worstUnknown: number;
+  /** How many of the codewords of `worstUnknown` are wrong if the modules that are not known are taken as dark. */
+  readonly worstUnknownWrong: number;
   /** Whether every module is right. */
   readonly isSound: boolean;
-  /** The share of its correction that the block with the most wrong codewords has spent, from 0 to 1. */
+  /**
+   * The share of the correction that is spent for a scanner, in the block that is worst for it: (worstMisread + worstUnknown) /
+   * changedAllowed. A scanner takes a codeword with a module that is not known for a wrong one, so the share may be above 1. Then scanners do
+   * not read the symbol.
+   */
   readonly spent: number;
+  /** The share of the correction that is spent for `mend`, from 0 to 1: a codeword with a module that is not known counts half. */
+  readonly spentHere: number;
+  /**
+   * Whether a scanner that takes what is not known for wrong can read the symbol: `spent` is at most 1, and `wrongFormatLeast` at most 3.
+   * A scanner also has to find the symbol.
+   */
+  readonly scannable: boolean;
 }
 
 /**
@@ -209,7 +238,7 @@ export interface Picture {
  * Returns the squares of the symbols in an image, those above and at the left first, as mend takes them: a module between dark and
  * light is 2, not known. Symbols are upright, dark on light or light on dark, of any margin, and of any scale from 2.2 pixels a module
  * on, or 1 or 2. It is no reader of photographs: a label has to lie straight, in even light. Throws PictureError if it finds no
- * upright symbol, or too small a one.
+ * upright symbol that is large enough, or if the picture has so many marks like finder patterns that the search takes too much work.
  */
 export function parsePicture(image: Picture): Uint8Array[];
 

@@ -27,6 +27,7 @@ const ECI_MAX = 999999;
 const MM_OF_INCH = 25.4;
 const DENSITY_MAX = 2 ** 31 - 1; // pixels a metre: a number in a PNG image has 31 bits
 const MODULE_MIN = 0.25; // mm
+const FORMAT_MOST = 3; // wrong modules of a copy of the format information, which a scanner corrects (ISO/IEC 18004:2015, 7.9)
 
 /** Returns each option as it is given, or its default. An option of another name would do nothing, and so is refused. */
 function chosen(given, defaults) {
@@ -126,11 +127,12 @@ export class QRSymbol {
   }
 
   svg(options = {}) {
-    const { margin, mm, quiet } = chosen(options, { margin: 4, mm: undefined, quiet: false });
-    const document = draw(this, { margin, type: 'SVG' });
+    const { margin, mm, quiet, inline } = chosen(options, { margin: 4, mm: undefined, quiet: false, inline: false });
+    if (typeof inline !== 'boolean') throw new TypeError(`inline is true or false, and not of type ${typeof inline}`);
+    const document = draw(this, { margin, type: 'SVG' }), drawing = inline ? document.replace(/^<\?xml[^>]*>\n/, '') : document;
     if (mm !== undefined) length('mm', mm);
     warn(quiet, margin, mm === undefined ? Infinity : mm / (this.side + 2 * margin));
-    return mm === undefined ? document : document.replace('<svg ', `<svg width="${mm}mm" height="${mm}mm" `);
+    return mm === undefined ? drawing : drawing.replace('<svg ', `<svg width="${mm}mm" height="${mm}mm" `);
   }
 
   text(options = {}) {
@@ -168,17 +170,20 @@ export class QRSymbol {
 }
 
 export class Content {
-  constructor({ data, version, header, ecis, gs1, application }) {
+  constructor({ data, version, header, ecis, gs1, application, kanji }) {
     this.data = data;
     this.version = version;
     this.header = header;
     this.ecis = ecis;
     this.gs1 = gs1;
     this.application = application;
+    this.kanji = kanji;
   }
 
   text() {
-    return decodedText(this.data, this.ecis);
+    // Kanji mode is for Shift JIS (ISO/IEC 18004:2015, 7.4.6), so the bytes in other modes are taken for it too.
+    const isShiftJis = this.kanji && this.ecis.length === 0 && !this.gs1;
+    return decodedText(this.data, this.ecis, isShiftJis ? SHIFT_JIS : null);
   }
 
   fields() {
@@ -192,14 +197,19 @@ export class Content {
 }
 
 export class Mended {
-  constructor({ content, level, wrongModules, mask, wrongFormatModules, changedMost, changedAllowed }) {
+  constructor({ content, level, wrongModules, mask, wrongFormatModules, wrongFormatLeast, changedMost, changedAllowed, spentMost, ...worst }) {
     this.content = new Content(content);
     this.level = LEVELS[level];
     this.wrongModules = wrongModules;
     this.mask = mask;
     this.wrongFormatModules = wrongFormatModules;
+    this.wrongFormatLeast = wrongFormatLeast;
     this.changedMost = changedMost;
     this.changedAllowed = changedAllowed;
+    this.spentMost = spentMost;
+    this.worstMisread = worst.worstMisread;
+    this.worstUnknown = worst.worstUnknown;
+    this.worstUnknownWrong = worst.worstUnknownWrong;
   }
 
   get isSound() {
@@ -207,7 +217,15 @@ export class Mended {
   }
 
   get spent() {
-    return this.changedMost / this.changedAllowed;
+    return (this.worstMisread + this.worstUnknown) / this.changedAllowed;
+  }
+
+  get spentHere() {
+    return this.spentMost / (2 * this.changedAllowed);
+  }
+
+  get scannable() {
+    return this.worstMisread + this.worstUnknown <= this.changedAllowed && this.wrongFormatLeast <= FORMAT_MOST;
   }
 }
 
@@ -226,13 +244,16 @@ export function encodeSeries(input, options = {}) {
   return squares.map((modules) => new QRSymbol({ version, side, mask: null, level: LEVELS[level], modules }));
 }
 
+const OTHER_CALLS = 'for a picture call parsePicture(image), and for a drawing parseDrawing(text)';
+
 /** Returns the modules of a symbol or of a square, and their side. */
 function squareOf(square) {
   const modules = square instanceof QRSymbol ? square.modules : square;
-  if (!(modules instanceof Uint8Array)) throw new TypeError('a square is a QRSymbol, or a Uint8Array of its modules, row by row');
+  if (!(modules instanceof Uint8Array)) throw new TypeError(`a square is a QRSymbol, or a Uint8Array of its modules, row by row; ${OTHER_CALLS}`);
   const side = Math.sqrt(modules.length);
   if (!(side >= 21 && side <= SIDE_MAX && side % 4 === 1)) {
-    throw new SideError(`a square has 21 times 21 modules, 25 times 25, and so on to 177 times 177, and not ${modules.length} in all`);
+    throw new SideError('a square has 21 times 21 modules, 25 times 25, and so on to 177 times 177,'
+      + ` and not ${modules.length} in all; ${OTHER_CALLS}`);
   }
   return [modules, side];
 }
@@ -257,7 +278,10 @@ export function parseDrawing(text) {
 export function parsePicture(image) {
   const { data, width, height } = image ?? {};
   const isOfBytes = data instanceof Uint8ClampedArray || data instanceof Uint8Array;
-  if (!(isOfBytes && width > 0 && height > 0 && data.length === 4 * width * height)) throw new TypeError('an image has width, height and, as its data, four bytes for each pixel, as a canvas has them');
+  if (!(isOfBytes && width > 0 && height > 0 && data.length === 4 * width * height)) {
+    throw new TypeError('an image has width, height and, as its data, four bytes for each pixel: a file of an image is first drawn on a canvas,'
+      + ' whose getImageData returns them');
+  }
   return squaresIn(image);
 }
 

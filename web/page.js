@@ -20,7 +20,7 @@ function made(tag, ...inside) {
 /** Returns a figure of a symbol, which screen readers call by its text. */
 function figureOf(svg, name, caption) {
   const figure = document.createElement('figure');
-  figure.innerHTML = svg.replace(/^<\?xml[^>]*>\n/, '');
+  figure.innerHTML = svg;
   figure.firstElementChild.setAttribute('role', 'img');
   figure.firstElementChild.setAttribute('aria-label', `QR Code symbol: ${name.slice(0, MOST_SHOWN)}`);
   if (caption) figure.append(made('figcaption', caption));
@@ -109,7 +109,7 @@ function show() {
   on('boost').disabled = on('series').checked;
   on('version-name').textContent = on('series').checked ? 'Version of each' : 'Version, at least';
   const caption = (k) => (symbols.length > 1 ? `${k + 1} of ${symbols.length}` : '');
-  on('drawing').replaceChildren(...symbols.map((it, k) => figureOf(it.svg({ margin, quiet: true }), text, caption(k))));
+  on('drawing').replaceChildren(...symbols.map((it, k) => figureOf(it.svg({ margin, quiet: true, inline: true }), text, caption(k))));
   on('drawing').style.setProperty('--mm', `${numberIn('mm') ?? 60}mm`);
   on('drawing').classList.toggle('many', symbols.length > 1);
   for (const id of ['save-svg', 'save-png', 'copy', 'print-symbol']) on(id).disabled = symbols.length === 0;
@@ -182,11 +182,16 @@ function symbolOf(text) {
   return encode(input, { level: on('sheet-level').value, boost: on('sheet-boost').checked, ...rule });
 }
 
+/** Returns whether a line has no label: it is empty, or has nothing before its tab. */
+function isWithoutText(line) {
+  return partsOf(line)[0].trim() === '';
+}
+
 /** Returns the figure of a line: one that was shown before, if there is one. */
 function labelOf(line, before) {
   const settings = ['sheet-level', 'sheet-kind'].map((id) => on(id).value), [text, caption] = partsOf(line);
   const key = [...settings, on('sheet-boost').checked, line].join(' ');
-  const figure = before.get(key)?.pop() ?? figureOf(symbolOf(text).svg(), text, caption);
+  const figure = before.get(key)?.pop() ?? figureOf(symbolOf(text).svg({ inline: true }), text, caption);
   if (!labels.has(key)) labels.set(key, []);
   labels.get(key).push(figure);
   return figure;
@@ -209,10 +214,29 @@ function papersOf(figures) {
   return papers;
 }
 
-/** Returns what is to be said of the narrowest modules of figures that are `width` mm wide. */
-function smallestOf(figures, width) {
-  const modules = figures.map((figure) => figure.firstElementChild.viewBox.baseVal.width);
-  return smallOf(width / modules.reduce((most, it) => Math.max(most, it), 0));
+const WIDTH_LEAST = 10; // mm of a symbol on a sheet
+const PIXELS = 96 / 25.4; // of a millimetre, in a style sheet
+
+/** Returns how wide a figure draws its symbol, in millimetres. */
+function symbolWidthOf(figure) {
+  const { width, height } = figure.firstElementChild.getBoundingClientRect();
+  return Math.min(width, height) / PIXELS;
+}
+
+/** Returns what is to be said of the narrowest modules of figures, whose symbols have these widths. */
+function smallestOf(figures, widths) {
+  const modules = figures.map((figure, k) => widths[k] / figure.firstElementChild.viewBox.baseVal.width);
+  return smallOf(modules.reduce((least, it) => Math.min(least, it), Infinity));
+}
+
+/** Returns what is to be said of symbols for which label paper has not as much room as is wanted. */
+function narrowOf(widths, wanted) {
+  // rounded down, so that the width that is named fits
+  const narrow = widths.filter((it) => it < wanted - 0.05).map((it) => Math.floor(10 * it) / 10);
+  const [least, most] = [Math.min, Math.max].map((one) => narrow.reduce((it, other) => one(it, other), narrow[0]));
+  if (narrow.length === 0) return [];
+  const which = narrow.length === 1 ? '1 symbol with its caption does' : `${narrow.length} symbols with their captions do`;
+  return [`${which} not fit a label at ${wanted} mm, and ${narrow.length === 1 ? 'is' : 'are'} drawn as wide as fits: ${least === most ? '' : `${least} to `}${most} mm.`];
 }
 
 /** Saves the images of all lines that fit a symbol, each named by its line. */
@@ -221,7 +245,7 @@ function saveAll() {
   const files = on('lines').value.split('\n').flatMap((line, k) => {
     try {
       const [text] = partsOf(line), name = `${String(k + 1).padStart(5, '0')}.png`;
-      return text.trim() === '' ? [] : [{ name, content: symbolOf(text).png({ scale, mm: width, quiet: true }) }];
+      return isWithoutText(line) ? [] : [{ name, content: symbolOf(text).png({ scale, mm: width, quiet: true }) }];
     } catch (error) {
       if (!isRefusal(error)) throw error;
       return []; // showSheet has said so
@@ -230,38 +254,60 @@ function saveAll() {
   save('labels.zip', 'application/zip', zipOf(files));
 }
 
-/** Returns why lines have no symbol, in sentences. */
-function faultsOf(refused) {
+/** Returns why lines have no label, in sentences. */
+function faultsOf(refused, crowded) {
   const long = refused.filter(({ error }) => error instanceof TooLongError).map(({ line }) => line);
   const others = refused.filter(({ line }) => !long.includes(line)).map(({ line, error }) => `Line ${line}: ${error.message}.`);
-  return [...(long.length ? [`Too long at this level: line ${long.join(', ')}.`] : []), ...others];
+  return [
+    ...(long.length ? [`Too long at this level: line ${long.join(', ')}.`] : []),
+    ...(crowded.length ? [`No room on a label for a symbol of ${WIDTH_LEAST} mm with its caption: line ${crowded.join(', ')}.`] : []),
+    ...others,
+  ];
 }
 
-function showSheet() {
-  const width = numberIn('width'), refused = [], before = labels;
+/** Returns the labels of the lines: the figure of each with the number of its line. Lines that have none are added to `refused`. */
+function labelsOf(refused) {
+  const before = labels;
   labels = new Map();
-  const figures = on('lines').value.split('\n').flatMap((line, k) => {
-    if (partsOf(line)[0].trim() === '') return [];
+  return on('lines').value.split('\n').flatMap((line, k) => {
+    if (line.trim() === '') return [];
     try {
-      return [labelOf(line, before)];
+      if (isWithoutText(line)) throw new TypeError('it has no text before its tab');
+      return [{ line: k + 1, figure: labelOf(line, before) }];
     } catch (error) {
       if (!isRefusal(error)) throw error;
       refused.push({ line: k + 1, error });
       return [];
     }
   });
-  if (width !== null) on('sheet').style.setProperty('--width', `${width}mm`);
-  const papers = on('paper').checked ? papersOf(figures) : figures;
-  on('paper-sizes').hidden = !on('paper').checked;
-  on('sheet').classList.toggle('on-paper', on('paper').checked);
+}
+
+/** Shows labels, on label paper if it is asked for. Returns whether all sizes of the paper are in their ranges. */
+function layOut(list) {
+  const figures = list.map(({ figure }) => figure), papers = on('paper').checked ? papersOf(figures) : null;
+  on('sheet').classList.toggle('on-paper', papers !== null);
   on('sheet').replaceChildren(...papers ?? figures);
-  on('print-sheet').disabled = on('save-zip').disabled = figures.length === 0;
-  const warnings = on('sheet-warn').checked ? smallestOf(figures, width) : [];
-  const count = [`${figures.length} ${figures.length === 1 ? 'label' : 'labels'}.`, ...warnings].join(' ');
-  if (width === null) say(on('sheet-facts'), 'A symbol is from 10 to 180 mm wide.', 'wide fault');
-  else if (papers === null) say(on('sheet-facts'), 'A size of the label paper is out of range.', 'wide fault');
-  else if (refused.length) say(on('sheet-facts'), [count, ...faultsOf(refused)].join(' '), 'wide fault');
-  else say(on('sheet-facts'), count, 'wide');
+  return papers !== null || !on('paper').checked;
+}
+
+/** Shows the sheet, without labels whose caption leaves no room for a symbol. While it is hidden, this is not known. */
+function showSheet() {
+  const width = numberIn('width'), refused = [], list = labelsOf(refused);
+  if (width !== null) on('sheet').style.setProperty('--width', `${width}mm`);
+  on('paper-sizes').hidden = !on('paper').checked;
+  const isInRange = layOut(list), isMeasured = isInRange && on('paper').checked && !on('labels').hidden;
+  const all = list.map((it) => ({ ...it, width: isMeasured ? symbolWidthOf(it.figure) : width }));
+  const crowded = isMeasured ? all.filter((it) => it.width < WIDTH_LEAST - 0.05) : [], shown = all.filter((it) => !crowded.includes(it));
+  if (crowded.length) layOut(shown);
+  const figures = shown.map(({ figure }) => figure), widths = shown.map((it) => it.width);
+  on('print-sheet').disabled = figures.length === 0 || !isInRange;
+  on('save-zip').disabled = list.length === 0;
+  const warnings = [...narrowOf(widths, width), ...(on('sheet-warn').checked ? smallestOf(figures, widths) : [])];
+  const facts = [`${figures.length} ${figures.length === 1 ? 'label' : 'labels'}.`, ...warnings];
+  const faults = faultsOf(refused, crowded.map(({ line }) => line));
+  if (width === null) say(on('sheet-facts'), `A symbol is from ${WIDTH_LEAST} to 180 mm wide.`, 'wide fault');
+  else if (!isInRange) say(on('sheet-facts'), 'A size of the label paper is out of range.', 'wide fault');
+  else say(on('sheet-facts'), [...facts, ...faults].join(' '), faults.length ? 'wide fault' : 'wide');
 }
 
 // ---- a drawing that is pasted
@@ -277,7 +323,8 @@ function textOf(content) {
     return content.text();
   } catch (error) {
     const bytes = Array.from(content.data, (byte) => byte.toString(16).padStart(2, '0')).join(' ');
-    return `${bytes} (${error instanceof EciError ? error.message : `bytes that are no ${content.ecis.length ? 'characters of their ECI' : 'UTF-8'}`})`;
+    const characters = content.ecis.length ? 'characters of their ECI' : content.kanji && !content.gs1 ? 'Shift JIS' : 'UTF-8';
+    return `${bytes} (${error instanceof EciError ? error.message : `bytes that are no ${characters}`})`;
   }
 }
 
@@ -309,13 +356,28 @@ function damageOf(found, modules) {
   return `${counts.map(([count, what]) => `${count} ${count === 1 ? 'module is' : 'modules are'} ${what}`).join(', ')}.`;
 }
 
-function spentOf(found, modules) {
-  // rounded up, as `qrproved check` does
-  const meter = document.createElement('meter'), percent = Math.ceil(100 * found.changedMost / found.changedAllowed);
-  Object.assign(meter, { min: 0, max: 1, low: 0.5, high: 0.75, optimum: 0, value: found.spent });
-  const more = modules.includes(2) ? ' Codewords with unknown modules are not counted.' : '';
+/** Returns a share as percents, rounded up, as `qrproved check` does: of whole numbers, so that no fraction is lost. */
+function percentOf(part, whole) {
+  return Math.ceil(100 * part / whole);
+}
+
+/** Returns what a shop has to know of a label, as `qrproved check` says it, and how good that is. */
+function verdictOf({ isSound, scannable, worstMisread, worstUnknown, changedAllowed }) {
+  const wrong = worstMisread + worstUnknown, spent = `${percentOf(wrong, changedAllowed)} % of its correction spent`;
+  if (isSound) return ['Sound', 'good'];
+  if (scannable) return [`Readable, ${spent}`, ''];
+  return [`Read here, but scanners will not: ${wrong > changedAllowed ? spent : 'its format information is damaged too much'}`, 'fault'];
+}
+
+/** Returns how much of the correction is spent, for a scanner and here. */
+function spentOf({ spent, spentMost, worstMisread, worstUnknown, changedAllowed }) {
+  const meter = document.createElement('meter');
+  Object.assign(meter, { min: 0, max: 1, low: 0.5, high: 0.75, optimum: 0, value: spent });
   meter.setAttribute('aria-label', 'Correction that is spent');
-  return [`${percent} % in the most damaged block: ${found.changedMost} of ${found.changedAllowed} codewords.${more}`, meter];
+  const wrong = worstMisread + worstUnknown, count = `${wrong} ${wrong === 1 ? 'codeword is' : 'codewords are'} wrong${worstUnknown ? ' or not known' : ''}`;
+  const scanner = `${percentOf(wrong, changedAllowed)} % for a scanner: in the most damaged block ${count}, and ${changedAllowed} may be.`;
+  const here = `${percentOf(spentMost, 2 * changedAllowed)} % here, where a codeword that is not known counts half.`;
+  return [[scanner, ...(spentMost < 2 * wrong ? [here] : [])].join(' '), meter];
 }
 
 /** Returns whether a square that cannot be read is that of a symbol with rows and columns exchanged. */
@@ -335,15 +397,17 @@ function contentOf(square) {
   try {
     const found = mend(modules), { version, header } = found.content;
     const place = header ? `, ${header.position + 1} of ${header.last + 1} of a series` : '';
+    const [verdict, kind] = verdictOf(found);
     const rows = [
+      ['Verdict', [`${verdict}.`]],
       ['Contains', [textOf(found.content)]],
       ...interpretationOf(found.content),
       ['Symbol', [`Version ${version}-${found.level}, mask ${found.mask}${place}`]],
       ['Damage', [damageOf(found, modules)]],
-      ['Spent', spentOf(found, modules)],
+      ['Spent', spentOf(found)],
     ];
     const list = made('dl', ...rows.flatMap(([name, inside]) => [made('dt', name), made('dd', ...inside)]));
-    if (found.isSound) list.className = 'good';
+    list.className = kind;
     return list;
   } catch (error) {
     if (!(error instanceof QRError)) throw error;
@@ -463,6 +527,7 @@ function choose(tab) {
     it.tabIndex = it === tab ? 0 : -1;
     on(it.getAttribute('aria-controls')).hidden = it !== tab;
   }
+  if (!on('labels').hidden && on('paper').checked) showSheet();
 }
 
 for (const tab of TABS) {
@@ -480,10 +545,21 @@ for (let version = 1; version <= 40; version++) {
   const side = 17 + 4 * version;
   on('version').append(new Option(`${version}, ${side} × ${side}`, version));
 }
-// The address may have the text, as in index.html#text=Shelf%2012, which no server is told.
-const given = new URLSearchParams(location.hash.slice(1)).get('text') ?? new URLSearchParams(location.search).get('text');
-if (given !== null) on('text').value = given;
-for (const id of ['text', 'kind', 'level', 'version', 'margin', 'mm', 'boost', 'series', 'warn']) on(id).addEventListener('input', show);
+/**
+ * Returns the text after the sign # of the address, as in index.html#text=Shelf%2012, which no server is told; or null. It goes on to the
+ * end, since a text that is an address may have & and + itself.
+ */
+function textOfAddress() {
+  const [, text] = /[#&]text=(.*)$/su.exec(location.hash) ?? [null, null];
+  return text === null ? null : new URLSearchParams(`text=${text.replaceAll('&', '%26').replaceAll('+', '%2B')}`).get('text');
+}
+
+on('text').value = textOfAddress() ?? new URLSearchParams(location.search).get('text') ?? on('text').value;
+window.addEventListener('hashchange', () => {
+  on('text').value = textOfAddress() ?? on('text').value;
+  show();
+});
+for (const id of ['text', 'kind', 'level', 'version', 'margin', 'scale', 'mm', 'boost', 'series', 'warn']) on(id).addEventListener('input', show);
 for (const id of ['lines', 'sheet-kind', 'sheet-level', 'width', 'sheet-boost', 'sheet-warn', 'paper', ...SIZES]) on(id).addEventListener('input', showSheet);
 for (const form of document.forms) form.addEventListener('submit', (event) => event.preventDefault());
 on('pasted').addEventListener('input', showFound);

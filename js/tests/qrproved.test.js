@@ -113,7 +113,8 @@ test('JSON', () => {
   const rows = Array.from({ length: 21 }, (_, row) => symbol.modules.slice(21 * row, 21 * row + 21).join(''));
   assert.deepEqual(JSON.parse(JSON.stringify(symbol)), { version: 1, side: 21, mask: symbol.mask, level: 'M', rows });
   assert.equal(rows[0].slice(0, 7) + rows[20].slice(0, 7), '1'.repeat(14));
-  const content = { data: [65, 255], version: 1, header: null, ecis: [], gs1: false, application: null }, mended = mend(encode(Uint8Array.of(65, 255)));
+  const content = { data: [65, 255], version: 1, header: null, ecis: [], gs1: false, application: null, kanji: false };
+  const mended = mend(encode(Uint8Array.of(65, 255)));
   assert.deepEqual(JSON.parse(JSON.stringify(mended.content)), content);
   assert.deepEqual(JSON.parse(JSON.stringify(mended)).content, content);
 });
@@ -136,6 +137,15 @@ test('refusals', () => {
   assert.throws(() => read(inverted(symbol, 20 * 21 + 20)), refused('CheckError', 9, 'CHECK'));
   assert.throws(() => mend(symbol.modules.map((it, k) => (k % 21 > 8 && k > 189 ? 1 - it : it))), refused('CheckError', 9, 'CHECK'));
   for (const wrong of [undefined, 'text', [1], new ArrayBuffer(441)]) assert.throws(() => read(wrong), TypeError);
+});
+
+test('a picture that is read as a square', () => {
+  const symbol = encode('A'), image = { data: new Uint8ClampedArray(4), width: 1, height: 1 };
+  for (const call of [read, mend]) {
+    for (const given of ['label.png', image, image.data, symbol.svg()]) assert.throws(() => call(given), { name: 'TypeError', message: /for a picture call parsePicture\(image\)/ });
+    for (const given of [symbol.png(), new Uint8Array(0)]) assert.throws(() => call(given), { name: 'SideError', message: /for a picture call parsePicture\(image\)/ });
+  }
+  for (const given of [symbol.png(), 'label.png', symbol.svg()]) assert.throws(() => parsePicture(given), { name: 'TypeError', message: /canvas/ });
 });
 
 test('a refusal says how many bytes there were, and how many fit', () => {
@@ -192,12 +202,44 @@ test('mending', () => {
   assert.equal(mend(inverted(symbol, 8)).wrongFormatModules, 1);
 });
 
+// A module of each of the first five codewords of version 1: row and column. In the symbol of eight digits the first three are dark, and the other two light.
+const FIVE = [[20, 20], [16, 20], [12, 20], [9, 18], [13, 18]].map(([row, column]) => 21 * row + column);
+const unread = (modules, places) => modules.map((module, place) => (places.includes(place) ? 2 : module));
+
+test('what is spent for a scanner and here', () => {
+  const of = ({ spentMost, worstMisread, worstUnknown, worstUnknownWrong, changedMost, changedAllowed, spent, spentHere, scannable, content }) =>
+    [spentMost, worstMisread, worstUnknown, worstUnknownWrong, changedMost, changedAllowed, spent, spentHere, scannable, content.text()];
+  const eight = '01234567';
+  assert.deepEqual(of(mend(EIGHT_DIGITS)), [0, 0, 0, 0, 0, 4, 0, 0, true, eight]);
+  assert.deepEqual(of(mend(unread(EIGHT_DIGITS, FIVE))), [5, 0, 5, 2, 0, 4, 5 / 4, 5 / 8, false, eight]);
+  assert.deepEqual(of(mend(unread(EIGHT_DIGITS, FIVE.slice(0, 4)))), [4, 0, 4, 1, 0, 4, 1, 1 / 2, true, eight]);
+  assert.deepEqual(of(mend(unread(EIGHT_DIGITS, FIVE.slice(3)))), [2, 0, 2, 2, 0, 4, 1 / 2, 1 / 4, true, eight]);
+  const misread = EIGHT_DIGITS.map((module, place) => (place === FIVE[0] ? 1 - module : module));
+  assert.deepEqual(of(mend(unread(misread, FIVE.slice(2)))), [5, 1, 3, 2, 1, 4, 1, 5 / 8, true, eight]);
+  assert.deepEqual(of(mend(unread(misread, FIVE.slice(1)))), [6, 1, 4, 2, 1, 4, 5 / 4, 6 / 8, false, eight]);
+  // a copy of the format information is in row 8 and column 8 at the upper left, the other one in both at the other corners
+  const first = [0, 1, 2, 3].map((column) => 21 * 8 + column), second = [17, 18, 19, 20].map((row) => 21 * row + 8);
+  const format = (...places) => {
+    const { wrongFormatModules, wrongFormatLeast, spent, scannable, isSound } = mend(unread(EIGHT_DIGITS, places));
+    return [wrongFormatModules, wrongFormatLeast, spent, scannable, isSound];
+  };
+  assert.deepEqual(format(...first, ...second), [8, 4, 0, false, false]);
+  assert.deepEqual(format(...first.slice(1), ...second), [7, 3, 0, true, false]);
+  assert.deepEqual(format(...first), [4, 0, 0, true, false]);
+});
+
 test('drawings', () => {
   const symbol = encode('A');
   for (const wrong of [{ margin: -1 }, { margin: 101 }, { margin: 0.5 }]) {
     for (const call of ['svg', 'text', 'png', 'dataURL']) assert.throws(() => symbol[call](wrong), refused('SettingsError', 5, 'SETTINGS'));
   }
   assert.throws(() => symbol.svg({ scale: 2 }), TypeError);
+  const inside = symbol.svg().split('\n').slice(1).join('\n');
+  assert.equal(symbol.svg({ inline: true }), inside);
+  assert.equal(symbol.svg({ inline: true, mm: 20 }), inside.replace('<svg ', '<svg width="20mm" height="20mm" '));
+  assert.match(inside, /^<svg [^<]*</);
+  assert.equal(symbol.svg({ inline: false }), symbol.svg());
+  assert.throws(() => symbol.svg({ inline: 1 }), TypeError);
   assert.throws(() => symbol.text({ type: 'PNG' }), refused('SettingsError', 5, 'SETTINGS'));
   assert.throws(() => symbol.png({ scale: 0 }), refused('SettingsError', 5, 'SETTINGS'));
   assert.throws(() => symbol.dark(21, 0), refused('SettingsError', 5, 'SETTINGS'));
@@ -304,6 +346,86 @@ test('images without an upright symbol', () => {
   const sized = { width: 1, height: 1 };
   for (const wrong of [undefined, null, {}, symbol, { data: new Uint8Array(3), ...sized }, { data: [0, 0, 0, 0], ...sized }]) {
     assert.throws(() => parsePicture(wrong), TypeError);
+  }
+});
+
+/** Returns images beside each other on white. */
+function beside(...images) {
+  const width = images.reduce((sum, it) => sum + it.width, 0), height = Math.max(...images.map((it) => it.height));
+  const data = new Uint8ClampedArray(4 * width * height).fill(255);
+  let left = 0;
+  for (const it of images) {
+    for (let y = 0; y < it.height; y++) data.set(it.data.subarray(4 * y * it.width, 4 * (y + 1) * it.width), 4 * (y * width + left));
+    left += it.width;
+  }
+  return { data, width, height };
+}
+
+/** Returns an image of a function of its rows and columns, which returns the brightness. */
+function imageBy(width, height, bright) {
+  const data = new Uint8ClampedArray(4 * width * height).fill(255);
+  for (let at = 0; at < width * height; at++) data.fill(bright(Math.floor(at / width), at % width), 4 * at, 4 * at + 3);
+  return { data, width, height };
+}
+
+// The digits 888 in DejaVu Sans of 10 pixels, as Pillow 9.4 draws them: the brightness of a pixel has two digits.
+const CAPTION = `
+ff8f180c4ff2ffff8f180c4ff2ffff8f180c4ff2
+ea0fd8f24e8fffea0fd8f24e8fffea0fd8f24e8f
+f41fd9f24eaafff41fd9f24eaafff41fd9f24eaa
+ff97030047fbffff97030047fbffff97030047fb
+d126e1f46b7dffd126e1f46b7dffd126e1f46b7d
+c225e1f46b6bffc225e1f46b6bffc225e1f46b6b
+fe72140a43e4fffe72140a43e4fffe72140a43e4`.trim().split('\n');
+
+test('what looks like a symbol beside one is left out', () => {
+  const symbol = encode('Shelf 12'), label = imageOf([symbol], { scale: 4 }), two = encode('two');
+  const caption = imageBy(40, label.height, (row, column) => {
+    const place = 2 * (column - 10), line = CAPTION[row - 50] ?? '';
+    return place >= 0 && place < line.length ? parseInt(line.slice(place, place + 2), 16) : 255;
+  });
+  const turned = imageOf([two], { turn: (x, y, size) => [size - 1 - y, x] }), coarse = imageOf([two], { scale: 1.6 });
+  for (const other of [caption, turned, coarse]) {
+    assert.deepEqual(parsePicture(beside(label, other)), [symbol.modules]);
+    assert.deepEqual(parsePicture(beside(other, label)), [symbol.modules]);
+    assert.throws(() => parsePicture(other), errors.PictureError);
+  }
+  assert.deepEqual(parsePicture(beside(label, turned, coarse, imageOf([two], { scale: 4 }))), [symbol.modules, two.modules]);
+  assert.throws(() => parsePicture(beside(turned, coarse)), { name: 'PictureError', message: /not upright/ });
+});
+
+test('a picture with many marks like finder patterns is given up', () => {
+  const why = { name: 'PictureError', message: 'the picture has too many marks that look like finder patterns: cut out the symbol' };
+  const isDark = (row, column) => Math.max(Math.abs(row % 8 - 3), Math.abs(column % 8 - 3)) !== 2 && row % 8 < 7 && column % 8 < 7;
+  const marks = (side) => imageBy(8 * side, 8 * side, (row, column) => (isDark(row, column) ? 0 : 255));
+  assert.throws(() => parsePicture(marks(40)), why);
+  assert.throws(() => parsePicture(marks(2)), { message: /no upright symbol/ });
+  // 20,000,000 comparisons suffice for some 200 symbols, and for a symbol in noise
+  const sheet = imageOf(Array.from({ length: 20 }, (_, k) => encode(`${k}`, { level: 'H' })), { scale: 2 }), many = { ...sheet, height: 10 * sheet.height };
+  many.data = new Uint8Array(10 * sheet.data.length);
+  for (let k = 0; k < 10; k++) many.data.set(sheet.data, k * sheet.data.length);
+  assert.equal(parsePicture(many).length, 200);
+  const symbol = encode('Shelf 12'), label = imageOf([symbol]), size = 300, from = 100;
+  let state = 1;
+  const noise = imageBy(size, size, (row, column) => {
+    const [y, x] = [row - from, column - from], isLabel = y >= 0 && x >= 0 && y < label.height && x < label.width;
+    state = (Math.imul(state, 1664525) + 1013904223) >>> 0;
+    return isLabel ? label.data[4 * (y * label.width + x)] : state >>> 31 ? 0 : 255;
+  });
+  assert.deepEqual(parsePicture(noise), [symbol.modules]);
+});
+
+test('the brightness of a colour is rounded once', () => {
+  // 0.299, 0.587 and 0.114 of red, green and blue (ITU-R BT.601); a module is dark below 95.625, which is 0.375 of the difference of dark and light
+  const symbol = encode('Shelf 12', { level: 'H' }), colours = [
+    [[0, 114, 250, 255], 95.418, 1], [[0, 117, 235, 255], 95.469, 1], [[0, 123, 205, 255], 95.571, 2], [[0, 125, 195, 255], 95.605, 2],
+    [[0, 0, 0, 160], 95, 1], [[0, 0, 0, 159], 96, 2], // over white
+  ];
+  for (const [colour, bright, module] of colours) {
+    const image = imageOf([symbol], { scale: 1, margin: 4 }), place = 15 * symbol.side + 15, wanted = symbol.modules.slice();
+    image.data.set(colour, 4 * (19 * image.width + 19));
+    wanted[place] = module;
+    assert.deepEqual(parsePicture(image), [wanted], `${colour}: ${bright}`);
   }
 });
 
@@ -495,6 +617,10 @@ test('each byte of each character set', () => {
 
 test('characters of several bytes', () => {
   const text = (number, ...data) => contentOf(data, { ecis: [{ begin: 0, number }] }).text();
+  for (const number of [20, 28, 29, 30, 32]) {
+    assert.equal(text(number, 0x7f, 0x41), '\x7fA', `${number}`);
+    assert.equal(text(number, 0x7f, 0x7f, 0x00, 0x41, 0x7f), '\x7f\x7f\0A\x7f', `${number}`);
+  }
   assert.equal(text(20, 0x1c, 0x93, 0x5f, 0x41, 0xb1, 0x1a, 0x7f), '\x1c点Aｱ\x1a\x7f');
   assert.equal(text(29, 0x41, 0xd6, 0xd0, 0x81, 0x30, 0x81, 0x30, 0x31), 'A中\x801');
   // a syllable beyond KS X 1001: some engines have it, the others know it for none
@@ -601,6 +727,24 @@ test('kanji', () => {
     assert.deepEqual(said(encode(text, { rule: 'with_kanji', eci: 20 })), [data, [{ begin: 0, number: 20 }], false]);
   }
   assert.deepEqual([10, 11].map((count) => encode('点'.repeat(count), { rule: 'with_kanji' }).version), [1, 2]); // Table 7
+  for (const text of ['点茗', '点', 'ｱA1点茗点茗点茗', 'テ点－']) {
+    const symbol = encode(text, { rule: 'with_kanji' });
+    for (const content of [read(symbol), mend(symbol).content]) assert.deepEqual([content.text(), content.kanji, content.ecis], [text, true, []]);
+    const marked = read(encode(text, { rule: 'with_kanji', eci: 20 }));
+    assert.deepEqual([marked.text(), marked.kanji], [text, true]);
+    assert.deepEqual([read(encode(text)).text(), read(encode(text)).kanji], [text, false]);
+  }
+  const series = encodeSeries('点茗'.repeat(30), { version: 1, rule: 'with_kanji' }).map(read);
+  assert.ok(series.length > 1 && series.every((it) => it.kanji));
+  assert.equal(series.map((it) => it.text()).join(''), '点茗'.repeat(30));
+  // Kanji mode in GS1 data, or after an ECI header, says nothing of the other bytes.
+  const inGs1 = read(encode({ gs1: Uint8Array.of(0x31, 0x30, 0x93, 0x5f, 0xe4, 0xaa, 0x93, 0x5f) }, { rule: 'with_kanji' }));
+  assert.deepEqual([inGs1.kanji, inGs1.gs1], [true, true]);
+  assert.throws(() => inGs1.text(), TypeError);
+  const kanji = (...data) => contentOf(data, { kanji: true });
+  assert.equal(kanji(0x7f, 0x41, 0xb1, 0x93, 0x5f).text(), '\x7fAｱ点');
+  assert.throws(() => kanji(0x93, 0x5f, 0x93).text(), TypeError);
+  assert.equal(contentOf([0xc3, 0xa9, 0x93, 0x5f], { kanji: true, ecis: [{ begin: 2, number: 20 }] }).text(), 'é点');
   const wrong = [['点✓✓', /^'✓' \(U\+2713\), character 2 of the text, is not in Shift JIS$/], ['①', /Shift JIS$/], ['¥', /Shift JIS$/], ['Grüße', /character 3/]];
   for (const [text, why] of wrong) assert.throws(() => encode(text, { rule: 'with_kanji' }), named('EciError', why));
 });
@@ -687,7 +831,7 @@ test('an application indicator, and JSON', () => {
     const { content } = mend(modulesOf(row));
     assert.deepEqual([content.text(), content.application, content.gs1, content.ecis], [text, application, false, []]);
   }
-  const wanted = { data: [65, 65, 49, 50], version: 1, header: null, ecis: [], gs1: false, application: '37' };
+  const wanted = { data: [65, 65, 49, 50], version: 1, header: null, ecis: [], gs1: false, application: '37', kanji: false };
   assert.deepEqual(JSON.parse(JSON.stringify(read(modulesOf(rows[0][0])))), wanted);
   const label = labelled('zint --binary --eci=128 -d abc --secure=3');
   assert.deepEqual(JSON.parse(JSON.stringify(label)), { ...wanted, data: [97, 98, 99], ecis: [{ begin: 0, number: 128 }], application: null });

@@ -7,12 +7,15 @@ const fieldsOfGs1: QRSymbol = encode({ gs1: '(20)01' }, { eci: false });
 const level: Level = symbol.level;
 const series: QRSymbol[] = encodeSeries(new Uint8Array(3), { version: 3 });
 const header: Header | null = read(series[0]).header;
+const kanji: boolean = read(symbol).kanji;
+const { spent, spentHere, scannable, spentMost, worstMisread, worstUnknown, worstUnknownWrong, wrongFormatLeast } = mend(symbol);
+const shares: number[] = [spent, spentHere, spentMost, worstMisread, worstUnknown, worstUnknownWrong, wrongFormatLeast, Number(scannable && kanji)];
 const ecis: readonly Eci[] = read(symbol).ecis;
 const fields: [string, string][] = read(symbol).gs1 ? read(symbol).fields() : [];
 const shown: Uint8Array[] = parseDrawing(draw(series)).squares;
 const squares: Uint8Array[] = parsePicture({ data: new Uint8ClampedArray(4), width: 1, height: 1 });
 const image: Uint8Array = symbol.png({ scale: 3 });
-const text: string = read(symbol).text() + mend(symbol.modules).content.text() + symbol.toJSON().rows[0] + draw(series, { type: 'SVG' }) + symbol.dataURL({ type: 'svg' });
+const text: string = read(symbol).text() + mend(symbol.modules).content.text() + symbol.toJSON().rows[0] + draw(series, { type: 'SVG' }) + symbol.dataURL({ type: 'svg' }) + symbol.svg({ inline: true }) + shares;
 try {
   console.log(level, header, fieldsOfGs1, ecis, fields, image, text, squares, shown);
 } catch (error) {

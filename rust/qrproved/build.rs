@@ -63,6 +63,6 @@ fn folder_of_pkg_config() -> String {
 }
 
 fn stop(why: &str) -> ! {
-    eprintln!("qrproved: the library is not found: {}\nInstall it, or set {FOLDER} to the folder of libqrproved.a.", why.trim());
+    eprintln!("qrproved: the library is not found: {}\nInstall it, or set {FOLDER} to the folder of libqrproved.a, and {STATIC}=1 to link this archive even if a shared library is beside it.", why.trim());
     std::process::exit(1)
 }

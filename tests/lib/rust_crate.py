@@ -71,7 +71,7 @@ def of_rust(shared, room):
     check("rust: the tests pass with the archive", tested(room, {"QRPROVED_LIB_DIR": os.path.dirname(shared), "QRPROVED_STATIC": "1"}), (3, True))
     prefix, none = f"{room}/prefix", {"PKG_CONFIG_PATH": f"{room}/none", "PKG_CONFIG_LIBDIR": f"{room}/none"}
     said = tested(room, none)
-    check("rust: without a library the build fails", "the library is not found" in said if isinstance(said, str) else said)
+    check("rust: without a library the build fails, and says what to set", [it in str(said) for it in ("the library is not found", "QRPROVED_LIB_DIR", "QRPROVED_STATIC=1")], [True] * 3)
     if not shutil.which("pkg-config"):
         counts["skipped"] += 4
         print("not tried: the crate for Cargo by pkg-config: there is no pkg-config")

@@ -52,6 +52,7 @@ pub struct Content {
     pub parity: u8,
     pub fnc1: u8,
     pub application: u8,
+    pub has_kanji: u8,
 }
 
 #[repr(C)]
@@ -67,11 +68,17 @@ pub struct Mended {
     pub parity: u8,
     pub fnc1: u8,
     pub application: u8,
+    pub has_kanji: u8,
     pub level: u8,
     pub mask: u8,
     pub wrong_format_modules: u8,
+    pub wrong_format_least: u8,
     pub changed_most: u8,
     pub changed_allowed: u8,
+    pub spent_most: u8,
+    pub worst_misread: u8,
+    pub worst_unknown: u8,
+    pub worst_unknown_wrong: u8,
 }
 
 #[repr(C)]

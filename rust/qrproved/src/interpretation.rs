@@ -86,10 +86,17 @@ impl Content {
     /// Returns the data as text, each byte by the ECI in effect, and by UTF-8 where there is none. ECI headers past the
     /// end of the data have no effect. A symbol of a series may begin or end within a character.
     ///
+    /// If `kanji` is true, there is no ECI header and the data are no GS1 data, all bytes are Shift JIS, whose ECI is 20.
+    ///
     /// # Errors
     ///
-    /// [`TextError::Eci`] for an ECI other than 1, 3, 26 and 27, [`TextError::Characters`] for bytes that are no characters.
+    /// [`TextError::Eci`] for an ECI other than 1, 3, 26 and 27, and with the number 20 for data of kanji mode;
+    /// [`TextError::Characters`] for bytes that are no characters.
     pub fn text(&self) -> Result<String, TextError> {
+        let is_shift_jis = self.kanji && self.ecis.is_empty() && self.fnc1 != Some(Fnc1::Gs1);
+        if is_shift_jis && !self.data.is_empty() {
+            return characters(Some(SHIFT_JIS), &self.data);
+        }
         self.stretches()
             .filter(|(_, part)| !part.is_empty())
             .map(|(number, part)| characters(number, part))
@@ -122,6 +129,8 @@ impl Content {
 const SEPARATOR: u8 = 0x1D;
 /// The ECI of UTF-8.
 const UTF_8: u32 = 26;
+/// The ECI of Shift JIS.
+const SHIFT_JIS: u32 = 20;
 
 /// Returns the characters of bytes that have this ECI, or none.
 fn characters(number: Option<u32>, data: &[u8]) -> Result<String, TextError> {

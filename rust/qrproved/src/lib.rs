@@ -291,6 +291,8 @@ pub struct Content {
     pub ecis: Vec<Eci>,
     /// Whether the data are GS1 data, or those of an application; `None` for others.
     pub fnc1: Option<Fnc1>,
+    /// Whether a part of the data is in kanji mode, which is for Shift JIS.
+    pub kanji: bool,
 }
 
 /// What a damaged symbol says, and how damaged it is.
@@ -304,10 +306,21 @@ pub struct Mended {
     pub wrong_modules: u32,
     /// How many of the 30 modules of format information are wrong or not known.
     pub wrong_format_modules: u8,
+    /// Of the two copies of the format information, how many modules are wrong or not known in the copy with fewer of them.
+    pub wrong_format_least: u8,
     /// How many codewords were wrong in the block with the most of them, without those with a module that is not known.
     pub changed_most: u8,
     /// How many may be wrong in each block, from 2 to 15.
     pub changed_allowed: u8,
+    /// The greatest e + 2w of a block, where e is the number of its codewords with a module that is not known, and w the number of
+    /// its other codewords that were misread. It is at most twice `changed_allowed`.
+    pub spent_most: u8,
+    /// The w of the block that is worst for a scanner: of the first block with the greatest e + w.
+    pub worst_misread: u8,
+    /// The e of this block.
+    pub worst_unknown: u8,
+    /// How many of the codewords of `worst_unknown` are wrong if the modules that are not known are taken as dark.
+    pub worst_unknown_wrong: u8,
 }
 
 /// What a drawing shows.
@@ -329,13 +342,37 @@ impl Mended {
         self.wrong_modules == 0
     }
 
-    /// Returns the share of the correction that is spent in the block with the most wrong codewords, from 0 to 1; codewords with
-    /// a module that is not known do not count.
+    /// Returns the share of the correction that is spent for a scanner, in the block that is worst for it: the sum of
+    /// `worst_misread` and `worst_unknown`, divided by `changed_allowed`. A scanner takes a codeword with a module that is not
+    /// known for a wrong one, so the share may be above 1. Then scanners do not read the symbol.
     #[must_use]
     pub fn spent(&self) -> f64 {
-        f64::from(self.changed_most) / f64::from(self.changed_allowed)
+        f64::from(self.wrong_for_a_scanner()) / f64::from(self.changed_allowed)
+    }
+
+    /// Returns the share of the correction that is spent for [`mend`], from 0 to 1: a codeword with a module that is not known
+    /// counts half.
+    #[must_use]
+    pub fn spent_here(&self) -> f64 {
+        f64::from(self.spent_most) / (2.0 * f64::from(self.changed_allowed))
+    }
+
+    /// Returns whether a scanner that takes what is not known for wrong can read the symbol: [`Mended::spent`] is at most 1, and
+    /// `wrong_format_least` at most 3. A scanner also has to find the symbol.
+    #[must_use]
+    pub fn is_scannable(&self) -> bool {
+        self.wrong_for_a_scanner() <= u16::from(self.changed_allowed)
+            && self.wrong_format_least <= FORMAT_MOST
+    }
+
+    /// Returns the codewords of the worst block that a scanner takes for wrong.
+    fn wrong_for_a_scanner(&self) -> u16 {
+        u16::from(self.worst_misread) + u16::from(self.worst_unknown)
     }
 }
+
+/// How many wrong modules of a copy of the format information a scanner corrects (ISO/IEC 18004:2015, 7.9).
+const FORMAT_MOST: u8 = 3;
 
 /// Encodes an input as the symbol of the least version from `smallest` on that holds it.
 ///
@@ -498,6 +535,7 @@ pub fn mend(modules: &[u8], side: usize) -> Result<Mended, Error> {
         parity: mended.parity,
         fnc1: mended.fnc1,
         application: mended.application,
+        has_kanji: mended.has_kanji,
     };
     Ok(Mended {
         content: content_of(data, &ecis, &content),
@@ -505,8 +543,13 @@ pub fn mend(modules: &[u8], side: usize) -> Result<Mended, Error> {
         mask: mended.mask,
         wrong_modules: mended.wrong_modules,
         wrong_format_modules: mended.wrong_format_modules,
+        wrong_format_least: mended.wrong_format_least,
         changed_most: mended.changed_most,
         changed_allowed: mended.changed_allowed,
+        spent_most: mended.spent_most,
+        worst_misread: mended.worst_misread,
+        worst_unknown: mended.worst_unknown,
+        worst_unknown_wrong: mended.worst_unknown_wrong,
     })
 }
 
@@ -697,6 +740,7 @@ fn content_of(data: Vec<u8>, ecis: &[c::Eci], told: &c::Content) -> Content {
             2 => Some(Fnc1::Application(told.application)),
             _ => None,
         },
+        kanji: told.has_kanji != 0,
     }
 }
 

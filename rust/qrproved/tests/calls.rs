@@ -66,6 +66,7 @@ fn plain(data: &[u8]) -> Content {
         header: None,
         ecis: Vec::new(),
         fnc1: None,
+        kanji: false,
     }
 }
 
@@ -197,6 +198,103 @@ fn damage_is_measured() {
     );
     assert_eq!(mended.spent(), 0.25);
     assert!(!mended.is_sound());
+}
+
+/// A module of each of the first five codewords of version 1. In the symbol of eight digits the first three are dark.
+const FIVE: [usize; 5] = [
+    20 * 21 + 20,
+    16 * 21 + 20,
+    12 * 21 + 20,
+    9 * 21 + 18,
+    13 * 21 + 18,
+];
+
+/// Returns eight digits mended, of whose modules some are not known and some wrong.
+fn mended_without(unknown: &[usize], wrong: &[usize]) -> qrproved::Mended {
+    let mut modules = eight_digits();
+    for &place in wrong {
+        modules[place] ^= 1;
+    }
+    for &place in unknown {
+        modules[place] = 2;
+    }
+    let mended = mend(&modules, 21).unwrap();
+    assert_eq!(mended.content, plain(b"01234567"));
+    mended
+}
+
+#[test]
+fn damage_is_measured_for_a_scanner_and_for_the_library() {
+    // What is unknown and wrong; the greatest e + 2w; w, e and how many of e are wrong if they are dark; both shares.
+    let rows: [(&[usize], &[usize], u8, [u8; 3], f64, f64, bool); 6] = [
+        (&[], &[], 0, [0, 0, 0], 0.0, 0.0, true),
+        (&FIVE, &[], 5, [0, 5, 2], 1.25, 0.625, false),
+        (&FIVE[..4], &[], 4, [0, 4, 1], 1.0, 0.5, true),
+        (&FIVE[3..], &[], 2, [0, 2, 2], 0.5, 0.25, true),
+        (&FIVE[2..], &FIVE[..1], 5, [1, 3, 2], 1.0, 0.625, true),
+        (&FIVE[1..], &FIVE[..1], 6, [1, 4, 2], 1.25, 0.75, false),
+    ];
+    for (unknown, wrong, most, worst, spent, spent_here, is_scannable) in rows {
+        let mended = mended_without(unknown, wrong);
+        let (misread, erased) = (mended.worst_misread, mended.worst_unknown);
+        assert_eq!(mended.spent_most, most);
+        assert_eq!([misread, erased, mended.worst_unknown_wrong], worst);
+        assert_eq!((mended.spent(), mended.spent_here()), (spent, spent_here));
+        assert_eq!(mended.is_scannable(), is_scannable);
+    }
+}
+
+#[test]
+fn a_scanner_needs_one_copy_of_the_format_information() {
+    // One copy is in row 8 and column 8 at the upper left, the other in both at the other corners.
+    let first: Vec<usize> = (0..4).map(|column| 8 * 21 + column).collect();
+    let second: Vec<usize> = (17..21).map(|row| row * 21 + 8).collect();
+    let rows = [
+        (first.as_slice(), 8, 4, false),
+        (&first[1..], 7, 3, true),
+        (&[], 4, 0, true),
+    ];
+    for (first, all, least, is_scannable) in rows {
+        let mended = mended_without(&[first, second.as_slice()].concat(), &[]);
+        let counts = (mended.wrong_format_modules, mended.wrong_format_least);
+        assert_eq!(counts, (all, least));
+        assert_eq!((mended.spent(), mended.is_scannable()), (0.0, is_scannable));
+    }
+}
+
+#[test]
+fn kanji_mode_is_shift_jis() {
+    let content_of = |input: &[u8], options: &Options| {
+        let symbol = encode(input, Version::MIN, Level::L, options).unwrap();
+        let content = read(symbol.modules(), symbol.side()).unwrap();
+        let mended = mend(symbol.modules(), symbol.side()).unwrap();
+        assert_eq!(mended.content, content);
+        content
+    };
+    let content = content_of(b"\x93\x5f\xe4\xaa", &WITH_KANJI);
+    assert_eq!((content.kanji, content.ecis.len()), (true, 0));
+    assert_eq!(content.text(), Err(TextError::Eci(20)));
+    assert!(!content_of(b"\x93\x5f\xe4\xaa", &PLAIN).kanji);
+
+    // Three bytes that are a character of UTF-8 and, with the next one, two of Shift JIS.
+    let content = content_of(b"\xe3\x83\x86\x41", &WITH_KANJI);
+    assert_eq!(
+        (content.kanji, content.text()),
+        (true, Err(TextError::Eci(20)))
+    );
+    let gs1 = Content {
+        fnc1: Some(Fnc1::Gs1),
+        ..content.clone()
+    };
+    assert_eq!(gs1.text().as_deref(), Ok("テA"));
+    let marked = Content {
+        ecis: vec![Eci {
+            begin: 0,
+            number: 26,
+        }],
+        ..content
+    };
+    assert_eq!(marked.text().as_deref(), Ok("テA"));
 }
 
 #[test]
