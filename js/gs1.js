@@ -3,8 +3,9 @@ import { Gs1Error } from './errors.js';
 
 // Application identifiers, and the parts of their values: digits (N), characters of GS1's set 82 (X) or of its set 39 (Y), so many of
 // them, or from 1 (or 0) to so many. The last digit of a part with `check` is its check digit, `zero` is the digit 0, `date` is YYMMDD
-// with day 00 for none, `hour` is YYMMDDHH, `time` is MM or MMSS, and `countries` are codes of three digits each.
-// python/qrproved/_gs1.py has the same table.
+// with day 00 for none, `hour` is YYMMDDHH, `time` is MM or MMSS, and `countries` are codes of three digits each. `pieces` is the number
+// of a piece and the number of pieces, `number` has no 0 before other digits, and the last two characters of `pair` are its check
+// characters. python/qrproved/_gs1.py has the same table.
 const IDENTIFIERS = String.raw`
 00                              N18:check
 0[12]                           N14:check
@@ -28,16 +29,17 @@ const IDENTIFIERS = String.raw`
 8003                            N1:zero N13:check X0..16
 8004                            X1..30
 8005                            N6
-8006                            N14:check N4
+8006                            N14:check N4:pieces
 8007                            X1..34
 8008                            N8:hour N0..4:time
 8009                            X1..50
 8010                            Y1..30
-8011                            N1..12
+8011                            N1..12:number
 8012                            X1..20
-8013|8020                       X1..25
+8013                            X2..25:pair
 801[78]                         N18:check
 8019                            N1..10
+8020                            X1..25
 90                              X1..30
 9[1-9]                          X1..90
 `;
@@ -45,6 +47,9 @@ const IDENTIFIERS = String.raw`
 const PREDEFINED = /^(0[0-4]|1[1-9]|20|3[1-6]|41)/;
 const CHARACTERS = { N: /[^0-9]/u, X: /[^!"%-?A-Z_a-z]/u, Y: /[^#\-/0-9A-Z]/u }; // what is none of them
 const NAMES = { N: 'a digit', X: "a character of GS1's set 82", Y: "a character of GS1's set 39" };
+const SET_82 = Array.from({ length: 128 }, (_, code) => String.fromCharCode(code)).filter((it) => !CHARACTERS.X.test(it));
+const CHECK_CHARACTERS = '23456789ABCDEFGHJKLMNPQRSTUVWXYZ';
+const PRIMES = [2, 3, 5, 7, 11, 13, 17, 19, 23, 29, 31, 37, 41, 43, 47, 53, 59, 61, 67, 71, 73, 79, 83];
 const DAYS = [31, 29, 31, 30, 31, 30, 31, 31, 30, 31, 30, 31];
 const SEPARATOR = '\x1d';
 
@@ -80,7 +85,29 @@ function countriesFault(text) {
   return text.length % 3 === 0 ? null : `${text} is not of codes of three digits`;
 }
 
-const PART_RULES = { check: checkFault, zero: zeroFault, date: dateFault, hour: hourFault, time: timeFault, countries: countriesFault };
+function piecesFault(text) {
+  const [piece, count] = [text.slice(0, 2), text.slice(2)];
+  return Number(piece) > 0 && Number(piece) <= Number(count) ? null : `there is no piece ${piece} of ${count}`;
+}
+
+function numberFault(text) {
+  return text.startsWith('0') && text !== '0' ? `${text} begins with 0` : null;
+}
+
+/**
+ * The characters before the pair are numbered in set 82 from 0 on, and weighted with the prime numbers, from the pair's neighbour on to
+ * the left. Their sum modulo 1021 is 32 times the number of the first check character plus that of the second (7.9).
+ */
+function pairFault(text) {
+  const total = [...text.slice(0, -2)].reverse().reduce((all, it, k) => all + SET_82.indexOf(it) * PRIMES[k], 0) % 1021;
+  const wanted = CHECK_CHARACTERS[Math.floor(total / 32)] + CHECK_CHARACTERS[total % 32];
+  return text.slice(-2) === wanted ? null : `its check characters are ${text.slice(-2)}, and should be ${wanted}`;
+}
+
+const PART_RULES = {
+  check: checkFault, zero: zeroFault, date: dateFault, hour: hourFault, time: timeFault, countries: countriesFault, pieces: piecesFault,
+  number: numberFault, pair: pairFault,
+};
 
 /** Returns a part of a value, as the table has it. */
 function partOf(text) {

@@ -122,8 +122,8 @@ export class Content {
   text(): string;
   /**
    * Returns the fields of GS1 data, each as its application identifier and its value. Throws Gs1Error if it is no GS1 data, for an
-   * identifier that is not known, and for a value with a wrong length, character, check digit, first digit or date. A symbol of
-   * a series may begin or end within a value.
+   * identifier that is not known, and for a value with a wrong length, character, check digit, pair of check characters, first digit,
+   * date or piece number. A symbol of a series may begin or end within a value.
    */
   fields(): [identifier: string, value: string][];
   /** What JSON.stringify writes: the data as an array of numbers. */

@@ -278,8 +278,8 @@ class Content:
 
     def fields(self) -> list[tuple[str, str]]:
         """Returns the fields of GS1 data, each as its application identifier and its value. Raises Gs1Error, which is a ValueError, if
-        it is no GS1 data, for an identifier that is not known, and for a value with a wrong length, character, check digit,
-        first digit or date. A symbol of a series may begin or end within a value."""
+        it is no GS1 data, for an identifier that is not known, and for a value with a wrong length, character, check digit, pair of
+        check characters, first digit, date or piece number. A symbol of a series may begin or end within a value."""
         if not self.gs1:
             raise Gs1Error("the symbol does not say that its data are GS1 data")
         return fields_of(self.data)

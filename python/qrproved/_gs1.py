@@ -5,8 +5,9 @@ import re
 
 # Application identifiers, and the parts of their values: digits (N), characters of GS1's set 82 (X) or of its set 39 (Y), so many of
 # them, or from 1 (or 0) to so many. The last digit of a part with `check` is its check digit, `zero` is the digit 0, `date` is YYMMDD
-# with day 00 for none, `hour` is YYMMDDHH, `time` is MM or MMSS, and `countries` are codes of three digits each. js/gs1.js has the
-# same table.
+# with day 00 for none, `hour` is YYMMDDHH, `time` is MM or MMSS, and `countries` are codes of three digits each. `pieces` is the number
+# of a piece and the number of pieces, `number` has no 0 before other digits, and the last two characters of `pair` are its check
+# characters. js/gs1.js has the same table.
 IDENTIFIERS = r"""
 00                              N18:check
 0[12]                           N14:check
@@ -30,16 +31,17 @@ IDENTIFIERS = r"""
 8003                            N1:zero N13:check X0..16
 8004                            X1..30
 8005                            N6
-8006                            N14:check N4
+8006                            N14:check N4:pieces
 8007                            X1..34
 8008                            N8:hour N0..4:time
 8009                            X1..50
 8010                            Y1..30
-8011                            N1..12
+8011                            N1..12:number
 8012                            X1..20
-8013|8020                       X1..25
+8013                            X2..25:pair
 801[78]                         N18:check
 8019                            N1..10
+8020                            X1..25
 90                              X1..30
 9[1-9]                          X1..90
 """
@@ -47,6 +49,9 @@ IDENTIFIERS = r"""
 PREDEFINED = r"0[0-4]|1[1-9]|20|3[1-6]|41"
 CHARACTERS = {"N": r"\d", "X": r"[!\"%-?A-Z_a-z]", "Y": r"[#\-/\dA-Z]"}
 NAMES = {"N": "a digit", "X": "a character of GS1's set 82", "Y": "a character of GS1's set 39"}
+SET_82 = "".join(it for it in map(chr, range(128)) if re.fullmatch(CHARACTERS["X"], it))
+CHECK_CHARACTERS = "23456789ABCDEFGHJKLMNPQRSTUVWXYZ"
+PRIMES = [2, 3, 5, 7, 11, 13, 17, 19, 23, 29, 31, 37, 41, 43, 47, 53, 59, 61, 67, 71, 73, 79, 83]
 DAYS = [31, 29, 31, 30, 31, 30, 31, 31, 30, 31, 30, 31]
 SEPARATOR = "\x1d"
 
@@ -103,13 +108,30 @@ def _countries_fault(text: str) -> str | None:
     return None if len(text) % 3 == 0 else f"{text} is not of codes of three digits"
 
 
-RULES = {"check": _check_fault, "zero": _zero_fault, "date": _date_fault, "hour": _hour_fault, "time": _time_fault, "countries": _countries_fault}
+def _pieces_fault(text: str) -> str | None:
+    return None if 0 < int(text[:2]) <= int(text[2:]) else f"there is no piece {text[:2]} of {text[2:]}"
+
+
+def _number_fault(text: str) -> str | None:
+    return f"{text} begins with 0" if text.startswith("0") and text != "0" else None
+
+
+def _pair_fault(text: str) -> str | None:
+    """The characters before the pair are numbered in set 82 from 0 on, and weighted with the prime numbers, from the pair's neighbour on
+    to the left. Their sum modulo 1021 is 32 times the number of the first check character plus that of the second (7.9)."""
+    total = sum(SET_82.index(it) * prime for it, prime in zip(reversed(text[:-2]), PRIMES)) % 1021
+    wanted = CHECK_CHARACTERS[total // 32] + CHECK_CHARACTERS[total % 32]
+    return None if text[-2:] == wanted else f"its check characters are {text[-2:]}, and should be {wanted}"
+
+
+RULES = {"check": _check_fault, "zero": _zero_fault, "date": _date_fault, "hour": _hour_fault, "time": _time_fault, "countries": _countries_fault,
+         "pieces": _pieces_fault, "number": _number_fault, "pair": _pair_fault}
 TABLE = [(re.compile(row.split()[0], re.ASCII), [Part(it) for it in row.split()[1:]]) for row in IDENTIFIERS.strip().split("\n")]
 
 
 def fields_of(data: bytes) -> list[tuple[str, str]]:
     """Returns each application identifier with its value. Raises Gs1Error for an identifier that is not in the table, and for a value
-    that has a wrong length, a wrong character, a wrong check digit or no date."""
+    that has a wrong length, a wrong character or a wrong check digit, or breaks another rule of its identifier."""
     rest, found = data.decode("latin-1"), []
     if not rest:
         raise Gs1Error("the data have no field")
