@@ -137,11 +137,11 @@ function quoted(text) {
 
 /** Returns what is wrong with a value; or null. */
 function faultOf(value, parts) {
-  const least = sum(parts.map((it) => it.least)), most = sum(parts.map((it) => it.most));
-  if (value.length < least || value.length > most) return `has ${least === most ? least : `${least} to ${most}`} characters, and not ${value.length}`;
+  const least = sum(parts.map((it) => it.least)), most = sum(parts.map((it) => it.most)), characters = [...value], { length: count } = characters;
+  if (count < least || count > most) return `has ${least === most ? least : `${least} to ${most}`} characters, and not ${count}`;
   let at = 0;
   for (const { kind, most: length, rule } of parts) {
-    const own = value.slice(at, at + length), other = CHARACTERS[kind].exec(own);
+    const own = characters.slice(at, at + length).join(''), other = CHARACTERS[kind].exec(own);
     if (other) return `${quoted(other[0])} is not ${NAMES[kind]}`;
     const fault = rule ? PART_RULES[rule](own) : null;
     if (fault) return fault;

@@ -659,6 +659,7 @@ test('GS1 data that are wrong', () => {
     ['(01)04012345678902', /^\(01\) its check digit is 2, and should be 1$/], ['[01]04012345678901[10]', /^\(10\) has 1 to 20 characters, and not 0$/],
     ['(10)AB(17)261331', /^\(17\) 261331 is no date$/], ['(10)Grüße', /^\(10\) '\\xfc' is not a character of GS1's set 82$/],
     ['(10)✓', /^\(10\) '\\u2713' is not/], ['(10)🙂', /^\(10\) '\\U0001f642' is not/], ['(10)A\x1dB', /^\(10\) '\\x1d' is not/],
+    ['(37)🙂🙂🙂🙂🙂🙂🙂', /^\(37\) '\\U0001f642' is not a digit$/], ['(37)🙂🙂🙂🙂🙂🙂🙂🙂🙂', /^\(37\) has 1 to 8 characters, and not 9$/],
     ['(01)04012345678901(05)1', /^\(05\) is no application identifier that is known$/], ['(310)001250', /^\(310\) is no application identifier/],
     ['(10)A(12)B', /^\(12\) has 6 characters, and not 1$/], ['0104012345678901', /^GS1 data begin with an .*, and not with '0104'$/], ['', /^GS1 data begin/],
   ];

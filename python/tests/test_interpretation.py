@@ -92,6 +92,11 @@ class Texts(unittest.TestCase):
 
 
 class Gs1(unittest.TestCase):
+    def test_lengths_are_in_characters(self):
+        for count, why in ((7, r"^\(37\) '\\U0001f642' is not a digit$"), (9, r"^\(37\) has 1 to 8 characters, and not 9$")):
+            with self.assertRaisesRegex(Gs1Error, why):
+                qrproved.encode(gs1="(37)" + count * "\U0001f642")
+
     def test_fields_are_written_and_read(self):
         for data, fields in FIELDS:
             text = "".join(f"({name}){value}" for name, value in fields)
