@@ -33,7 +33,10 @@ export interface Options {
    * The smallest allowed version, from 1 to 40; 1 unless given. In a series the version of all symbols, which has to be given.
    */
   version?: number;
-  /** 'auto' unless given. */
+  /**
+   * Unless it is given, GS1 data with a % have 'bytes_only', since zxing-cpp 1.4 misreads a % of GS1 data in alphanumeric mode, and all
+   * other inputs 'auto'.
+   */
   rule?: Rule;
   /**
    * The number of an ECI header, which says what the bytes mean as characters, from 0 to 999999; or false for none. Unless it is given,

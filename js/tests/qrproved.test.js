@@ -654,6 +654,19 @@ test('GS1 data are written and read', () => {
   assert.ok(symbols.length > 2 && symbols.every((it) => read(it).gs1));
 });
 
+test('a percent sign of GS1 data is written in byte mode', () => {
+  for (const gs1 of ['(10)AB%12', Uint8Array.from(utf8('10AB%12')), '[10]%[21]%%']) {
+    const symbol = encode({ gs1 }), other = encode({ gs1 }, { rule: 'auto' });
+    assert.deepEqual(symbol, encode({ gs1 }, { rule: 'bytes_only' }));
+    assert.notDeepEqual(symbol, other);
+    assert.deepEqual(said(symbol), said(other));
+  }
+  for (const input of [{ gs1: '(10)AB12' }, '10AB%12', { gs1: '(10)AB(21)1' }]) assert.deepEqual(encode(input), encode(input, { rule: 'auto' }));
+  const input = { gs1: `(90)${'A%'.repeat(15)}` }, series = encodeSeries(input, { version: 1 });
+  assert.deepEqual(series, encodeSeries(input, { version: 1, rule: 'bytes_only' }));
+  assert.notDeepEqual(series, encodeSeries(input, { version: 1, rule: 'auto' }));
+});
+
 test('GS1 data that are wrong', () => {
   const wrong = [
     ['(01)04012345678902', /^\(01\) its check digit is 2, and should be 1$/], ['[01]04012345678901[10]', /^\(10\) has 1 to 20 characters, and not 0$/],

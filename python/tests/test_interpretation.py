@@ -9,7 +9,7 @@ import tempfile
 import unittest
 
 import qrproved
-from qrproved import Eci, EciError, FieldsError, Gs1Error, Level, SettingsError
+from qrproved import Eci, EciError, FieldsError, Gs1Error, Level, Rule, SettingsError
 from test_labels import FIELDS, SETS
 
 # Bytes that fit version 1 at the levels L, M, Q and H (ISO/IEC 18004:2015, Table 7).
@@ -105,6 +105,20 @@ class Gs1(unittest.TestCase):
             self.assertEqual(content.data, {b"17261200" b"\x1d" b"8020A1\x1d": b"172612008020A1"}.get(data, data), text)
             self.assertEqual(qrproved.encode(gs1=text.replace("(", "[").replace(")", "]")), qrproved.encode(gs1=text))
         self.assertEqual(qrproved.read(qrproved.encode(gs1="[10]A(12)B%[21]%%")).fields(), [("10", "A(12)B%"), ("21", "%%")])
+
+    def test_a_percent_sign_is_written_in_byte_mode(self):
+        # (tests/labels looks at the codewords)
+        for given in ("(10)AB%12", b"10AB%12", "[10]%[21]%%"):
+            symbol = qrproved.encode(gs1=given)
+            self.assertEqual(symbol, qrproved.encode(gs1=given, rule="bytes_only"), given)
+            for rule in ("auto", Rule.AUTO):
+                self.assertNotEqual(symbol, qrproved.encode(gs1=given, rule=rule), given)
+                self.assertEqual(said(symbol), said(qrproved.encode(gs1=given, rule=rule)), given)
+        for plain in ({"gs1": "(10)AB12"}, {"data": "10AB%12"}, {"gs1": "(10)AB(21)1"}):
+            self.assertEqual(qrproved.encode(**plain), qrproved.encode(**plain, rule="auto"))
+        series = qrproved.encode_series(gs1="(90)" + "A%" * 15, version=1)
+        self.assertEqual(series, qrproved.encode_series(gs1="(90)" + "A%" * 15, version=1, rule="bytes_only"))
+        self.assertNotEqual(series, qrproved.encode_series(gs1="(90)" + "A%" * 15, version=1, rule="auto"))
 
     def test_a_series(self):
         text = "".join(f"({name}){'Ab%' * 20}" for name in range(91, 100))
