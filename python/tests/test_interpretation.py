@@ -184,7 +184,8 @@ class Command(unittest.TestCase):
         text, label = "Gr\u00fc\u00dfe", "(01)04012345678901(10)AB"
         drawn = {("A",): qrproved.encode("A"), ("A", "--no-boost"): qrproved.encode("A", boost=False), (text,): qrproved.encode(text),
                  (text, "--eci", "none"): qrproved.encode(text, eci=False), (text, "--eci", "3"): qrproved.encode(text, eci=3),
-                 ("\u70b9", "-k"): qrproved.encode("\u70b9", rule="with_kanji"), (label, "--gs1"): qrproved.encode(gs1=label)}
+                 ("\u70b9", "-k"): qrproved.encode("\u70b9", rule="with_kanji"), (label, "--gs1"): qrproved.encode(gs1=label),
+                 ("(10)AB%12", "--gs1"): qrproved.encode(gs1="(10)AB%12"), ("(10)AB%12", "--gs1", "-8"): qrproved.encode(gs1="(10)AB%12", rule="bytes_only")}
         for words, symbol in drawn.items():
             self.assertEqual(self.run_by(*words), symbol.text().encode(), words)
         self.assertEqual(self.run_by(given=text.encode()), qrproved.encode(text.encode()).text().encode())
