@@ -9,7 +9,6 @@ import { pathToFileURL } from 'node:url';
 const qr = await import(pathToFileURL(`${process.argv[2]}/qrproved.js`));
 
 const bytesOf = (text) => Uint8Array.from(Buffer.from(text, 'hex'));
-const hexOf = (bytes) => Buffer.from(bytes).toString('hex');
 const hashOf = (modules) => createHash('sha256').update(modules).digest('hex');
 
 /** Returns what a function returns, or its error. */
@@ -27,8 +26,10 @@ function inputOf({ text, bytes, isGs1 }) {
   return isGs1 ? { gs1: data } : data;
 }
 
-function contentOf({ data, version, header, ecis, gs1, application }) {
-  return { data: hexOf(data), version, header: header && [header.position, header.last, header.parity], ecis: ecis.map((it) => [it.begin, it.number]), gs1, application };
+/** Returns what an object has, with what its class computes. */
+function allOf(object) {
+  const described = Object.entries(Object.getOwnPropertyDescriptors(Object.getPrototypeOf(object)));
+  return { ...object, ...Object.fromEntries(described.filter(([, it]) => it.get).map(([name]) => [name, object[name]])) };
 }
 
 function encoded({ input, options, isSeries }) {
@@ -41,7 +42,7 @@ function contentWith(bytes, ecis, gs1) {
 }
 
 const CALLS = {
-  encode: (asked) => encoded(asked).map((it) => [it.version, it.side, it.mask, it.level, hashOf(it.modules), contentOf(qr.read(it)), tried(() => qr.read(it).text())]),
+  encode: (asked) => encoded(asked).map((it) => [it, qr.read(it), tried(() => qr.read(it).text())]),
   text: ({ bytes, ecis }) => contentWith(bytes, ecis, false).text(),
   fields: ({ bytes }) => contentWith(bytes, [], true).fields(),
   draw: (asked) => {
@@ -52,10 +53,7 @@ const CALLS = {
     const { type, margin, squares } = qr.parseDrawing(text);
     return [type, margin, squares.map((it) => [hashOf(it), Math.sqrt(it.length)])];
   },
-  mend: ({ modules }) => {
-    const it = qr.mend(Uint8Array.from(modules, Number));
-    return [contentOf(it.content), it.level, it.mask, it.wrongModules, it.wrongFormatModules, it.changedMost, it.changedAllowed];
-  },
+  mend: ({ modules }) => allOf(qr.mend(Uint8Array.from(modules, Number))),
 };
 
 for await (const line of readline.createInterface({ input: process.stdin })) {
