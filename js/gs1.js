@@ -1,12 +1,11 @@
-/** GS1 data, and their fields: values with their application identifiers (GS1 General Specifications, 3 and 7.8). */
+/** GS1 data, and their fields: values with their application identifiers (GS1 General Specifications, 3, 7.8 and 7.9). */
 import { Gs1Error } from './errors.js';
 import { GS1_DATA } from './identifiers.js';
 
 // python/qrproved/_gs1.py says what the table has. js/build makes identifiers.js of it.
 const PREDEFINED = new RegExp(`^(?:${GS1_DATA.predefined})`);
 const [SET_82] = GS1_DATA.characters.X;
-const CHECK_CHARACTERS = '23456789ABCDEFGHJKLMNPQRSTUVWXYZ';
-const PRIMES = [2, 3, 5, 7, 11, 13, 17, 19, 23, 29, 31, 37, 41, 43, 47, 53, 59, 61, 67, 71, 73, 79, 83];
+const [CHECK_CHARACTERS, WEIGHTS] = GS1_DATA.pair;
 const SEPARATOR = '\x1d';
 
 /** Returns a rule of the table: a function that returns what is said of a text which matches none of the patterns, or null. */
@@ -28,11 +27,11 @@ function piecesFault(text) {
 }
 
 /**
- * The characters before the pair are numbered in set 82 from 0 on, and weighted with the prime numbers, from the pair's neighbour on to
- * the left. Their sum modulo 1021 is 32 times the number of the first check character plus that of the second (7.9).
+ * The characters before the pair are numbered in set 82 from 0 on, and weighted from the pair's neighbour on to the left. Their sum
+ * modulo 1021 is 32 times the number of the first check character plus that of the second.
  */
 function pairFault(text) {
-  const total = [...text.slice(0, -2)].reverse().reduce((all, it, k) => all + SET_82.indexOf(it) * PRIMES[k], 0) % 1021;
+  const total = [...text.slice(0, -2)].reverse().reduce((all, it, k) => all + SET_82.indexOf(it) * WEIGHTS[k], 0) % 1021;
   const wanted = CHECK_CHARACTERS[Math.floor(total / 32)] + CHECK_CHARACTERS[total % 32];
   return text.slice(-2) === wanted ? null : `its check characters are ${text.slice(-2)}, and should be ${wanted}`;
 }

@@ -1,4 +1,4 @@
-"""GS1 data, and their fields: values with their application identifiers (GS1 General Specifications, 3 and 7.8)."""
+"""GS1 data, and their fields: values with their application identifiers (GS1 General Specifications, 3, 7.8 and 7.9)."""
 from __future__ import annotations
 
 import json
@@ -6,17 +6,17 @@ import re
 from functools import partial
 from pathlib import Path
 
-# gs1.json is also the table of the package for JavaScript. It has four parts:
+# gs1.json is also the table of the package for JavaScript. It has five parts:
 #   characters   each kind of character, with all characters of it and its name: digits (N), GS1's set 82 (X) and its set 39 (Y)
 #   rules        patterns, one of which a part of a value has to match, and what is said of a part that matches none of them
+#   pair         the check characters of a pair, and the weights of the characters before it, from the right
 #   predefined   how the identifiers begin whose values have one length each, so that no separator comes after them
 #   identifiers  application identifiers, and the parts of their values: how many characters of a kind, or from how many to how many,
 #                and the rules of the part. The rules `check`, `pair` and `pieces` are functions below. A `date` is YYMMDD, and its day
 #                is 00 if none is said, which the rule `day` excludes. A `time` is MM or MMSS.
 DATA = json.loads(Path(__file__).with_name("gs1.json").read_text(encoding="utf-8"))
 PREDEFINED, SET_82 = DATA["predefined"], DATA["characters"]["X"][0]
-CHECK_CHARACTERS = "23456789ABCDEFGHJKLMNPQRSTUVWXYZ"
-PRIMES = [2, 3, 5, 7, 11, 13, 17, 19, 23, 29, 31, 37, 41, 43, 47, 53, 59, 61, 67, 71, 73, 79, 83]
+CHECK_CHARACTERS, WEIGHTS = DATA["pair"]
 SEPARATOR = "\x1d"
 
 
@@ -55,9 +55,9 @@ def _pieces_fault(text: str) -> str | None:
 
 
 def _pair_fault(text: str) -> str | None:
-    """The characters before the pair are numbered in set 82 from 0 on, and weighted with the prime numbers, from the pair's neighbour on
-    to the left. Their sum modulo 1021 is 32 times the number of the first check character plus that of the second (7.9)."""
-    total = sum(SET_82.index(it) * prime for it, prime in zip(reversed(text[:-2]), PRIMES)) % 1021
+    """The characters before the pair are numbered in set 82 from 0 on, and weighted from the pair's neighbour on to the left. Their sum
+    modulo 1021 is 32 times the number of the first check character plus that of the second."""
+    total = sum(SET_82.index(it) * weight for it, weight in zip(reversed(text[:-2]), WEIGHTS)) % 1021
     wanted = CHECK_CHARACTERS[total // 32] + CHECK_CHARACTERS[total % 32]
     return None if text[-2:] == wanted else f"its check characters are {text[-2:]}, and should be {wanted}"
 
