@@ -60,7 +60,7 @@ function escapeOf(code) {
 }
 
 /** Returns a text as it is shown in a message, as Python shows it. */
-function quoted(text) {
+export function quoted(text) {
   const shown = text.replace(/[^ -[\]-~]/gu, (it) => ESCAPES[it] ?? escapeOf(it.codePointAt(0)));
   return shown.includes("'") && !shown.includes('"') ? `"${shown}"` : `'${shown.replaceAll("'", "\\'")}'`;
 }

@@ -598,6 +598,9 @@ test('a string is encoded in the set of its ECI', () => {
     assert.throws(() => encode('A', { eci: number }), named('EciError', new RegExp(`ECI ${number} `)));
   }
   assert.throws(() => encode('中', { eci: 29 }), named('EciError', /ECI 29 and does not write them$/));
+  for (const [character, shown] of [['\u202b', "'\\u202b'"], ['\u3000', "'\\u3000'"], ['\ufeff', "'\\ufeff'"], ['\u00a0', "'\\xa0'"]]) {
+    assert.throws(() => encode(character, { eci: 27 }), (error) => error.message.startsWith(`${shown} (U+`));
+  }
   assert.throws(() => encode('12.5€', { eci: 3 }), named('EciError', /^'€' \(U\+20AC\), character 5 of the text, is not in the characters of ECI 3$/));
 });
 
