@@ -3,6 +3,7 @@
  * 18004:2015, 7.4.2).
  */
 import { EciError } from './errors.js';
+import { quoted } from './gs1.js';
 
 // The upper half of code page 437.
 const CP437 = 'ÇüéâäàåçêëèïîìÄÅÉæÆôöòûùÿÖÜ¢£¥₧ƒáíóúñÑªº¿⌐¬½¼¡«»░▒▓│┤╡╢╖╕╣║╗╝╜╛┐└┴┬├─┼╞╟╚╔╩╦╠═╬╧╨╤╥╙╘╒╓╫╪┘┌█▄▌▐▀αßΓπΣσµτΦΘΩδ∞φε∩≡±≥≤⌠⌡÷≈°∙·√ⁿ²■\u00a0';
@@ -152,6 +153,11 @@ function tableOf(number) {
   return tables.get(number);
 }
 
+/** Returns a character as it is shown in a message: as it is if it can be seen, and else as Python shows it. */
+function shown(character) {
+  return character !== ' ' && /[\p{C}\p{Z}'\\]/u.test(character) ? quoted(character) : `'${character}'`;
+}
+
 /** Returns the bytes of a string in the character set of an ECI; throws EciError for the first that is not in it. */
 export function encodedText(text, number) {
   if (number === UTF_8) return new TextEncoder().encode(text);
@@ -160,6 +166,6 @@ export function encodedText(text, number) {
   return Uint8Array.from([...text].flatMap((character, k) => {
     if (table.has(character)) return table.get(character);
     const [code, set] = [character.codePointAt(0), number === SHIFT_JIS ? 'Shift JIS' : `the characters of ECI ${number}`];
-    throw new EciError(`'${character}' (U+${code.toString(16).toUpperCase().padStart(4, '0')}), character ${k + 1} of the text, is not in ${set}`);
+    throw new EciError(`${shown(character)} (U+${code.toString(16).toUpperCase().padStart(4, '0')}), character ${k + 1} of the text, is not in ${set}`);
   }));
 }

@@ -33,7 +33,10 @@ export interface Options {
    * The smallest allowed version, from 1 to 40; 1 unless given. In a series the version of all symbols, which has to be given.
    */
   version?: number;
-  /** 'auto' unless given. */
+  /**
+   * Unless it is given, GS1 data with a % have 'bytes_only', since zxing-cpp 1.4 misreads a % of GS1 data in alphanumeric mode, and all
+   * other inputs 'auto'.
+   */
   rule?: Rule;
   /**
    * The number of an ECI header, which says what the bytes mean as characters, from 0 to 999999; or false for none. Unless it is given,
@@ -127,8 +130,8 @@ export class Content {
   text(): string;
   /**
    * Returns the fields of GS1 data, each as its application identifier and its value. Throws Gs1Error if it is no GS1 data, for an
-   * identifier that is not known, and for a value with a wrong length, character, check digit, first digit or date. A symbol of
-   * a series may begin or end within a value.
+   * identifier that is not known, and for a value with a wrong length, character, check digit, pair of check characters, first digit,
+   * date or piece number. A symbol of a series may begin or end within a value.
    */
   fields(): [identifier: string, value: string][];
   /** What JSON.stringify writes: the data as an array of numbers. */

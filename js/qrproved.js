@@ -104,11 +104,21 @@ function inputOf(input, eci, rule) {
 }
 
 // The options of a series and of a symbol, with their defaults.
-const OF_SERIES = { level: 'L', version: undefined, rule: 'auto', eci: undefined };
+const OF_SERIES = { level: 'L', version: undefined, rule: undefined, eci: undefined };
 const OF_SYMBOL = { ...OF_SERIES, version: 1, boost: true };
 
-function settings({ level, version, rule }) {
+function settings({ level, version, rule = 'auto' }) {
   return [whole('version', version, 1, 40), named('level', level, LEVELS), named('rule', rule, RULES)];
+}
+
+/**
+ * Returns an input with its version, level and rule, as the module takes them. In GS1 data alphanumeric mode writes a % as %%, after which
+ * zxing-cpp 1.4 loses bytes. So byte mode is their rule unless one is given.
+ */
+function inputAsked(input, asked) {
+  const [version, level, rule] = settings(asked), { data, interpretation } = inputOf(input, asked.eci, rule);
+  const isBytes = asked.rule === undefined && interpretation === GS1 && data.includes('%'.charCodeAt(0));
+  return [{ data, interpretation }, version, level, isBytes ? RULES.indexOf('bytes_only') : rule];
 }
 
 export class QRSymbol {
@@ -230,17 +240,16 @@ export class Mended {
 }
 
 export function encode(input, options = {}) {
-  const asked = chosen(options, OF_SYMBOL), [version, level, rule] = settings(asked);
+  const asked = chosen(options, OF_SYMBOL);
   if (typeof asked.boost !== 'boolean') throw new TypeError(`boost is true or false, and not of type ${typeof asked.boost}`);
-  const symbol = encoded(inputOf(input, asked.eci, rule), version, level, rule, asked.boost), used = symbol.level;
+  const symbol = encoded(...inputAsked(input, asked), asked.boost), used = symbol.level;
   return new QRSymbol({ ...symbol, level: LEVELS[used] });
 }
 
 export function encodeSeries(input, options = {}) {
   const asked = chosen(options, OF_SERIES);
   if (asked.version === undefined) throw new TypeError('a series needs the version of its symbols, as in { version: 5 }');
-  const [version, level, rule] = settings(asked);
-  const { side, squares } = encodedSeries(inputOf(input, asked.eci, rule), version, level, rule);
+  const [given, version, level, rule] = inputAsked(input, asked), { side, squares } = encodedSeries(given, version, level, rule);
   return squares.map((modules) => new QRSymbol({ version, side, mask: null, level: LEVELS[level], modules }));
 }
 

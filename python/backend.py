@@ -58,7 +58,7 @@ def make(library, folder):
     metadata = (f"Metadata-Version: 2.1\nName: {it['name']}\nVersion: {it['version']}\nSummary: {it['description']}\n"
                 f"Requires-Python: {it['requires-python']}\nDescription-Content-Type: text/markdown\n\n{described}")
     files = {f"qrproved/{path.name}": path.read_bytes()
-             for path in sorted((HERE / "qrproved").iterdir()) if path.suffix == ".py" or path.name == "py.typed"}
+             for path in sorted((HERE / "qrproved").iterdir()) if path.suffix in (".py", ".json") or path.name == "py.typed"}
     files[IN_PACKAGE] = library.read_bytes()
     files[f"{info}/METADATA"] = metadata.encode()
     commands = "".join(f"{name} = {call}\n" for name, call in section_of_project("project.scripts").items())

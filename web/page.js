@@ -43,7 +43,7 @@ let symbols = []; // those that are shown
 
 /** Returns an input of a kind, and its rule, as encode takes them. */
 function askedOf(text, kind) {
-  return [kind === 'gs1' ? { gs1: text } : text, { rule: kind === 'kanji' ? 'with_kanji' : 'auto' }];
+  return [kind === 'gs1' ? { gs1: text } : text, kind === 'kanji' ? { rule: 'with_kanji' } : {}];
 }
 
 /** Returns whether an error says why a text has no symbol. */

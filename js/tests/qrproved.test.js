@@ -653,6 +653,9 @@ test('each application identifier', () => {
     ['410401234500000921a%_', [['410', '4012345000009'], ['21', 'a%_']]], ['422276\x1d90x', [['422', '276'], ['90', 'x']]],
     ['800304012345678901A1', [['8003', '04012345678901A1']]], ['800304012345678901', [['8003', '04012345678901']]],
     ['8006040123456789010102', [['8006', '040123456789010102']]], ['80082612312359', [['8008', '2612312359']]],
+    ['8006376549746015474545', [['8006', '376549746015474545']]],
+    ['8011921919\x1d80110\x1d8011120', [['8011', '921919'], ['8011', '0'], ['8011', '120']]],
+    ['80131987654Ad4X4bL5ttr2310c2K', [['8013', '1987654Ad4X4bL5ttr2310c2K']]], // the example of the General Specifications
     ['17261200\x1d8020A1\x1d', [['17', '261200'], ['8020', 'A1']]], [`99${'z'.repeat(90)}`, [['99', 'z'.repeat(90)]]],
     ['423056\x1d425056276', [['423', '056'], ['425', '056276']]],
     ['172802291100022915270200', [['17', '280229'], ['11', '000229'], ['15', '270200']]],
@@ -671,6 +674,12 @@ test('wrong fields are named', () => {
     ['3106000000', /begins '3106'$/], ['', /no field/], ['37\'', /^\(37\) "'" is not a digit$/], ['37\\', /^\(37\) '\\\\' is not a digit$/],
     ['17270229', /^\(17\) 270229 is no date$/],
     ['800826120012', /^\(8008\) 261200 is no date$/], ['4230560', /^\(423\) 0560 is not of codes of three digits$/],
+    ['8006376549746015475845', /^\(8006\) there is no piece 58 of 45$/], ['8006376549746015470001', /^\(8006\) there is no piece 00 of 01$/],
+    ['8006376549746015470100', /^\(8006\) there is no piece 01 of 00$/], ['8006376549746015465845', /^\(8006\) its check digit is 6, and should be 7$/],
+    ['80110921919', /^\(8011\) 0921919 begins with 0$/], ['801100', /^\(8011\) 00 begins with 0$/],
+    ['80131987654Ad4X4bL5ttr2310c2L', /^\(8013\) its check characters are 2L, and should be 2K$/],
+    ['8013A987654Ad4X4bL5ttr2310c2K', /^\(8013\) its check characters are 2K, and should be 9K$/],
+    ['80131234', /^\(8013\) its check characters are 34, and should be 4A$/], ['80132', /^\(8013\) has 2 to 25 characters, and not 1$/],
     ['42305', /^\(423\) has 3 to 15 characters, and not 2$/], ['800314012345678908', /^\(8003\) its first digit is 1, and should be 0$/],
   ];
   for (const [data, why] of cases) assert.throws(() => gs1(data).fields(), named('Gs1Error', why), data);
@@ -715,6 +724,9 @@ test('a string is encoded in the set of its ECI', () => {
     assert.throws(() => encode('A', { eci: number }), named('EciError', new RegExp(`ECI ${number} `)));
   }
   assert.throws(() => encode('中', { eci: 29 }), named('EciError', /ECI 29 and does not write them$/));
+  for (const [character, shown] of [['\u202b', "'\\u202b'"], ['\u3000', "'\\u3000'"], ['\ufeff', "'\\ufeff'"], ['\u00a0', "'\\xa0'"]]) {
+    assert.throws(() => encode(character, { eci: 27 }), (error) => error.message.startsWith(`${shown} (U+`));
+  }
   assert.throws(() => encode('12.5€', { eci: 3 }), named('EciError', /^'€' \(U\+20AC\), character 5 of the text, is not in the characters of ECI 3$/));
 });
 
@@ -789,11 +801,25 @@ test('GS1 data are written and read', () => {
   assert.ok(symbols.length > 2 && symbols.every((it) => read(it).gs1));
 });
 
+test('a percent sign of GS1 data is written in byte mode', () => {
+  for (const gs1 of ['(10)AB%12', Uint8Array.from(utf8('10AB%12')), '[10]%[21]%%']) {
+    const symbol = encode({ gs1 }), other = encode({ gs1 }, { rule: 'auto' });
+    assert.deepEqual(symbol, encode({ gs1 }, { rule: 'bytes_only' }));
+    assert.notDeepEqual(symbol, other);
+    assert.deepEqual(said(symbol), said(other));
+  }
+  for (const input of [{ gs1: '(10)AB12' }, '10AB%12', { gs1: '(10)AB(21)1' }]) assert.deepEqual(encode(input), encode(input, { rule: 'auto' }));
+  const input = { gs1: `(90)${'A%'.repeat(15)}` }, series = encodeSeries(input, { version: 1 });
+  assert.deepEqual(series, encodeSeries(input, { version: 1, rule: 'bytes_only' }));
+  assert.notDeepEqual(series, encodeSeries(input, { version: 1, rule: 'auto' }));
+});
+
 test('GS1 data that are wrong', () => {
   const wrong = [
     ['(01)04012345678902', /^\(01\) its check digit is 2, and should be 1$/], ['[01]04012345678901[10]', /^\(10\) has 1 to 20 characters, and not 0$/],
     ['(10)AB(17)261331', /^\(17\) 261331 is no date$/], ['(10)Grüße', /^\(10\) '\\xfc' is not a character of GS1's set 82$/],
     ['(10)✓', /^\(10\) '\\u2713' is not/], ['(10)🙂', /^\(10\) '\\U0001f642' is not/], ['(10)A\x1dB', /^\(10\) '\\x1d' is not/],
+    ['(37)🙂🙂🙂🙂🙂🙂🙂', /^\(37\) '\\U0001f642' is not a digit$/], ['(37)🙂🙂🙂🙂🙂🙂🙂🙂🙂', /^\(37\) has 1 to 8 characters, and not 9$/],
     ['(01)04012345678901(05)1', /^\(05\) is no application identifier that is known$/], ['(310)001250', /^\(310\) is no application identifier/],
     ['(10)A(12)B', /^\(12\) has 6 characters, and not 1$/], ['0104012345678901', /^GS1 data begin with an .*, and not with '0104'$/], ['', /^GS1 data begin/],
   ];

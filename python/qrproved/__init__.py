@@ -286,8 +286,8 @@ class Content:
 
     def fields(self) -> list[tuple[str, str]]:
         """Returns the fields of GS1 data, each as its application identifier and its value. Raises Gs1Error, which is a ValueError, if
-        it is no GS1 data, for an identifier that is not known, and for a value with a wrong length, character, check digit,
-        first digit or date. A symbol of a series may begin or end within a value."""
+        it is no GS1 data, for an identifier that is not known, and for a value with a wrong length, character, check digit, pair of
+        check characters, first digit, date or piece number. A symbol of a series may begin or end within a value."""
         if not self.gs1:
             raise Gs1Error("the symbol does not say that its data are GS1 data")
         return fields_of(self.data)
@@ -413,8 +413,8 @@ def _named(name: str, kind: type[IntEnum], value: Name) -> int:
     return member.value
 
 
-def _settings(version: int, level: Name, rule: Name) -> tuple[int, int, int]:
-    return _setting("version", version, 1, 40), _named("level", Level, level), _named("rule", Rule, rule)
+def _settings(version: int, level: Name, rule: Optional[Name]) -> tuple[int, int, int]:
+    return _setting("version", version, 1, 40), _named("level", Level, level), _named("rule", Rule, Rule.AUTO if rule is None else rule)
 
 
 # What segno, python-qrcode and other packages call the options.
@@ -468,6 +468,10 @@ class _Given(NamedTuple):
             return 4 if self.interpretation == _library.GS1 else 0
         return 12 if self.interpretation < 1 << 7 else 20 if self.interpretation < 1 << 14 else 28
 
+    def rule(self) -> Rule:
+        """Returns the rule unless one is given. In GS1 data alphanumeric mode writes a % as %%, after which zxing-cpp 1.4 loses bytes."""
+        return Rule.BYTES_ONLY if self.interpretation == _library.GS1 and b"%" in self.data else Rule.AUTO
+
 
 def _given(data: Optional[Input], gs1: Optional[Input], eci: Optional[int], rule: int) -> _Given:
     """Returns an input, one of the first two, as its bytes."""
@@ -483,6 +487,14 @@ def _given(data: Optional[Input], gs1: Optional[Input], eci: Optional[int], rule
             number = UTF_8
         data = encoded(data, number if number is not None else SHIFT_JIS if rule == Rule.WITH_KANJI else UTF_8)
     return _Given(_bytes("the input", data), _library.DEFAULT if number is None else number)
+
+
+def _asked(data: Optional[Input], gs1: Optional[Input], eci: Optional[int], version: int, level: Name,
+           rule: Optional[Name]) -> tuple[_Given, tuple[int, int, int]]:
+    """Returns an input, and its version, level and rule, as the library takes them."""
+    settings = _settings(version, level, rule)
+    given = _given(data, gs1, eci, settings[2])
+    return given, (*settings[:2], given.rule() if rule is None else settings[2])
 
 
 def _bytes(name: str, data: Optional[Bytes]) -> bytes:
@@ -510,14 +522,15 @@ def _first(buffer: ctypes.Array[ctypes.c_uint8], length: int) -> bytes:
     return bytes(memoryview(buffer)[:length])
 
 
-def encode(data: Optional[Input] = None, *wrong: NoReturn, version: int = 1, level: Name = Level.L, rule: Name = Rule.AUTO,
+def encode(data: Optional[Input] = None, *wrong: NoReturn, version: int = 1, level: Name = Level.L, rule: Optional[Name] = None,
            eci: Optional[int] = None, gs1: Optional[Input] = None, boost: bool = True, **others: NoReturn) -> Symbol:
     """Returns the symbol of a text, of some bytes or of GS1 data, of the least version from `version` on that holds them.
 
     data     a text, or bytes; from 1 byte to BYTES_MAX
     version  the smallest version that may be taken, from 1 to 40
     level    a Level, its name ('Q' or 'q') or its number
-    rule     a Rule, its name ('bytes_only') or its number
+    rule     a Rule, its name ('bytes_only') or its number. Unless it is given, GS1 data with a % have 'bytes_only', since zxing-cpp 1.4
+             misreads a % of GS1 data in alphanumeric mode, and all other inputs 'auto'
     eci      the number of an ECI header, which says what the bytes mean as characters, from 0 to ECI_MAX; or False for none. Unless
              it is given, a text with a character that is not ASCII has 26, for UTF-8, and bytes have none
     gs1      in place of data, GS1 data as a text like '(01)04012345678901(10)AB', or in brackets like '[01]04012345678901[10]AB';
@@ -533,8 +546,7 @@ def encode(data: Optional[Input] = None, *wrong: NoReturn, version: int = 1, lev
     and FieldsError for such bytes.
     """
     _no_more("encode", "data, ", wrong, others, "version", "level", "rule", "eci", "gs1", "boost")
-    settings = _settings(version, level, rule)
-    given, is_boosted = _given(data, gs1, eci, settings[2]), _flag("boost", boost)
+    (given, settings), is_boosted = _asked(data, gs1, eci, version, level, rule), _flag("boost", boost)
     modules, symbol = (ctypes.c_uint8 * SYMBOL_MAX)(), _library.Symbol()
     status = _calls.qrproved_encode(given.data, len(given.data), *settings, given.interpretation, is_boosted, modules, SYMBOL_MAX,
                                     ctypes.byref(symbol))
@@ -545,7 +557,7 @@ def encode(data: Optional[Input] = None, *wrong: NoReturn, version: int = 1, lev
 
 
 def encode_series(data: Optional[Input] = None, *wrong: NoReturn, version: Optional[int] = None, level: Name = Level.L,
-                  rule: Name = Rule.AUTO, eci: Optional[int] = None, gs1: Optional[Input] = None, **others: NoReturn) -> list[Symbol]:
+                  rule: Optional[Name] = None, eci: Optional[int] = None, gs1: Optional[Input] = None, **others: NoReturn) -> list[Symbol]:
     """Returns the symbols of the series of a text, of some bytes or of GS1 data, all of `version`, from 1 to COUNT_MAX of them.
 
     What fits one symbol is one plain symbol. Each symbol has the ECI header, or says that its data are GS1 data. The arguments are
@@ -555,8 +567,7 @@ def encode_series(data: Optional[Input] = None, *wrong: NoReturn, version: Optio
     _no_more("encode_series", "data, ", wrong, others, "version", "level", "rule", "eci", "gs1")
     if version is None:
         raise TypeError("encode_series: the version of all symbols has to be given: encode_series(data, version=5)")
-    settings = _settings(version, level, rule)
-    given = _given(data, gs1, eci, settings[2])
+    given, settings = _asked(data, gs1, eci, version, level, rule)
     modules, series = (ctypes.c_uint8 * SERIES_MAX)(), _library.Series()
     status = _calls.qrproved_encode_series(given.data, len(given.data), *settings, given.interpretation, modules, SERIES_MAX,
                                            ctypes.byref(series))

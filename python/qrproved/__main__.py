@@ -306,7 +306,7 @@ def main(words: Optional[list[str]] = None) -> int:
         if is_check:
             return check(words[1:])
         given = parsed(words)
-        rule = Rule.BYTES_ONLY if given.bytes else Rule.WITH_KANJI if given.kanji else Rule.AUTO
+        rule = Rule.BYTES_ONLY if given.bytes else Rule.WITH_KANJI if given.kanji else None
         settings = Settings(given.type, given.version, Level[given.level], rule, given.margin, given.scale, given.mm, given.dpi,
                             given.eci, given.gs1, given.boost)
         warnings.showwarning = lambda message, *_: say(str(message))

@@ -25,7 +25,7 @@ class Settings(NamedTuple):
     kind: str
     version: int
     level: int
-    rule: int
+    rule: Optional[int]
     margin: int
     scale: int
     mm: Optional[float] = None

@@ -1,53 +1,22 @@
-"""GS1 data, and their fields: values with their application identifiers (GS1 General Specifications, 3 and 7.8)."""
+"""GS1 data, and their fields: values with their application identifiers (GS1 General Specifications, 3, 7.8 and 7.9)."""
 from __future__ import annotations
 
+import json
 import re
+from functools import partial
+from pathlib import Path
 
-# Application identifiers, and the parts of their values: digits (N), characters of GS1's set 82 (X) or of its set 39 (Y), so many of
-# them, or from 1 (or 0) to so many. The last digit of a part with `check` is its check digit, `zero` is the digit 0, `date` is YYMMDD
-# with day 00 for none, `hour` is YYMMDDHH, `time` is MM or MMSS, and `countries` are codes of three digits each. js/gs1.js has the
-# same table.
-IDENTIFIERS = r"""
-00                              N18:check
-0[12]                           N14:check
-10|2[12]                        X1..20
-1[1-35-7]                       N6:date
-20                              N2
-30|37                           N1..8
-3(1[0-6]|[246]\d|[35][0-7])[0-5]  N6
-39[02]\d                        N1..15
-39[13]\d                        N3 N1..15
-394[0-3]                        N4
-395[0-5]                        N6
-40[013]                         X1..30
-402                             N17:check
-41[0-7]                         N13:check
-420                             X1..20
-421                             N3 X1..9
-42[246]                         N3
-42[35]                          N3..15:countries
-427                             X1..3
-8003                            N1:zero N13:check X0..16
-8004                            X1..30
-8005                            N6
-8006                            N14:check N4
-8007                            X1..34
-8008                            N8:hour N0..4:time
-8009                            X1..50
-8010                            Y1..30
-8011                            N1..12
-8012                            X1..20
-8013|8020                       X1..25
-801[78]                         N18:check
-8019                            N1..10
-90                              X1..30
-9[1-9]                          X1..90
-"""
-# Identifiers whose values have one length each, so that no separator comes after them, by their first two digits.
-PREDEFINED = r"0[0-4]|1[1-9]|20|3[1-6]|41"
-CHARACTERS = {"N": r"\d", "X": r"[!\"%-?A-Z_a-z]", "Y": r"[#\-/\dA-Z]"}
-NAMES = {"N": "a digit", "X": "a character of GS1's set 82", "Y": "a character of GS1's set 39"}
-DAYS = [31, 29, 31, 30, 31, 30, 31, 31, 30, 31, 30, 31]
+# gs1.json is also the table of the package for JavaScript. It has five parts:
+#   characters   each kind of character, with all characters of it and its name: digits (N), GS1's set 82 (X) and its set 39 (Y)
+#   rules        patterns, one of which a part of a value has to match, and what is said of a part that matches none of them
+#   pair         the check characters of a pair, and the weights of the characters before it, from the right
+#   predefined   how the identifiers begin whose values have one length each, so that no separator comes after them
+#   identifiers  application identifiers, and the parts of their values: how many characters of a kind, or from how many to how many,
+#                and the rules of the part. The rules `check`, `pair` and `pieces` are functions below. A `date` is YYMMDD, and its day
+#                is 00 if none is said, which the rule `day` excludes. A `time` is MM or MMSS.
+DATA = json.loads(Path(__file__).with_name("gs1.json").read_text(encoding="utf-8"))
+PREDEFINED, SET_82 = DATA["predefined"], DATA["characters"]["X"][0]
+CHECK_CHARACTERS, WEIGHTS = DATA["pair"]
 SEPARATOR = "\x1d"
 
 
@@ -59,15 +28,20 @@ class Part:
     """A part of a value."""
 
     def __init__(self, text: str) -> None:
-        kind, least, most, self.rule = re.fullmatch(r"([NXY])(\d+)(?:\.\.(\d+))?(?::(\w+))?", text).groups()  # type: ignore[union-attr]
-        self.kind, self.least, self.most = kind, int(least), int(most or least)
+        kind, least, most, rules = re.fullmatch(r"([NXY])(\d+)(?:\.\.(\d+))?((?::\w+)*)", text).groups()  # type: ignore[union-attr]
+        self.least, self.most, self.rules = int(least), int(most or least), rules.split(":")[1:]
+        self.characters, self.name = DATA["characters"][kind]
 
     def fault(self, text: str) -> str | None:
         """Returns what is wrong with the text of a part that has a right length."""
-        other = next((it for it in text if not re.fullmatch(CHARACTERS[self.kind], it, re.ASCII)), None)
+        other = next((it for it in text if it not in self.characters), None)
         if other is not None:
-            return f"{other!a} is not {NAMES[self.kind]}"
-        return RULES[self.rule](text) if self.rule else None
+            return f"{other!a} is not {self.name}"
+        return next((fault for rule in self.rules if (fault := RULES[rule](text))), None)
+
+
+def _pattern_fault(patterns: list[str], said: str, text: str) -> str | None:
+    return None if any(re.fullmatch(it, text) for it in patterns) else said.format(text)
 
 
 def _check_fault(text: str) -> str | None:
@@ -76,40 +50,25 @@ def _check_fault(text: str) -> str | None:
     return None if int(text[-1]) == wanted else f"its check digit is {text[-1]}, and should be {wanted}"
 
 
-def _zero_fault(text: str) -> str | None:
-    return None if text == "0" else f"its first digit is {text}, and should be 0"
+def _pieces_fault(text: str) -> str | None:
+    return None if 0 < int(text[:2]) <= int(text[2:]) else f"there is no piece {text[:2]} of {text[2:]}"
 
 
-def _date_fault(text: str) -> str | None:
-    """Of the years that two digits may stand for, each that is a multiple of 4 is a leap year."""
-    year, month, day = int(text[:2]), int(text[2:4]), int(text[4:6])
-    is_date = 1 <= month <= 12 and day <= DAYS[month - 1] and (month != 2 or day < 29 or year % 4 == 0)
-    return None if is_date else f"{text} is no date"
+def _pair_fault(text: str) -> str | None:
+    """The characters before the pair are numbered in set 82 from 0 on, and weighted from the pair's neighbour on to the left. Their sum
+    modulo 1021 is 32 times the number of the first check character plus that of the second."""
+    total = sum(SET_82.index(it) * weight for it, weight in zip(reversed(text[:-2]), WEIGHTS)) % 1021
+    wanted = CHECK_CHARACTERS[total // 32] + CHECK_CHARACTERS[total % 32]
+    return None if text[-2:] == wanted else f"its check characters are {text[-2:]}, and should be {wanted}"
 
 
-def _hour_fault(text: str) -> str | None:
-    """Of an hour the day has to be said."""
-    if text[4:6] == "00":
-        return f"{text[:6]} is no date"
-    return _date_fault(text[:6]) or (None if int(text[6:]) < 24 else f"{text[6:]} is no hour")
-
-
-def _time_fault(text: str) -> str | None:
-    parts = [text[:2], text[2:]] if len(text) > 2 else [text]
-    return None if text == "" or all(len(it) == 2 and int(it) < 60 for it in parts) else f"{text} is no time"
-
-
-def _countries_fault(text: str) -> str | None:
-    return None if len(text) % 3 == 0 else f"{text} is not of codes of three digits"
-
-
-RULES = {"check": _check_fault, "zero": _zero_fault, "date": _date_fault, "hour": _hour_fault, "time": _time_fault, "countries": _countries_fault}
-TABLE = [(re.compile(row.split()[0], re.ASCII), [Part(it) for it in row.split()[1:]]) for row in IDENTIFIERS.strip().split("\n")]
+RULES = {"check": _check_fault, "pieces": _pieces_fault, "pair": _pair_fault, **{name: partial(_pattern_fault, *it) for name, it in DATA["rules"].items()}}
+TABLE = [(re.compile(pattern), [Part(it) for it in parts]) for pattern, *parts in DATA["identifiers"]]
 
 
 def fields_of(data: bytes) -> list[tuple[str, str]]:
     """Returns each application identifier with its value. Raises Gs1Error for an identifier that is not in the table, and for a value
-    that has a wrong length, a wrong character, a wrong check digit or no date."""
+    that has a wrong length, a wrong character or a wrong check digit, or breaks another rule of its identifier."""
     rest, found = data.decode("latin-1"), []
     if not rest:
         raise Gs1Error("the data have no field")

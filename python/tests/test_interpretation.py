@@ -9,7 +9,7 @@ import tempfile
 import unittest
 
 import qrproved
-from qrproved import Eci, EciError, FieldsError, Gs1Error, Level, SettingsError
+from qrproved import Eci, EciError, FieldsError, Gs1Error, Level, Rule, SettingsError
 from test_labels import FIELDS, SETS
 
 try:
@@ -121,6 +121,11 @@ class Texts(unittest.TestCase):
 
 
 class Gs1(unittest.TestCase):
+    def test_lengths_are_in_characters(self):
+        for count, why in ((7, r"^\(37\) '\\U0001f642' is not a digit$"), (9, r"^\(37\) has 1 to 8 characters, and not 9$")):
+            with self.assertRaisesRegex(Gs1Error, why):
+                qrproved.encode(gs1="(37)" + count * "\U0001f642")
+
     def test_fields_are_written_and_read(self):
         for data, fields in FIELDS:
             text = "".join(f"({name}){value}" for name, value in fields)
@@ -129,6 +134,20 @@ class Gs1(unittest.TestCase):
             self.assertEqual(content.data, {b"17261200" b"\x1d" b"8020A1\x1d": b"172612008020A1"}.get(data, data), text)
             self.assertEqual(qrproved.encode(gs1=text.replace("(", "[").replace(")", "]")), qrproved.encode(gs1=text))
         self.assertEqual(qrproved.read(qrproved.encode(gs1="[10]A(12)B%[21]%%")).fields(), [("10", "A(12)B%"), ("21", "%%")])
+
+    def test_a_percent_sign_is_written_in_byte_mode(self):
+        # (tests/labels looks at the codewords)
+        for given in ("(10)AB%12", b"10AB%12", "[10]%[21]%%"):
+            symbol = qrproved.encode(gs1=given)
+            self.assertEqual(symbol, qrproved.encode(gs1=given, rule="bytes_only"), given)
+            for rule in ("auto", Rule.AUTO):
+                self.assertNotEqual(symbol, qrproved.encode(gs1=given, rule=rule), given)
+                self.assertEqual(said(symbol), said(qrproved.encode(gs1=given, rule=rule)), given)
+        for plain in ({"gs1": "(10)AB12"}, {"data": "10AB%12"}, {"gs1": "(10)AB(21)1"}):
+            self.assertEqual(qrproved.encode(**plain), qrproved.encode(**plain, rule="auto"))
+        series = qrproved.encode_series(gs1="(90)" + "A%" * 15, version=1)
+        self.assertEqual(series, qrproved.encode_series(gs1="(90)" + "A%" * 15, version=1, rule="bytes_only"))
+        self.assertNotEqual(series, qrproved.encode_series(gs1="(90)" + "A%" * 15, version=1, rule="auto"))
 
     def test_a_series(self):
         text = "".join(f"({name}){'Ab%' * 20}" for name in range(91, 100))
@@ -194,7 +213,8 @@ class Command(unittest.TestCase):
         text, label = "Gr\u00fc\u00dfe", "(01)04012345678901(10)AB"
         drawn = {("A",): qrproved.encode("A"), ("A", "--no-boost"): qrproved.encode("A", boost=False), (text,): qrproved.encode(text),
                  (text, "--eci", "none"): qrproved.encode(text, eci=False), (text, "--eci", "3"): qrproved.encode(text, eci=3),
-                 ("\u70b9", "-k"): qrproved.encode("\u70b9", rule="with_kanji"), (label, "--gs1"): qrproved.encode(gs1=label)}
+                 ("\u70b9", "-k"): qrproved.encode("\u70b9", rule="with_kanji"), (label, "--gs1"): qrproved.encode(gs1=label),
+                 ("(10)AB%12", "--gs1"): qrproved.encode(gs1="(10)AB%12"), ("(10)AB%12", "--gs1", "-8"): qrproved.encode(gs1="(10)AB%12", rule="bytes_only")}
         for words, symbol in drawn.items():
             self.assertEqual(self.run_by(*words), symbol.text().encode(), words)
         self.assertEqual(self.run_by(given=text.encode()), qrproved.encode(text).text().encode())

@@ -327,7 +327,7 @@ class Refusals(unittest.TestCase):
 
     def test_what_is_no_number(self):
         for other in (True, 1.0, "1", None, b"1"):
-            for name in ("version", "level", "rule", *(["eci"] if other is not None else [])):
+            for name in ("version", "level", *(["rule", "eci"] if other is not None else [])):
                 kind = SettingsError if other == "1" and name in ("level", "rule") else TypeError  # a name, but of none
                 with self.assertRaises(kind):
                     qrproved.encode(b"A", **{name: other})

@@ -1,0 +1,62 @@
+/**
+ * Calls the package for JavaScript for tests/both: node both.mjs PACKAGE. Each line of the input is a request in JSON, and the line that
+ * is written for it is the answer. Bytes are written in hexadecimal.
+ */
+import { createHash } from 'node:crypto';
+import readline from 'node:readline';
+import { pathToFileURL } from 'node:url';
+
+const qr = await import(pathToFileURL(`${process.argv[2]}/qrproved.js`));
+
+const bytesOf = (text) => Uint8Array.from(Buffer.from(text, 'hex'));
+const hashOf = (modules) => createHash('sha256').update(modules).digest('hex');
+
+/** Returns what a function returns, or its error. */
+function tried(call) {
+  try {
+    return call();
+  } catch (error) {
+    return { error: error.name, message: error.message };
+  }
+}
+
+/** Returns an input as the package takes it: a text or bytes, perhaps of GS1 data. */
+function inputOf({ text, bytes, isGs1 }) {
+  const data = text ?? bytesOf(bytes);
+  return isGs1 ? { gs1: data } : data;
+}
+
+/** Returns what an object has, with what its class computes. */
+function allOf(object) {
+  const described = Object.entries(Object.getOwnPropertyDescriptors(Object.getPrototypeOf(object)));
+  return { ...object, ...Object.fromEntries(described.filter(([, it]) => it.get).map(([name]) => [name, object[name]])) };
+}
+
+function encoded({ input, options, isSeries }) {
+  return isSeries ? qr.encodeSeries(inputOf(input), options) : [qr.encode(inputOf(input), options)];
+}
+
+/** A content of these bytes, as a symbol may have it. */
+function contentWith(bytes, ecis, gs1) {
+  return new qr.Content({ data: bytesOf(bytes), version: 1, header: null, ecis: ecis.map(([begin, number]) => ({ begin, number })), gs1, application: null });
+}
+
+const CALLS = {
+  encode: (asked) => encoded(asked).map((it) => [it, qr.read(it), tried(() => qr.read(it).text())]),
+  text: ({ bytes, ecis }) => contentWith(bytes, ecis, false).text(),
+  fields: ({ bytes }) => contentWith(bytes, [], true).fields(),
+  draw: (asked) => {
+    const symbols = encoded(asked), { type, margin, mm } = asked;
+    return [qr.draw(symbols, { type, margin }), mm === null ? null : symbols[0].svg({ margin, mm, quiet: true })];
+  },
+  parse: ({ text }) => {
+    const { type, margin, squares } = qr.parseDrawing(text);
+    return [type, margin, squares.map((it) => [hashOf(it), Math.sqrt(it.length)])];
+  },
+  mend: ({ modules }) => allOf(qr.mend(Uint8Array.from(modules, Number))),
+};
+
+for await (const line of readline.createInterface({ input: process.stdin })) {
+  const request = JSON.parse(line);
+  process.stdout.write(`${JSON.stringify(tried(() => CALLS[request.call](request)))}\n`);
+}
