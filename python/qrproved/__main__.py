@@ -3,6 +3,7 @@ checks pictures and drawings."""
 from __future__ import annotations
 
 import argparse
+import contextlib
 import dataclasses
 import io
 import os
@@ -209,8 +210,12 @@ def is_printed(lines: list[str]) -> bool:
 
 
 def end_output() -> None:
-    """Sends what is left of the output nowhere, so that the interpreter does not complain of it when it ends."""
-    os.dup2(os.open(os.devnull, os.O_WRONLY), sys.stdout.fileno())
+    """Sends nowhere what cannot be written, so that the interpreter does not try it again when it ends, and complain."""
+    try:
+        sys.stdout.flush()
+    except OSError:
+        with contextlib.suppress(OSError):  # of a stream that is no file
+            os.dup2(os.open(os.devnull, os.O_WRONLY), sys.stdout.fileno())
 
 
 def check(words: list[str]) -> int:
@@ -321,6 +326,7 @@ def main(words: Optional[list[str]] = None) -> int:
         return 1
     except (Error, EciError, Gs1Error, SourceError, OSError) as fault:
         say(str(fault))
+        end_output()
         return NOT_READABLE if is_check else 1
 
 

@@ -274,7 +274,7 @@ class Command(unittest.TestCase):
             with open("/dev/full", "wb") as full:
                 ran = subprocess.run([sys.executable, "-B", "-m", "qrproved", *words], stdout=full, stderr=subprocess.PIPE, text=True)
             self.assertEqual(ran.returncode, status, ran.stderr)
-            self.assertTrue(ran.stderr.startswith("qrproved: [Errno 28]"), ran.stderr)
+            self.assertRegex(ran.stderr, r"^qrproved: \[Errno 28\] .*\n$")
 
     def test_check_of_pictures(self):
         symbol = qrproved.encode("Shelf 12", level="h")
