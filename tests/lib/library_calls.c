@@ -1,7 +1,8 @@
 /* Calls the library for tests/library: library_calls WHAT
  *
  * WHAT is `encode`, `encode_series`, `read`, `mend`, `draw` or `parse_drawing` for one such call, in which a growth of
- * memory may be refused. Then the program prints what came of the call. `edges` calls with lengths of 0, with buffers
+ * memory may be refused. Then the program prints what came of the call. `encode_eci`, `encode_gs1`, `encode_series_gs1`,
+ * `read_ecis`, `read_gs1` and `mend_ecis` are such calls with ECI headers or GS1 data. `edges` calls with lengths of 0, with buffers
  * that are just large enough, and with symbols that have ECI headers or GS1 data. `threads` makes calls in eight
  * threads, whose results have to be those of one thread. */
 #include "labels.h"
@@ -110,6 +111,56 @@ static int parse_drawing(void)
 	return 0;
 }
 
+/* GS1 data with a separator and a `%`, which alphanumeric mode writes as `%` and `%%`. */
+static const uint8_t GS1_DATA[] = "0104012345678901" "10A%C-123\x1D" "17261231";
+
+/* Encodes with `boost` 1. */
+static int encode_as(const char *name, const uint8_t *input, size_t len, uint32_t interpretation)
+{
+	struct qrproved_symbol symbol;
+	memset(modules, MARK, sizeof modules), memset(&symbol, MARK, sizeof symbol);
+	uint8_t status = qrproved_encode(input, len, 1, 0, 0, interpretation, 1, modules, sizeof modules, &symbol);
+	tell(name, status, modules, sizeof modules, &symbol, sizeof symbol);
+	return 0;
+}
+
+static int encode_series_gs1(void)
+{
+	struct qrproved_series series;
+	memset(modules, MARK, sizeof modules), memset(&series, MARK, sizeof series);
+	uint8_t status = qrproved_encode_series(GS1_DATA, sizeof GS1_DATA - 1, 1, 2, 0, QRPROVED_INTERPRETATION_GS1, modules, sizeof modules, &series);
+	tell("encode_series_gs1", status, modules, sizeof modules, &series, sizeof series);
+	return 0;
+}
+
+static int read_label(const char *name, const struct label *label)
+{
+	struct {
+		struct qrproved_content content;
+		struct qrproved_eci ecis[3];
+	} told;
+	put_label(label, modules);
+	memset(bytes, MARK, sizeof bytes), memset(&told, MARK, sizeof told);
+	uint8_t status = qrproved_read(modules, sizeof modules, label->side, bytes, sizeof bytes, told.ecis, 3, &told.content);
+	tell(name, status, bytes, sizeof bytes, &told, sizeof told);
+	return 0;
+}
+
+static int mend_ecis(void)
+{
+	struct {
+		struct qrproved_mended mended;
+		struct qrproved_eci ecis[3];
+	} told;
+	put_label(&TWO_ECIS, modules);
+	/* a codeword is wrong */
+	modules[TWO_ECIS.side * TWO_ECIS.side - 1] ^= 1;
+	memset(bytes, MARK, sizeof bytes), memset(&told, MARK, sizeof told);
+	uint8_t status = qrproved_mend(modules, sizeof modules, TWO_ECIS.side, bytes, sizeof bytes, told.ecis, 3, &told.mended);
+	tell("mend_ecis", status, bytes, sizeof bytes, &told, sizeof told);
+	return 0;
+}
+
 static int wrong;
 
 static void want(const char *name, int is_so)
@@ -175,9 +226,8 @@ static void fields(void)
 static void interpretations(void)
 {
 	static const uint8_t WORD[] = {0x47, 0x72, 0xC3, 0xBC, 0xC3, 0x9F, 0x65};          /* UTF-8 */
-	static const uint8_t DATA[] = "0104012345678901" "10A%C-123\x1D" "17261231";
 	static const uint8_t NO_DATA[] = "10A\x1D%";
-	enum { UTF8 = QRPROVED_ECI_UTF8, GS1 = QRPROVED_INTERPRETATION_GS1, DATA_LEN = sizeof DATA - 1 };
+	enum { UTF8 = QRPROVED_ECI_UTF8, GS1 = QRPROVED_INTERPRETATION_GS1, DATA_LEN = sizeof GS1_DATA - 1 };
 	struct qrproved_symbol symbol;
 	struct qrproved_series series;
 	struct qrproved_content content;
@@ -201,15 +251,15 @@ static void interpretations(void)
 	want("UTF-8 with boost", qrproved_encode(WORD, 7, 1, 0, 0, UTF8, 1, modules, 441, &symbol) == QRPROVED_DONE && symbol.version == 1 && symbol.level == 2);
 	want("the lowest level is the least", qrproved_encode(WORD, 7, 1, 3, 0, UTF8, 1, modules, 625, &symbol) == QRPROVED_DONE && symbol.version == 2
 	     && symbol.level == 3);
-	want("GS1 data are written", qrproved_encode(DATA, DATA_LEN, 1, 1, 0, GS1, 0, modules, sizeof modules, &symbol) == QRPROVED_DONE);
+	want("GS1 data are written", qrproved_encode(GS1_DATA, DATA_LEN, 1, 1, 0, GS1, 0, modules, sizeof modules, &symbol) == QRPROVED_DONE);
 	want("GS1 data are read", qrproved_read(modules, sizeof modules, symbol.side, bytes, sizeof bytes, ecis, 2, &content) == QRPROVED_DONE
-	     && content.len == DATA_LEN && !memcmp(bytes, DATA, DATA_LEN) && content.eci_count == 0 && content.fnc1 == QRPROVED_FNC1_FIRST);
-	want("a series of GS1 data", qrproved_encode_series(DATA, DATA_LEN, 1, 2, 0, GS1, modules, sizeof modules, &series) == QRPROVED_DONE && series.count > 1);
+	     && content.len == DATA_LEN && !memcmp(bytes, GS1_DATA, DATA_LEN) && content.eci_count == 0 && content.fnc1 == QRPROVED_FNC1_FIRST);
+	want("a series of GS1 data", qrproved_encode_series(GS1_DATA, DATA_LEN, 1, 2, 0, GS1, modules, sizeof modules, &series) == QRPROVED_DONE && series.count > 1);
 	size_t joined = 0;
 	for (unsigned k = 0; k < series.count; k++) {
 		want("a part of GS1 data", qrproved_read(modules + 441 * k, 441, 21, bytes, sizeof bytes, ecis, 2, &content) == QRPROVED_DONE
 		     && content.fnc1 == QRPROVED_FNC1_FIRST && content.position == k && joined + content.len <= DATA_LEN
-		     && !memcmp(bytes, DATA + joined, content.len));
+		     && !memcmp(bytes, GS1_DATA + joined, content.len));
 		joined += content.len;
 	}
 	want("all parts of GS1 data", joined == DATA_LEN);
@@ -362,6 +412,18 @@ int main(int argc, char **argv)
 		return draw();
 	if (!strcmp(what, "parse_drawing"))
 		return parse_drawing();
+	if (!strcmp(what, "encode_eci"))
+		return encode_as(what, TEXT, sizeof TEXT - 1, QRPROVED_ECI_UTF8);
+	if (!strcmp(what, "encode_gs1"))
+		return encode_as(what, GS1_DATA, sizeof GS1_DATA - 1, QRPROVED_INTERPRETATION_GS1);
+	if (!strcmp(what, "encode_series_gs1"))
+		return encode_series_gs1();
+	if (!strcmp(what, "read_ecis"))
+		return read_label(what, &TWO_ECIS);
+	if (!strcmp(what, "read_gs1"))
+		return read_label(what, &FIELDS);
+	if (!strcmp(what, "mend_ecis"))
+		return mend_ecis();
 	if (!strcmp(what, "edges"))
 		return edges();
 	if (!strcmp(what, "threads"))
