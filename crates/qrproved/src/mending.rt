@@ -428,7 +428,13 @@ mod tests {
                 (5, 0, 5),
             ),
         ];
-        for (name, places, wanted, (wrong, wrong_format, changed), (spent, misread, unknown)) in rows {
+        for (
+            name,
+            places,
+            wanted,
+            (wrong, wrong_format, changed),
+            (spent, misread, unknown),
+        ) in rows {
             let mut modules = inverted(drawn, places)?;
             for (row, col) in CODEWORDS {
                 let place = 21 * usize::from(row) + usize::from(col);
