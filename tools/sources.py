@@ -1,8 +1,7 @@
 """What the scripts beside this one read: the definitions of crates/*/specs, the functions of crates/*/src with their
-contracts, the wrong bodies of crates/*/must-fail and crates/*/wrong, and the key words of tools/key_words.txt."""
+contracts, and the wrong bodies of crates/*/must-fail and crates/*/wrong."""
 import pathlib
 import re
-import sys
 
 TOP = pathlib.Path(__file__).resolve().parent.parent
 CRATES = TOP / "crates"
@@ -86,28 +85,6 @@ def read_functions(crate, path, functions):
 def edits_of(crate):
     """Returns the files of a crate's wrong bodies, those of must-fail/ first."""
     return [edit for folder in ("must-fail", "wrong") for edit in sorted((CRATES / crate / folder).glob("*.edit"))]
-
-
-def read_edits(crate, edits):
-    """Adds a crate's wrong bodies: the name, the file, and the item that the first change is made in."""
-    for edit in edits_of(crate):
-        path = CRATES / crate / re.search(r"^file: *(\S+)", edit.read_text("utf-8"), re.M).group(1)
-        source, old = path.read_text("utf-8"), re.search(r"^old: ?(.*)", edit.read_text("utf-8"), re.M).group(1)
-        upto = source[:source.find(old)] + old
-        items = [found.group(4) for found in map(ITEM.match, upto.split("\n")) if found]
-        edits.append({"name": edit.stem, "path": path, "item": items[-1] if items else ""})
-
-
-def read_key_words(definitions):
-    """Returns the key words of each definition's name; a name that no definition has ends the program."""
-    found, names = {}, {key[2] for key in definitions}
-    for line in (TOP / "tools" / "key_words.txt").read_text("utf-8").split("\n"):
-        words, _, given = line.partition(": ")
-        for name in re.findall(r"\w+", given) if line[:1] != "#" else []:
-            if name not in names:
-                sys.exit(f"tools/key_words.txt names {name}, and no definition has this name")
-            found[name] = found.get(name, []) + [words]
-    return found
 
 
 def section_order(where):

@@ -1,5 +1,4 @@
-//! Tests of the command with devices in memory, of drawings and devices, and of `==` and `clone` of each public type
-//! that has `==`. 1-M stands for version 1 and level M.
+//! Tests of the command with devices in memory, and of drawings and devices. 1-M stands for version 1 and level M.
 #![tactic(auto)]
 
 #[cfg(test)]
@@ -10,8 +9,6 @@ mod counted;
 mod device_faults;
 #[cfg(test)]
 mod drawings;
-#[cfg(test)]
-mod equality;
 #[cfg(test)]
 mod fault_texts;
 #[cfg(test)]

@@ -16,7 +16,7 @@ use crate::segmentation::Segment;
 use std::alloc::{AllocError, Global};
 
 /// How the bytes of a symbol are to be interpreted.
-#[derive(Clone, Copy, Debug, PartialEq, Eq)]
+#[derive(Clone, Copy, Debug)]
 pub enum Interpretation {
     /// The symbol does not say how its bytes are to be interpreted.
     Default,

@@ -1,11 +1,10 @@
 //! Laws of this crate's definitions. A function with an empty body does nothing: its contract is the law. If its name
 //! ends in `compute`, the law has examples that the standard prints, or that were worked out by hand.
 //!
-//! The functions with a body state laws of the public types. They say which numbers the faults have. For each type
-//! whose values can be compared and cloned, they say that `==` is true exactly for equal values, and that a clone is
-//! equal to its original.
+//! The functions with a body state laws of the public types. They say which numbers the faults have, and that `==` is
+//! true exactly for equal modes and rules.
 
-ghost use Rattle.std.specs.Prelude.{◌≡◌, ◌-◌, ◌/◌, ◌%◌, ℕ, List, [], ◌∷◌, ◌++◌, true, false, length, map, replicate, codes, ◌↔◌, IsTrue, IfOk};
+ghost use Rattle.std.specs.Prelude.{◌≡◌, ◌-◌, ◌/◌, ◌%◌, ℕ, List, [], ◌∷◌, ◌++◌, true, false, length, map, replicate, codes, ◌↔◌, IsTrue};
 ghost use Rattle.qr_layout.specs.declared.level.Level.{Level};
 ghost use Rattle.qr_bits.specs.declared.modes.Mode.TheVariants.{Alphanumeric, Byte, Kanji, Numeric};
 ghost use Rattle.qr_bits.specs.declared.modes.Rule.{Rule};
@@ -27,11 +26,10 @@ ghost use Rattle.qr_bits.specs.Laws.{BitsAreCodewordBits, ContentsAreParsed, Con
 ghost use Rattle.qr_bits.specs.Examples.{all_modes, eight_digits, eleven_characters, interpreted, middle, middle_data, one, modes_of_fields, segments_of_fields, three_fields, two_kanji, two_kanji_data, unreadable};
 
 use crate::fault::{BitFault, ParseFault};
-use crate::interpretation::{Designator, EciChange, Fnc1, Interpretation, Item};
+use crate::interpretation::{Fnc1, Interpretation, Item};
 use crate::modes::{INPUT_MAX, Mode, Rule};
 use crate::segmentation::Segment;
 use crate::stream::Header;
-use std::alloc::AllocError;
 
 /// Bits are parsed as an optional structured append header and segments, without other items, exactly if they are the
 /// bit stream of this header and these segments, followed by an end. An end is fewer than four bits, or the terminator
@@ -304,144 +302,4 @@ pub fn rules_are_equal(a: Rule, b: Rule) -> bool
     ensures { IsTrue result ↔ (a ≡ b) }
 {
     a == b
-}
-
-/// `==` says whether the two are the same `Segment`.
-pub fn segments_are_equal(a: Segment, b: Segment) -> bool
-    ensures { IsTrue result ↔ (a ≡ b) }
-{
-    a == b
-}
-
-/// `==` says whether the two are the same `Header`.
-pub fn headers_are_equal(a: Header, b: Header) -> bool
-    ensures { IsTrue result ↔ (a ≡ b) }
-{
-    a == b
-}
-
-/// `==` says whether the two are the same `Interpretation`.
-pub fn interpretations_are_equal(a: Interpretation, b: Interpretation) -> bool
-    ensures { IsTrue result ↔ (a ≡ b) }
-{
-    a == b
-}
-
-/// `==` says whether the two are the same `Designator`.
-pub fn designators_are_equal(a: Designator, b: Designator) -> bool
-    ensures { IsTrue result ↔ (a ≡ b) }
-{
-    a == b
-}
-
-/// `==` says whether the two are the same `Item`.
-pub fn items_are_equal(a: Item, b: Item) -> bool
-    ensures { IsTrue result ↔ (a ≡ b) }
-{
-    a == b
-}
-
-/// `==` says whether the two are the same `Fnc1`.
-pub fn fnc1s_are_equal(a: Fnc1, b: Fnc1) -> bool
-    ensures { IsTrue result ↔ (a ≡ b) }
-{
-    a == b
-}
-
-/// `==` says whether the two are the same `EciChange`.
-pub fn eci_changes_are_equal(a: EciChange, b: EciChange) -> bool
-    ensures { IsTrue result ↔ (a ≡ b) }
-{
-    a == b
-}
-
-/// `==` says whether the two are the same `BitFault`.
-pub fn bit_faults_are_equal(a: BitFault, b: BitFault) -> bool
-    ensures { IsTrue result ↔ (a ≡ b) }
-{
-    a == b
-}
-
-/// `==` says whether the two are the same `ParseFault`.
-pub fn parse_faults_are_equal(a: ParseFault, b: ParseFault) -> bool
-    ensures { IsTrue result ↔ (a ≡ b) }
-{
-    a == b
-}
-
-/// A clone of a `Mode` is equal to it.
-pub fn mode_clones(a: Mode) -> Result<Mode, AllocError>
-    ensures { IfOk result (λ b. b ≡ a) }
-{
-    a.clone()
-}
-
-/// A clone of a `Rule` is equal to it.
-pub fn rule_clones(a: Rule) -> Result<Rule, AllocError>
-    ensures { IfOk result (λ b. b ≡ a) }
-{
-    a.clone()
-}
-
-/// A clone of a `Segment` is equal to it.
-pub fn segment_clones(a: Segment) -> Result<Segment, AllocError>
-    ensures { IfOk result (λ b. b ≡ a) }
-{
-    a.clone()
-}
-
-/// A clone of a `Header` is equal to it.
-pub fn header_clones(a: Header) -> Result<Header, AllocError>
-    ensures { IfOk result (λ b. b ≡ a) }
-{
-    a.clone()
-}
-
-/// A clone of an `Interpretation` is equal to it.
-pub fn interpretation_clones(a: Interpretation) -> Result<Interpretation, AllocError>
-    ensures { IfOk result (λ b. b ≡ a) }
-{
-    a.clone()
-}
-
-/// A clone of a `Designator` is equal to it.
-pub fn designator_clones(a: Designator) -> Result<Designator, AllocError>
-    ensures { IfOk result (λ b. b ≡ a) }
-{
-    a.clone()
-}
-
-/// A clone of an `Item` is equal to it.
-pub fn item_clones(a: Item) -> Result<Item, AllocError>
-    ensures { IfOk result (λ b. b ≡ a) }
-{
-    a.clone()
-}
-
-/// A clone of a `Fnc1` is equal to it.
-pub fn fnc1_clones(a: Fnc1) -> Result<Fnc1, AllocError>
-    ensures { IfOk result (λ b. b ≡ a) }
-{
-    a.clone()
-}
-
-/// A clone of an `EciChange` is equal to it.
-pub fn eci_change_clones(a: EciChange) -> Result<EciChange, AllocError>
-    ensures { IfOk result (λ b. b ≡ a) }
-{
-    a.clone()
-}
-
-/// A clone of a `BitFault` is equal to it.
-pub fn bit_fault_clones(a: BitFault) -> Result<BitFault, AllocError>
-    ensures { IfOk result (λ b. b ≡ a) }
-{
-    a.clone()
-}
-
-/// A clone of a `ParseFault` is equal to it.
-pub fn parse_fault_clones(a: ParseFault) -> Result<ParseFault, AllocError>
-    ensures { IfOk result (λ b. b ≡ a) }
-{
-    a.clone()
 }

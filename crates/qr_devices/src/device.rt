@@ -29,7 +29,7 @@ pub enum Trouble {
 }
 
 /// The counts of the reads of a device. A count that has reached `u64::MAX` stays there.
-#[derive(Clone, Copy, Debug, PartialEq, Eq)]
+#[derive(Clone, Copy, Debug)]
 pub struct ReadCounts {
     /// All reads, failed and interrupted ones too.
     pub calls: u64,
@@ -78,7 +78,7 @@ impl ReadCounts {
 }
 
 /// The counts of the writes and flushes of a device. A count that has reached `u64::MAX` stays there.
-#[derive(Clone, Copy, Debug, PartialEq, Eq)]
+#[derive(Clone, Copy, Debug)]
 pub struct WriteCounts {
     /// All writes and flushes, failed and interrupted ones too.
     pub calls: u64,

@@ -1,7 +1,7 @@
 //! Laws of devices and of their counts. The contract of each function is a law, and a function with an empty body does
 //! nothing.
 
-ghost use Rattle.std.specs.Prelude.{◌≡◌, ◌-◌, ◌^◌, false, Ok, Err, ◌↔◌, IsTrue, IfOk};
+ghost use Rattle.std.specs.Prelude.{◌≡◌, ◌-◌, ◌^◌, false, Ok, Err};
 ghost use Rattle.qr_devices.specs.Device.{no_reads, no_writes, read_counted, write_counted, flush_counted};
 ghost use Rattle.qr_devices.specs.Trial.{free_of, moved};
 ghost use Rattle.qr_devices.specs.declared.device.Trouble.{Trouble};
@@ -9,9 +9,8 @@ ghost use Rattle.qr_devices.specs.declared.trial.Faults.{Faults};
 ghost use Rattle.qr_devices.specs.declared.trial.Trial.{Trial};
 ghost use Rattle.qr_devices.specs.declared.device.TheConstants.{INTERRUPTIONS_MAX};
 
-use crate::device::{ReadCounts, Trouble, WriteCounts};
+use crate::device::Trouble;
 use crate::trial::Faults;
-use std::alloc::AllocError;
 
 /// Returns the `Faults` of a device that is never interrupted, never fails, and always moves as many bytes as it can.
 pub fn no_faults() -> Faults
@@ -40,59 +39,3 @@ pub fn counts_compute()
         → moved m 0 5 ≡ Err Trouble.Interrupted × moved m 1 5 ≡ Ok 1 × moved m 2 5 ≡ Err Trouble.Failed }
     ensures stops { (t : Trial) → t.faults.stops_from ≡ t.writes.calls → free_of t ≡ 0 }
 {}
-
-/// `==` says whether the two are the same `Trouble`.
-pub fn troubles_are_equal(a: Trouble, b: Trouble) -> bool
-    ensures { IsTrue result ↔ (a ≡ b) }
-{
-    a == b
-}
-
-/// `==` says whether the two are the same `ReadCounts`.
-pub fn read_counts_are_equal(a: ReadCounts, b: ReadCounts) -> bool
-    ensures { IsTrue result ↔ (a ≡ b) }
-{
-    a == b
-}
-
-/// `==` says whether the two are the same `WriteCounts`.
-pub fn write_counts_are_equal(a: WriteCounts, b: WriteCounts) -> bool
-    ensures { IsTrue result ↔ (a ≡ b) }
-{
-    a == b
-}
-
-/// `==` says whether the two are the same `Faults`.
-pub fn device_faults_are_equal(a: Faults, b: Faults) -> bool
-    ensures { IsTrue result ↔ (a ≡ b) }
-{
-    a == b
-}
-
-/// A clone of a `Trouble` is equal to it.
-pub fn trouble_clones(a: Trouble) -> Result<Trouble, AllocError>
-    ensures { IfOk result (λ b. b ≡ a) }
-{
-    a.clone()
-}
-
-/// A clone of a `ReadCounts` is equal to it.
-pub fn read_counts_clones(a: ReadCounts) -> Result<ReadCounts, AllocError>
-    ensures { IfOk result (λ b. b ≡ a) }
-{
-    a.clone()
-}
-
-/// A clone of a `WriteCounts` is equal to it.
-pub fn write_counts_clones(a: WriteCounts) -> Result<WriteCounts, AllocError>
-    ensures { IfOk result (λ b. b ≡ a) }
-{
-    a.clone()
-}
-
-/// A clone of a `Faults` is equal to it.
-pub fn device_faults_clone(a: Faults) -> Result<Faults, AllocError>
-    ensures { IfOk result (λ b. b ≡ a) }
-{
-    a.clone()
-}

@@ -8,7 +8,7 @@ use std::alloc::{AllocError, Global};
 
 /// How a trial device misbehaves. Its reads are numbered from 0 on. Its writes and flushes are numbered together, also
 /// from 0 on.
-#[derive(Clone, Copy, Debug, PartialEq, Eq)]
+#[derive(Clone, Copy, Debug)]
 pub struct Faults {
     /// The most bytes that one read or write moves. 0 counts as 1.
     pub at_most: usize,

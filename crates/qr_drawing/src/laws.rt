@@ -1,7 +1,7 @@
 //! Laws of drawings: which characters show modules, what small squares look like, which texts make an SVG document, how
 //! many bytes one write offers, and the number of a fault. The contract of a function with an empty body is the law.
 
-ghost use Rattle.std.specs.Prelude.{◌≡◌, ◌==◌, ◌+◌, ◌*◌, ◌++◌, ◌∷◌, [], ℕ, codes, decimal, ◌↔◌, IsTrue, IfOk};
+ghost use Rattle.std.specs.Prelude.{◌≡◌, ◌==◌, ◌+◌, ◌*◌, ◌++◌, ◌∷◌, [], ℕ, codes, decimal};
 ghost use Rattle.qr_matrix.specs.Grid.{Grid, square};
 ghost use Rattle.qr_drawing.specs.Svg.{background, box_path, closing, declaration, foreground, opening, stack_path, svg_document};
 ghost use Rattle.qr_drawing.specs.Drawing.{drawn};
@@ -9,9 +9,7 @@ ghost use Rattle.qr_drawing.specs.declared.drawing.Drawing.TheVariants.{Ascii, A
 ghost use Rattle.qr_drawing.specs.declared.pen.TheConstants.{WRITE_MAX};
 ghost use Rattle.qr_drawing.specs.Laws.{CharactersOfModules};
 
-use crate::drawing::Drawing;
 use crate::pen::DrawFault;
-use std::alloc::AllocError;
 
 /// `CharactersOfModules` lists the characters that show modules. In the style `Plain` two characters show one module.
 /// In the style `HalfBlocks` one character shows two modules, one above the other, so 29 rows of modules need 15 lines.
@@ -54,32 +52,4 @@ pub fn draw_fault_numbers(fault: DrawFault) -> u8
     ensures { result ≡ 1 }
 {
     fault as u8
-}
-
-/// `==` says whether the two are the same `Drawing`.
-pub fn drawings_are_equal(a: Drawing, b: Drawing) -> bool
-    ensures { IsTrue result ↔ (a ≡ b) }
-{
-    a == b
-}
-
-/// `==` says whether the two are the same `DrawFault`.
-pub fn draw_faults_are_equal(a: DrawFault, b: DrawFault) -> bool
-    ensures { IsTrue result ↔ (a ≡ b) }
-{
-    a == b
-}
-
-/// A clone of a `Drawing` is equal to it.
-pub fn drawing_clones(a: Drawing) -> Result<Drawing, AllocError>
-    ensures { IfOk result (λ b. b ≡ a) }
-{
-    a.clone()
-}
-
-/// A clone of a `DrawFault` is equal to it.
-pub fn draw_fault_clones(a: DrawFault) -> Result<DrawFault, AllocError>
-    ensures { IfOk result (λ b. b ≡ a) }
-{
-    a.clone()
 }

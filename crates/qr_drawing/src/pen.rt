@@ -88,7 +88,7 @@ pub const WRITE_MAX: usize = 1200;
 pub(crate) const PEN_SIZE: usize = WRITE_MAX + 8;
 
 /// Why a drawing was not written to its end.
-#[derive(Clone, Copy, Debug, PartialEq, Eq, Error)]
+#[derive(Clone, Copy, Debug, Error)]
 pub enum DrawFault {
     /// The writer failed, accepted no byte of a write, or was interrupted for the 1,000th time.
     #[error("write error")]

@@ -1,8 +1,8 @@
 //! Laws of the layout. The contract of each function is the law; most functions do nothing. The first laws say what
 //! follows from the definitions. Others say that the definitions have the values that the standard prints, and the last
-//! ones are about `==`, clones and default values.
+//! ones are about `==` and default values.
 
-ghost use Rattle.std.specs.Prelude.{◌≡◌, ◌<◌, ◌≤◌, ◌-◌, ◌*◌, ◌/◌, ◌⊎◌, ◌↔◌, ◌||◌, not, true, ℕ, List, ◌∷◌, ◌++◌, length, map, slice_get, IsTrue, IfOk};
+ghost use Rattle.std.specs.Prelude.{◌≡◌, ◌<◌, ◌≤◌, ◌-◌, ◌*◌, ◌/◌, ◌⊎◌, ◌↔◌, ◌||◌, not, true, ℕ, List, ◌∷◌, ◌++◌, length, map, slice_get, IsTrue};
 ghost use Rattle.std.specs.List.{list_any, range_with_len};
 ghost use Rattle.qr_layout.specs.declared.region.Place.{Place};
 ghost use Rattle.qr_layout.specs.declared.level.Level.{Level};
@@ -25,9 +25,7 @@ use crate::level::Level;
 use crate::order::walk;
 use crate::region::{Place, Rectangle};
 use crate::role::Role;
-use crate::strips::Strip;
 use crate::version::Version;
-use std::alloc::AllocError;
 
 /// The region of a version has at most one order.
 pub fn order_is_one(version: Version)
@@ -273,93 +271,9 @@ pub fn default_rectangle() -> Rectangle
     Rectangle::default()
 }
 
-/// `==` says whether the two are the same `Version`.
-pub fn versions_are_equal(a: Version, b: Version) -> bool
-    ensures { IsTrue result ↔ (a ≡ b) }
-{
-    a == b
-}
-
 /// `==` says whether the two are the same `Level`.
 pub fn levels_are_equal(a: Level, b: Level) -> bool
     ensures { IsTrue result ↔ (a ≡ b) }
 {
     a == b
-}
-
-/// `==` says whether the two are the same `Place`.
-pub fn places_are_equal(a: Place, b: Place) -> bool
-    ensures { IsTrue result ↔ (a ≡ b) }
-{
-    a == b
-}
-
-/// `==` says whether the two are the same `Role`.
-pub fn roles_are_equal(a: Role, b: Role) -> bool
-    ensures { IsTrue result ↔ (a ≡ b) }
-{
-    a == b
-}
-
-/// `==` says whether the two are the same `Blocks`.
-pub fn blocks_are_equal(a: Blocks, b: Blocks) -> bool
-    ensures { IsTrue result ↔ (a ≡ b) }
-{
-    a == b
-}
-
-/// `==` says whether the two are the same `Strip`.
-pub fn strips_are_equal(a: Strip, b: Strip) -> bool
-    ensures { IsTrue result ↔ (a ≡ b) }
-{
-    a == b
-}
-
-/// A clone of a `Version` is equal to it.
-pub fn version_clones(a: Version) -> Result<Version, AllocError>
-    ensures { IfOk result (λ b. b ≡ a) }
-{
-    a.clone()
-}
-
-/// A clone of a `Level` is equal to it.
-pub fn level_clones(a: Level) -> Result<Level, AllocError>
-    ensures { IfOk result (λ b. b ≡ a) }
-{
-    a.clone()
-}
-
-/// A clone of a `Place` is equal to it.
-pub fn place_clones(a: Place) -> Result<Place, AllocError>
-    ensures { IfOk result (λ b. b ≡ a) }
-{
-    a.clone()
-}
-
-/// A clone of a `Role` is equal to it.
-pub fn role_clones(a: Role) -> Result<Role, AllocError>
-    ensures { IfOk result (λ b. b ≡ a) }
-{
-    a.clone()
-}
-
-/// A clone of a `Blocks` is equal to it.
-pub fn blocks_clones(a: Blocks) -> Result<Blocks, AllocError>
-    ensures { IfOk result (λ b. b ≡ a) }
-{
-    a.clone()
-}
-
-/// A clone of a `Strip` is equal to it.
-pub fn strip_clones(a: Strip) -> Result<Strip, AllocError>
-    ensures { IfOk result (λ b. b ≡ a) }
-{
-    a.clone()
-}
-
-/// A clone of a `Rectangle` is equal to it.
-pub fn rectangle_clones(a: Rectangle) -> Result<Rectangle, AllocError>
-    ensures { IfOk result (λ b. b ≡ a) }
-{
-    a.clone()
 }

@@ -1,18 +1,15 @@
-//! Laws of the penalty (ISO/IEC 18004:2015, 7.8.3.1, Table 11), of differences, of bytes and of clones. A function
-//! without a parameter does nothing: its contract is the law.
+//! Laws of the penalty (ISO/IEC 18004:2015, 7.8.3.1, Table 11), of differences and of bytes. A function without
+//! a parameter does nothing: its contract is the law.
 
-ghost use Rattle.std.specs.Prelude.{◌≡◌, ◌↔◌, ◌<◌, ℕ, Bool, IfOk};
+ghost use Rattle.std.specs.Prelude.{◌≡◌, ◌↔◌, ◌<◌, ℕ, Bool};
 ghost use Rattle.qr_matrix.specs.Penalty.{over_lines, run_cost, square_count, window_count, penalty_of};
 ghost use Rattle.qr_matrix.specs.Runs.{place_cost};
 ghost use Rattle.qr_matrix.specs.Grid.{colour, Grid};
 ghost use Rattle.qr_matrix.specs.Difference.{difference_count};
 ghost use Rattle.qr_matrix.specs.Laws.{all_dark, all_light, chequered, ratio_in_a_row, ratio_in_a_column, BytesAreTheirSquare};
 
-use crate::bit_row::BitRow;
-use crate::dark_runs::Run;
 use crate::matrix::Matrix;
 use crate::penalties::count_all;
-use std::alloc::AllocError;
 
 /// For some squares, the definition of the penalty gives the points that were counted by hand from Table 11. It finds
 /// the ratio 1:1:3:1:1 both before four light modules and after them.
@@ -68,17 +65,3 @@ pub fn differences_tell_squares_apart()
 pub fn bytes_are_their_square()
     ensures { BytesAreTheirSquare }
 {}
-
-/// A clone of a `BitRow` is equal to it.
-pub fn bit_row_clones(a: BitRow) -> Result<BitRow, AllocError>
-    ensures { IfOk result (λ b. b ≡ a) }
-{
-    a.clone()
-}
-
-/// A clone of a `Run` is equal to it.
-pub fn run_clones(a: Run) -> Result<Run, AllocError>
-    ensures { IfOk result (λ b. b ≡ a) }
-{
-    a.clone()
-}

@@ -1,11 +1,10 @@
 //! Laws of parsing. The contract of a function with an empty body is the law. The contract of a function with code says
 //! what this code returns.
 
-ghost use Rattle.std.specs.Prelude.{◌≡◌, ◌↔◌, IfOk, IsTrue};
+ghost use Rattle.std.specs.Prelude.{◌≡◌};
 ghost use Rattle.qr_parsing.specs.Laws.{DrawingsAreOne, SeriesAreDrawings, SymbolsAreDrawings};
 
 use crate::parsing::DrawingFault;
-use std::alloc::AllocError;
 
 /// A text is the drawing of at most one type, one margin and one list of squares that `parse_drawing` can return.
 pub fn drawings_are_one()
@@ -25,18 +24,4 @@ pub fn drawing_fault_numbers(fault: DrawingFault) -> u8
     ensures memory { fault ≡ DrawingFault.Memory → result ≡ 2 }
 {
     fault as u8
-}
-
-/// `==` says whether the two are the same `DrawingFault`.
-pub fn drawing_faults_are_equal(a: DrawingFault, b: DrawingFault) -> bool
-    ensures { IsTrue result ↔ (a ≡ b) }
-{
-    a == b
-}
-
-/// A clone of a `DrawingFault` is equal to it.
-pub fn drawing_fault_clones(a: DrawingFault) -> Result<DrawingFault, AllocError>
-    ensures { IfOk result (λ b. b ≡ a) }
-{
-    a.clone()
 }

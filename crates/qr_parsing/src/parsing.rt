@@ -22,7 +22,7 @@ use std::alloc::{AllocError, Global};
 use thiserror::Error;
 
 /// Why a text is not parsed.
-#[derive(Clone, Copy, Debug, PartialEq, Eq, Error)]
+#[derive(Clone, Copy, Debug, Error)]
 pub enum DrawingFault {
     /// The text is no drawing of squares of 8 to 177 modules on a side that begin as symbols do: with a dark module in
     /// row 0 and column 0, and a light one in row 0 and column 7.

@@ -1,7 +1,7 @@
 //! Laws of masks, interleaving, reading and series. The contract of each function is the law. Where a function has
 //! code, the law is about what this code returns.
 
-ghost use Rattle.std.specs.Prelude.{◌≡◌, ◌<◌, ◌≤◌, ◌+◌, ◌%◌, ◌⊎◌, ℕ, false, List, length, map, Option, None, [], ◌∷◌, IfOk, IfErr, ◌≢◌, ◌↔◌, Err, IsTrue};
+ghost use Rattle.std.specs.Prelude.{◌≡◌, ◌<◌, ◌≤◌, ◌+◌, ◌%◌, ◌⊎◌, ℕ, false, List, length, map, Option, [], ◌∷◌, IfOk, IfErr, ◌≢◌, ◌↔◌, Err};
 ghost use Rattle.std.specs.List.{All};
 ghost use Rattle.qr_layout.specs.declared.level.Level.{Level};
 ghost use Rattle.qr_layout.specs.declared.region.Place.{Place};
@@ -36,7 +36,6 @@ ghost use Rattle.qr_symbol.specs.Distance.{MessagesLieApart, DamagedMessagesAreO
 ghost use Rattle.qr_symbol.specs.Laws.{all_masks, bits_down, computed_rows, first_rows};
 
 use crate::fault::{EncodeFault, ReadFault};
-use crate::interleaving::BlockSizes;
 use crate::joining::read_series;
 use crate::mask::build;
 use crate::reading::read_symbol;
@@ -44,7 +43,7 @@ use crate::symbol::{Symbol, build_masked};
 use qr_bits::{INPUT_MAX, Parsed};
 use qr_layout::{Level, Version};
 use qr_matrix::Matrix;
-use std::alloc::{AllocError, Global};
+use std::alloc::Global;
 
 /// Each mask repeats every twelve rows and six columns, and its first twelve rows are those that were worked out by
 /// hand from Table 10.
@@ -351,39 +350,4 @@ pub fn encode_fault_numbers(fault: EncodeFault) -> u8
     ensures memory { fault ≡ EncodeFault.Memory → result ≡ 4 }
 {
     fault as u8
-}
-
-/// `==` says whether the two are the same `EncodeFault`.
-pub fn encode_faults_are_equal(a: EncodeFault, b: EncodeFault) -> bool
-    ensures { IsTrue result ↔ (a ≡ b) }
-{
-    a == b
-}
-
-/// `==` says whether the two are the same `ReadFault`.
-pub fn read_faults_are_equal(a: ReadFault, b: ReadFault) -> bool
-    ensures { IsTrue result ↔ (a ≡ b) }
-{
-    a == b
-}
-
-/// A clone of an `EncodeFault` is equal to it.
-pub fn encode_fault_clones(a: EncodeFault) -> Result<EncodeFault, AllocError>
-    ensures { IfOk result (λ b. b ≡ a) }
-{
-    a.clone()
-}
-
-/// A clone of a `ReadFault` is equal to it.
-pub fn read_fault_clones(a: ReadFault) -> Result<ReadFault, AllocError>
-    ensures { IfOk result (λ b. b ≡ a) }
-{
-    a.clone()
-}
-
-/// A clone of a `BlockSizes` is equal to it.
-pub fn block_sizes_clones(a: BlockSizes) -> Result<BlockSizes, AllocError>
-    ensures { IfOk result (λ b. b ≡ a) }
-{
-    a.clone()
 }

@@ -1,7 +1,7 @@
 //! Laws about the calls, and about the numbers that they take and return. A function here exists for its contract,
 //! which is the law.
 
-ghost use Rattle.std.specs.Prelude.{◌≡◌, ◌<◌, ◌≤◌, ◌↔◌, ℕ, [], ◌∷◌, map, true, false, IfOk, Some, None};
+ghost use Rattle.std.specs.Prelude.{◌≡◌, ◌<◌, ◌≤◌, ◌↔◌, ℕ, [], ◌∷◌, map, true, false, Some, None};
 ghost use Rattle.qr_layout.specs.declared.level.Level.{Level};
 ghost use Rattle.qr_bits.specs.declared.modes.Rule.{Rule};
 ghost use Rattle.qr_bits.specs.declared.interpretation.Fnc1.{Fnc1};
@@ -16,17 +16,10 @@ ghost use Rattle.qr_drawing.specs.declared.drawing.Drawing.{Drawing};
 ghost use Rattle.qrproved.specs.Interpretation.{TellsFnc1, TellsKanji};
 ghost use Rattle.qrproved.specs.Settings.{AreSymbolSettings, MayAllowKanji, interpretation_of, level_of, rule_of};
 
-use crate::encoding::QrprovedSymbol;
-use crate::interpretation::QrprovedEci;
-use crate::mending::QrprovedMended;
-use crate::parsing::QrprovedDrawn;
-use crate::reading::QrprovedContent;
-use crate::series::QrprovedSeries;
 use crate::status::{
     CHECK, DONE, EMPTY, FIELDS, FORMAT, MEMORY, NO_DRAWING, ROOM, SEGMENTS, SETTINGS, SIDE,
     TOO_LONG, TOO_MANY,
 };
-use std::alloc::AllocError;
 
 /// The statuses have the numbers 0 to 12, as `include/qrproved.h` lists them.
 ///
@@ -82,45 +75,3 @@ pub fn numbers()
     ensures unknown { colour (square_of_unknown 2 (0 ∷ 2 ∷ 0 ∷ 0 ∷ [])) 0 1 ≡ true }
     ensures known { colour (square_of_unknown 2 (0 ∷ 2 ∷ 1 ∷ 3 ∷ [])) 1 1 ≡ false }
 {}
-
-/// A clone of a `QrprovedSymbol` is equal to it.
-pub fn symbol_clones(a: QrprovedSymbol) -> Result<QrprovedSymbol, AllocError>
-    ensures { IfOk result (λ b. b ≡ a) }
-{
-    a.clone()
-}
-
-/// A clone of a `QrprovedSeries` is equal to it.
-pub fn series_clones(a: QrprovedSeries) -> Result<QrprovedSeries, AllocError>
-    ensures { IfOk result (λ b. b ≡ a) }
-{
-    a.clone()
-}
-
-/// A clone of a `QrprovedContent` is equal to it.
-pub fn content_clones(a: QrprovedContent) -> Result<QrprovedContent, AllocError>
-    ensures { IfOk result (λ b. b ≡ a) }
-{
-    a.clone()
-}
-
-/// A clone of a `QrprovedEci` is equal to it.
-pub fn eci_clones(a: QrprovedEci) -> Result<QrprovedEci, AllocError>
-    ensures { IfOk result (λ b. b ≡ a) }
-{
-    a.clone()
-}
-
-/// A clone of a `QrprovedMended` is equal to it.
-pub fn mended_clones(a: QrprovedMended) -> Result<QrprovedMended, AllocError>
-    ensures { IfOk result (λ b. b ≡ a) }
-{
-    a.clone()
-}
-
-/// A clone of a `QrprovedDrawn` is equal to it.
-pub fn drawn_clones(a: QrprovedDrawn) -> Result<QrprovedDrawn, AllocError>
-    ensures { IfOk result (λ b. b ≡ a) }
-{
-    a.clone()
-}
