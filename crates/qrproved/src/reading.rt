@@ -169,6 +169,7 @@ mod tests {
             parity: 9,
             fnc1: 9,
             application: 9,
+            has_kanji: 9,
         }
     }
 
