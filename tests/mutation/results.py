@@ -1,4 +1,4 @@
-"""Keeps the verdicts of earlier runs of tests/wrong_bodies, each with a checksum of all that it depends on."""
+"""Keeps the verdicts of earlier runs of the script wrong_bodies, each with a checksum of all that it depends on."""
 import glob
 import hashlib
 import json

@@ -1,4 +1,4 @@
-"""What tests/wrong_bodies has to know of the functions, constants and tables of a crate: the lines of each, its proof's
+"""What the script wrong_bodies has to know of the functions, constants and tables of a crate: the lines of each, its proof's
 folder, and what it may call. Files have to be laid out as `rt fmt` does it."""
 import glob
 import os
