@@ -1,5 +1,20 @@
 //! Tests of the command with devices in memory, of drawings and devices, and of `==` and `clone` of each public type
 //! that has `==`. 1-M stands for version 1 and level M.
+//!
+//! The files of `src`:
+//!
+//! - `checks`: the macros `check!` and `check_eq!`
+//! - `counted`: tests of `Counted` and `Bounded`
+//! - `device_faults`: devices that are slow, interrupted, failing or full
+//! - `drawings`: the four types of drawing
+//! - `equality`: `==` and `clone` of public types
+//! - `fault_texts`: the numbers and the texts of faults
+//! - `faults`: faults of the arguments and of the input
+//! - `folding`: the options `-i` and `-k`
+//! - `letter_a`: the drawing of `A` that another encoder made
+//! - `runs`: runs the command with devices in memory
+//! - `series`: series of symbols
+//! - `settings`: the settings that arguments give
 #![tactic(auto)]
 
 #[cfg(test)]
