@@ -4,6 +4,15 @@
 //!
 //! A trial makes the arguments first, then calls the function, and then checks that the arguments are unchanged. 1-M
 //! stands for version 1 and level M.
+//!
+//! The files of `src`:
+//!
+//! - `answer`: what a trial can end with
+//! - `bits`: trials of `qr_bits`
+//! - `command`: trials of `qrencode_cli`
+//! - `drawings`: trials of `parse_drawing`
+//! - `interpreted`: trials with an ECI or with GS1 data
+//! - `symbols`: trials of `qr_symbol`, `qr_mending` and `qr_matrix`
 #![tactic(auto)]
 
 mod answer;

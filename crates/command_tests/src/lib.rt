@@ -1,4 +1,18 @@
 //! Tests of the command with devices in memory, and of drawings and devices. 1-M stands for version 1 and level M.
+//!
+//! The files of `src`:
+//!
+//! - `checks`: the macros `check!` and `check_eq!`
+//! - `counted`: tests of `Counted` and `Bounded`
+//! - `device_faults`: devices that are slow, interrupted, failing or full
+//! - `drawings`: the four types of drawing
+//! - `fault_texts`: the numbers and the texts of faults
+//! - `faults`: faults of the arguments and of the input
+//! - `folding`: the options `-i` and `-k`
+//! - `letter_a`: the drawing of `A` that another encoder made
+//! - `runs`: runs the command with devices in memory
+//! - `series`: series of symbols
+//! - `settings`: the settings that arguments give
 #![tactic(auto)]
 
 #[cfg(test)]

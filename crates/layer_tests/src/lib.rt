@@ -1,5 +1,17 @@
 //! Tests of the public functions of `qr_layout`, `qr_field`, `qr_matrix` and `qr_bits`. 1-M stands for version 1 and
 //! level M.
+//!
+//! The files of `src`:
+//!
+//! - `checks`: the macros `check!` and `check_eq!`
+//! - `codewords`: data codewords, made and parsed
+//! - `field`: the field, and error correction codewords
+//! - `gs1`: GS1 data and ECIs
+//! - `layout`: versions, blocks, format and version information, roles
+//! - `matrix`: the square of modules
+//! - `penalty`: the penalty of squares
+//! - `segments`: segments, prefixes and folding
+//! - `walk`: the order in which codewords fill the region
 #![tactic(auto)]
 
 #[cfg(test)]

@@ -1,5 +1,10 @@
 //! Tests of parsing. Drawings of the command are parsed, read and joined. Drawings that were typed by hand are parsed
 //! too, and so are drawings in which bytes were changed at random.
+//!
+//! The files of `src`:
+//!
+//! - `checks`: the macros `check!` and `check_eq!`
+//! - `parsing`: tests of `parse_drawing`
 #![tactic(auto)]
 
 #[cfg(test)]

@@ -3,6 +3,13 @@
 //! calls are tried again. `Counted` makes a device of any reader or writer that implements the standard library's
 //! `Read` or `Write`, such as a file or a pipe. `Bounded` is such a writer: it appends a limited number of bytes to a
 //! vector in memory. `Trial` is a device in memory, for tests; its `Faults` say where its calls go wrong.
+//!
+//! The files of `src`:
+//!
+//! - `bounded`: a writer in memory that accepts a limited number of bytes
+//! - `device`: readers, writers and their counts; how often an interrupted call is tried again
+//! - `laws`: laws of devices and of their counts
+//! - `trial`: a device in memory, for tests
 #![tactic(auto)]
 
 mod bounded;

@@ -1,5 +1,19 @@
 //! The modules of a symbol as a square of bit rows, the same modules as bytes, the penalty of a square, and the number
 //! of modules in which two squares differ.
+//!
+//! The files of `src`:
+//!
+//! - `bit_row`: a row of modules in words of 64 bits
+//! - `bytes`: the modules of a square as bytes
+//! - `dark_runs`: the dark runs of a row
+//! - `difference`: the number of modules in which two squares differ
+//! - `laws`: laws of the penalty, of differences and of bytes
+//! - `matrix`: the square, stored and transposed; its definitions are in `Grid`
+//! - `matrix_pair`: two squares on which one operation works at once
+//! - `penalties`: the penalty of a square (Table 11); its definitions are in `Penalty`
+//! - `rows`: the operations by which the penalty is computed, such as the addition of rows column by column
+//! - `runs`: points for runs, and for squares of two by two modules
+//! - `windows`: points for windows that look like a finder pattern
 #![tactic(auto)]
 
 mod bit_row;

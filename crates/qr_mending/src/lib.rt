@@ -2,6 +2,22 @@
 //! codeword is misread if it was read with a wrong value, and erased if it is known to be unreadable. A block is mended
 //! if no more of its codewords are misread or erased than the standard allows. The level and the mask are found by the
 //! two copies of the format information, and are taken only if all blocks can be mended with them.
+//!
+//! The files of `src`:
+//!
+//! - `block`: mends a block
+//! - `erasures`: mends a block of which some codewords are erased
+//! - `errors`: removes the errors of the codewords at known locations
+//! - `format`: the level and the mask, by both copies of the format information
+//! - `laws`: laws of mending
+//! - `locator`: the error locator, by the algorithm of Berlekamp and Massey; defined in `Steps/Polynomial`
+//! - `mending`: mends and reads a symbol, and measures its damage
+//! - `message`: mends the data codewords of a symbol, block by block
+//! - `polynomial`: polynomials over the field with the leading coefficient 1
+//! - `roots`: polynomials with a root for each erased codeword
+//! - `scan`: what was read of a square of modules
+//! - `series`: mends the symbols of a series, and joins their bytes
+//! - `sums`: syndromes, and values of the locator, sixteen at a time
 #![tactic(auto)]
 
 mod block;

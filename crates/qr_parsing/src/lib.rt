@@ -6,6 +6,14 @@
 //! it draws the result again, and compares this drawing with the text. So no other check of the text is needed: if the
 //! text is no drawing, the drawing of whatever was read from it differs from the text. The parse draws at most one byte
 //! more than the text has.
+//!
+//! The files of `src`:
+//!
+//! - `laws`: laws of parsing
+//! - `parsing`: guesses the drawing that a text can be, draws it, and compares
+//! - `sheet`: the list of bytes from which the modules of any drawing are read
+//! - `svg`: the sheet of an SVG document
+//! - `text`: the type of a text, and its sheet
 #![tactic(auto)]
 
 pub mod laws;

@@ -19,6 +19,25 @@
 //! In this crate the message is the data codewords of a symbol, and the final sequence is all its codewords,
 //! interleaved. The region is all modules outside the function patterns, the dark module, the format information and
 //! the version information. A plain symbol is one without a structured append header.
+//!
+//! The files of `src`:
+//!
+//! - `canvas`: draws symbols on a canvas that all symbols of a series share
+//! - `collecting`: collects the codewords from the strips
+//! - `encoding`: encodes an input as one symbol
+//! - `fault`: the faults of encoding and of reading
+//! - `interleaving`: blocks, their error correction codewords, and the final sequence
+//! - `joining`: reads the symbols of a series, and joins their bytes
+//! - `laws`: laws of masks, interleaving, reading and series
+//! - `mask`: what a mask inverts (Table 10), and the choice of the mask (`Choice`)
+//! - `patterns`: the colours of function patterns, format information and version information
+//! - `placement`: draws the codewords into the strips
+//! - `reading`: reads one symbol, without error correction
+//! - `series`: encodes an input as a series
+//! - `spans`: the rows of a strip that are drawn or read at once
+//! - `symbol`: makes the symbol of given codewords under a given mask
+//! - `version_choice`: the least version, and the highest level, that an input fits
+//! - `words`: moves bits within words, and collects bits into codewords
 #![tactic(auto)]
 
 mod canvas;

@@ -2,6 +2,15 @@
 //! arguments, and returns `Settings` or a `UsageFault`. For its callers the crate also exports the devices `Counted`
 //! and `Trial` of `qr_devices`, with the traits `Source` and `Sink` and the types `ReadCounts`, `WriteCounts`,
 //! `Trouble` and `Faults`; and `draw` of `qr_drawing`, with the types `Drawing` and `DrawFault`.
+//!
+//! The files of `src`:
+//!
+//! - `arguments`: the options, as they are declared for `clap`
+//! - `command`: a run: settings, input, symbols and drawing; its definitions are in `Input`, `Symbols` and `Command`
+//! - `drawing_job`: the symbols that a run draws, and how
+//! - `fault`: the faults of a run, and the line that reports each
+//! - `laws`: laws of the command
+//! - `settings`: the settings of a run, with their defaults
 #![tactic(auto)]
 
 mod arguments;

@@ -12,6 +12,23 @@
 //! If a call cannot do what it is asked for, it returns the status of the first cause that applies, in the order in
 //! which its comment lists the causes. If memory is refused, it returns `MEMORY`. The comment also names the causes
 //! that are found before memory is requested. These are reported even if memory would be refused.
+//!
+//! The files of `src`:
+//!
+//! - `checks`: the macros `check!` and `check_eq!` for tests
+//! - `drawing`: the call that draws squares of modules
+//! - `encoding`: the call that encodes an input as one symbol
+//! - `interpretation`: ECI headers and FNC1, as numbers for C
+//! - `laws`: laws about the calls and their numbers
+//! - `mending`: the call that reads a damaged symbol and measures its damage
+//! - `modules`: squares of modules as bytes of a buffer
+//! - `parsing`: the call that parses a drawing
+//! - `reading`: the call that reads a symbol without error correction
+//! - `samples`: symbols for the tests
+//! - `series`: the call that encodes an input as a series
+//! - `settings`: which numbers of a caller are allowed, and what they mean
+//! - `status`: the statuses that calls return
+//! - `version`: the version of the library
 #![tactic(auto)]
 
 #[cfg(test)]

@@ -3,6 +3,15 @@
 //! It prints a line for each job, with a digest of all results of the job. `bench/run` measures how long the program
 //! takes. Where a result can never be too large for its type, `saturating_add` and `saturating_mul` stand for `+` and
 //! `*`, because the prover does not know that the result fits.
+//!
+//! The files of `src`:
+//!
+//! - `checking`: the jobs that read and mend symbols
+//! - `digest`: a number that depends on all results of a job
+//! - `library`: the job of programs that call the library
+//! - `printing`: the jobs of the command
+//! - `random`: numbers that depend only on a seed
+//! - `texts`: the inputs of the jobs
 #![tactic(auto)]
 
 mod checking;
