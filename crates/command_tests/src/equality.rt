@@ -5,7 +5,7 @@ use qr_bits::{
     BitFault, Designator, EciChange, Fnc1, Header, Interpretation, Item, Mode, ParseFault, Rule,
     Segment,
 };
-use qr_layout::{Level, Place, Role, Strip, Version};
+use qr_layout::{Level, Module, Role, Strip, Version};
 use qr_parsing::DrawingFault;
 use qr_symbol::{EncodeFault, ReadFault};
 use qrencode_cli::{DrawFault, Drawing, Faults, ReadCounts, Trouble, WriteCounts};
@@ -21,9 +21,9 @@ fn of_the_layout(rt: HostRuntime) -> Result<(), Fail> {
     let role = Role::FormatBit(3);
     check!(rt; role == role && role != Role::VersionBit(3) && role != Role::FormatBit(4));
     check_eq!(rt; role.clone()?, role);
-    let place = Place { row: 1, col: 2 };
+    let place = Module { row: 1, col: 2 };
     check!(rt;
-        place == place && place != Place { row: 1, col: 3 } && place != Place { row: 0, col: 2 }
+        place == place && place != Module { row: 1, col: 3 } && place != Module { row: 0, col: 2 }
     );
     check_eq!(rt; place.clone()?, place);
     let blocks = first.blocks(Level::L);
