@@ -37,10 +37,21 @@ static DATA: [u8; 16] = [
     0x51, 0x03, 0x80, 0xA6, 0x44, 0xEA, 0x8D, 0xEC, 0x90, 0x1F, 0x57, 0x80, 0xAD, 0xA8, 0x58, 0x00,
 ];
 
-// Data codewords of level M: FNC1 in first position, the characters `A%B%%C`, ECI 26, and `%%` in byte mode. `READ` has
-// the bytes that they stand for.
+// Data codewords of level M: FNC1 in first position, the characters `A%B%%C`, ECI 26, and `%%` in byte mode.
+// `PARSED_SEGMENTS` has their segments, and `READ` has the bytes that they stand for.
 static MARKED: [u8; 16] = [
     0x52, 0x03, 0x1E, 0x84, 0x2B, 0xAE, 0x9C, 0x69, 0x00, 0x89, 0x49, 0x40, 0xEC, 0x11, 0xEC, 0x11,
+];
+
+static PARSED_SEGMENTS: [Segment; 2] = [
+    Segment {
+        mode: Mode::Alphanumeric,
+        len: 6,
+    },
+    Segment {
+        mode: Mode::Byte,
+        len: 2,
+    },
 ];
 
 static READ: [u8; 7] = *b"A\x1DB%C%%";
@@ -176,6 +187,19 @@ pub fn parsed(alloc: Global) -> Result<Answer, AllocError> {
         Err(_) => Answer::Other,
     };
     Ok(answer.given(data.as_slice() == MARKED.as_slice()))
+}
+
+pub fn segments_parsed(alloc: Global) -> Result<Answer, AllocError> {
+    let data = Vec::from_slice(alloc, &MARKED)?;
+    let parsed = match parse(alloc, &data, Version::FIRST) {
+        Ok(parsed) => parsed,
+        Err(_) => return Err(AllocError),
+    };
+    let answer = match parsed.segments(alloc) {
+        Ok(segments) => Answer::of(segments.as_slice() == PARSED_SEGMENTS.as_slice()),
+        Err(_) => Answer::Memory("AllocError, arguments unchanged"),
+    };
+    Ok(answer.given(is_read(&parsed)))
 }
 
 // The symbol with the data codewords `MARKED`, or nothing if a list of codewords has not the length that it should.

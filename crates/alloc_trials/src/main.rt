@@ -29,7 +29,7 @@ use std::process::ExitCode;
 
 // The names of the trials. The trials of a crate come after those of the crates that it uses, and the trials with an ECI
 // or with GS1 data come last.
-static NAMES: [&str; 42] = [
+static NAMES: [&str; 43] = [
     "Matrix::new",
     "matrix_of_bytes",
     "matrices_of_bytes",
@@ -68,6 +68,7 @@ static NAMES: [&str; 42] = [
     "segments of GS1 data",
     "codewords of GS1 data",
     "parse of GS1 data with an ECI",
+    "Parsed::segments of GS1 data with an ECI",
     "encode of GS1 data",
     "encode_series of GS1 data",
     "encode_boosted with an ECI",
@@ -122,6 +123,7 @@ fn interpreted_trial(alloc: Global, name: &str) -> Result<Answer, AllocError> {
         "segments of GS1 data" => interpreted::segmented(alloc),
         "codewords of GS1 data" => interpreted::written(alloc),
         "parse of GS1 data with an ECI" => interpreted::parsed(alloc),
+        "Parsed::segments of GS1 data with an ECI" => interpreted::segments_parsed(alloc),
         "encode of GS1 data" => interpreted::encoded(alloc),
         "encode_series of GS1 data" => interpreted::encoded_series(alloc),
         "encode_boosted with an ECI" => interpreted::boosted(alloc),

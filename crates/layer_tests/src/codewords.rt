@@ -270,6 +270,18 @@ fn interpretations(rt: HostRuntime) -> Result<(), Fail> {
     };
     let parsed = parse(rt.alloc(), &fields, Version::FIRST)?;
     check_eq!(rt; parsed.ecis.first().copied(), Some(change));
+    let own = parsed.segments(rt.alloc())?;
+    let characters = Segment {
+        mode: Mode::Alphanumeric,
+        len: 6,
+    };
+    let bytes = Segment {
+        mode: Mode::Byte,
+        len: 2,
+    };
+    check_eq!(rt; own.len(), 2, "FNC1 and the ECI header are no segments");
+    check_eq!(rt; own.first().copied(), Some(characters), "A%B%%C");
+    check_eq!(rt; own.get(1).copied(), Some(bytes), "%% under ECI 26");
     Ok(())
 }
 

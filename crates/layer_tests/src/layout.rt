@@ -2,7 +2,7 @@
 
 use crate::checks::{check, check_eq};
 use qr_layout::{
-    Blocks, Level, Place, Role, Version, alignment_centres, fixed_rectangles, format_word, role_at,
+    Blocks, Level, Module, Role, Version, alignment_centres, cell, fixed_rectangles, format_word,
 };
 use std::test::Fail;
 
@@ -145,7 +145,7 @@ fn centres_without_the_corners(rt: HostRuntime) -> Result<(), Fail> {
     let places = alignment_centres(version);
     check!(rt; places.len() == centres.len(), "six patterns");
     for (place, (row, col)) in places.iter().zip(centres) {
-        check_eq!(rt; *place, Place { row, col });
+        check_eq!(rt; *place, Module { row, col });
     }
     Ok(())
 }
@@ -165,7 +165,7 @@ fn role_in(number: u8, row: u8, col: u8) -> Option<Role> {
     let version = Version::new(number)?;
     let side = version.side();
     if row < side && col < side {
-        Some(role_at(version, row, col))
+        Some(cell(version, row, col))
     } else {
         None
     }

@@ -34,13 +34,13 @@ fn a_rectangle_is_filled(rt: HostRuntime) -> Result<(), Fail> {
 }
 
 #[test]
-fn four_modules_are_four_bits(rt: HostRuntime) -> Result<(), Fail> {
+fn eight_modules_are_eight_bits(rt: HostRuntime) -> Result<(), Fail> {
     let mut matrix = Matrix::new(rt.alloc(), 72)?;
     matrix.set(1, 64, true);
     matrix.set(1, 66, true);
     matrix.set(1, 67, true);
-    check_eq!(rt; matrix.four(1, 64), 0b1101);
-    check_eq!(rt; matrix.four(1, 60), 0);
+    check_eq!(rt; matrix.eight(1, 64), 0b1101);
+    check_eq!(rt; matrix.eight(1, 56), 0);
     Ok(())
 }
 
@@ -105,28 +105,6 @@ fn a_square_is_transposed(rt: HostRuntime) -> Result<(), Fail> {
 fn a_light_row_is_one_run(rt: HostRuntime) -> Result<(), Fail> {
     let matrix = Matrix::new(rt.alloc(), 177)?;
     check_eq!(rt; matrix.run_end(0, 60), 177);
-    Ok(())
-}
-
-#[test]
-fn four_bits_are_set(rt: HostRuntime) -> Result<(), Fail> {
-    for (place, bits) in [(0u8, 0b0001u8), (60, 0b0110), (64, 0b1011), (188, 0b1111)] {
-        check!(rt; place <= 188 && place % 4 == 0 && bits < 16);
-        let mut row = Matrix::new(rt.alloc(), 1)?.bit_row(0);
-        row.set_four(place, bits);
-        check_eq!(rt; row.four(place), bits, "bits from {place} on");
-        for other in 0..192u8 {
-            if other < place || place + 4 <= other {
-                check!(rt; !row.at(other), "bit {other}, not from {place} on");
-            }
-        }
-        row.set_four(place, 0b1000);
-        check_eq!(rt;
-            row.four(place),
-            bits | 0b1000,
-            "one bit more from {place} on"
-        );
-    }
     Ok(())
 }
 

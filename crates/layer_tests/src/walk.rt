@@ -1,12 +1,12 @@
 //! Tests of the order in which codewords fill the region.
 
 use crate::checks::{check, check_eq};
-use qr_layout::laws::{default_place, first_version, nth_place};
-use qr_layout::{Place, Strip, Version, all_strips, region_len, walk, walk_after};
+use qr_layout::laws::{default_module, first_version, nth_place};
+use qr_layout::{Module, Strip, Version, all_strips, region_len, walk, walk_after};
 use std::test::Fail;
 
-fn at((row, col): (u8, u8)) -> Place {
-    Place { row, col }
+fn at((row, col): (u8, u8)) -> Module {
+    Module { row, col }
 }
 
 #[test]
@@ -99,9 +99,9 @@ fn lengths_of_the_region(rt: HostRuntime) -> Result<(), Fail> {
 #[test]
 fn walk_over_column_6(rt: HostRuntime) -> Result<(), Fail> {
     let version = Version::FIRST;
-    let mut steps = walk_after(version, Place { row: 9, col: 7 }).ok_or("not in the region")?;
+    let mut steps = walk_after(version, Module { row: 9, col: 7 }).ok_or("not in the region")?;
     for (row, col) in [(9, 5), (9, 4), (10, 5)] {
-        check_eq!(rt; steps.next(), Some(Place { row, col }));
+        check_eq!(rt; steps.next(), Some(Module { row, col }));
     }
     Ok(())
 }
@@ -127,16 +127,16 @@ fn strips_of_version_1(rt: HostRuntime) -> Result<(), Fail> {
 #[test]
 fn first_values(rt: HostRuntime) {
     check_eq!(rt; first_version().number(), 1);
-    check_eq!(rt; default_place(), Place { row: 0, col: 0 });
+    check_eq!(rt; default_module(), Module { row: 0, col: 0 });
 }
 
 #[test]
 fn places_by_their_numbers(rt: HostRuntime) -> Result<(), Fail> {
     let version = Version::FIRST;
     for (number, want) in [
-        (0, Some(Place { row: 20, col: 20 })),
-        (2, Some(Place { row: 19, col: 20 })),
-        (207, Some(Place { row: 12, col: 0 })),
+        (0, Some(Module { row: 20, col: 20 })),
+        (2, Some(Module { row: 19, col: 20 })),
+        (207, Some(Module { row: 12, col: 0 })),
         (208, None),
     ] {
         check_eq!(rt; nth_place(version, number), want, "number {number}");

@@ -42,6 +42,14 @@ may_follow may _ = false
 abbrev pub plain : List Segment → List Item
 plain segs = map (λ s. Data s) segs
 
+-- The segments among the items [own]
+unfoldable pub segments_among : List Item → List Segment
+segments_among [] = []
+segments_among (Data s ∷ is) = s ∷ segments_among is
+segments_among (Eci d ∷ is) = segments_among is
+segments_among (Fnc1First ∷ is) = segments_among is
+segments_among (Fnc1Second a ∷ is) = segments_among is
+
 -- If an ECI is given, its number has at most six digits (ISO/IEC 18004:2015, 7.4.2)
 abbrev pub InterpretationFits : Interpretation → Type 0
 InterpretationFits (written.Eci n) = n < 1000000

@@ -9,7 +9,7 @@ ghost use Rattle.std.specs.Prelude.{IfOk, IsTrue, ◌↔◌, List, OnOk, false, 
 ghost use Rattle.qr_bits.specs.declared.interpretation.Item.{Item};
 ghost use Rattle.qr_bits.specs.Steps.RunState.{is_gs1};
 ghost use Rattle.qr_bits.specs.Steps.Segmentation.{is_itself};
-ghost use Rattle.qr_bits.specs.Interpretation.{are_fields, eci_changes, fnc1_of, interpretation_bits, MayWrite, meant, meant_bytes, percent, separated, separator};
+ghost use Rattle.qr_bits.specs.Interpretation.{are_fields, eci_changes, fnc1_of, interpretation_bits, MayWrite, meant, meant_bytes, percent, segments_among, separated, separator};
 
 use crate::modes::Mode;
 use crate::segmentation::Segment;
@@ -294,6 +294,28 @@ pub(crate) fn interpreted(
         });
     }
     meaning_of(alloc, items, &characters)
+}
+
+// Appends an item to the list of segments, if it is one.
+#[tactic(auto, unfolding(crate::specs::Interpretation::segments_among))]
+fn push_segment(item: Item, segments: &mut Vec<Segment>) -> Result<(), AllocError>
+    ensures { OnOk result (segments.new.items ≡ segments.old.items ++ segments_among (item ∷ [])) }
+{
+    if let Item::Data(segment) = item {
+        segments.push(segment)?;
+    }
+    Ok(())
+}
+
+// Returns the segments among the items.
+pub(crate) fn segments_among(alloc: Global, items: &[Item]) -> Result<Vec<Segment>, AllocError>
+    ensures { IfOk result (λ s. s.items ≡ segments_among items.now) }
+{
+    let mut segments = Vec::new(alloc);
+    for item in items {
+        push_segment(*item, &mut segments)?;
+    }
+    Ok(segments)
 }
 
 // Returns FNC1 if it is among the items. Only ECI headers can come before it, so the search ends at the first segment.

@@ -7,12 +7,14 @@ ghost use Rattle.std.specs.Prelude.{Err, IfOk, List, MatchResult, length, take, 
 ghost use Rattle.qr_bits.specs.Modes.{byte_count, payload_bits};
 ghost use Rattle.qr_bits.specs.Bits.{bits_of};
 ghost use Rattle.qr_bits.specs.Parsing.{IsResultOf, bytes_of, character, characters_of, digits_of, first_header, header_at, application_at, designator_at, item_at, items_of, kanji_pair, leading_number, pairs_of, parse, segment_at, values_of};
-ghost use Rattle.qr_bits.specs.Interpretation.{fnc1_of, is_application_indicator, may_follow};
+ghost use Rattle.qr_bits.specs.Interpretation.{fnc1_of, is_application_indicator, may_follow, segments_among};
 ghost use Rattle.qr_bits.specs.Steps.Parsing.{IsFaultOf, IsReadOf, segment_of};
 
 use crate::bits::BitReader;
 use crate::fault::ParseFault;
-use crate::interpretation::{Designator, EciChange, Fnc1, Item, fnc1_of, interpreted};
+use crate::interpretation::{
+    Designator, EciChange, Fnc1, Item, fnc1_of, interpreted, segments_among,
+};
 use crate::modes::{
     CHARACTERS, ECI, FNC1_FIRST, FNC1_SECOND, KANJI_FACTOR, Mode, byte_count, count_width, mode_of,
     payload_bits,
@@ -20,7 +22,7 @@ use crate::modes::{
 use crate::segmentation::Segment;
 use crate::stream::Header;
 use qr_layout::Version;
-use std::alloc::Global;
+use std::alloc::{AllocError, Global};
 use std::marker::Model;
 
 // Limits of the numbers that are written for three digits, two digits, one digit, two characters, and one character.
@@ -70,6 +72,18 @@ impl Model for Parsed {
 }
 
 impl Parsed {
+    /// Returns the segments, in the order in which they are written. These are the items that are neither ECI headers
+    /// nor FNC1.
+    ///
+    /// # Errors
+    ///
+    /// Returns `AllocError` if memory is refused.
+    pub fn segments(&self, alloc: Global) -> Result<Vec<Segment>, AllocError>
+        ensures { IfOk result (λ s. s.items ≡ segments_among self.now.items) }
+    {
+        segments_among(alloc, &self.items)
+    }
+
     /// Returns FNC1, in first or second position, if it is among the items (ISO/IEC 18004:2015, 7.4.8).
     pub fn fnc1(&self) -> Option<Fnc1>
         ensures { result ≡ fnc1_of self.now.items }

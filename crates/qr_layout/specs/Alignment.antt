@@ -2,7 +2,7 @@
 -- centres have the same numbers as the rows that contain them.
 use Rattle.std.specs.Prelude.{ℕ, ◌-◌, Bool, ◌&&◌, ◌||◌, ◌==◌, if◌then◌else◌, List, [], ◌∷◌}
 use Rattle.std.specs.List.{flat_map, slice_index_or}
-use Rattle.qr_layout.specs.declared.region.Place.{Place}
+use Rattle.qr_layout.specs.declared.region.Module.{Module}
 
 -- For each of the versions 1 to 40, the numbers of the rows that contain centres of alignment patterns. The columns
 -- that contain centres have the same numbers (ISO/IEC 18004:2015, Annex E)
@@ -27,5 +27,5 @@ is_corner_pair s a b = (a == 6 && b == 6) || (a == 6 && b == s - 7) || (a == s -
 -- The centres of the alignment patterns. `cs` lists the numbers of the rows that contain centres, and also of the
 -- columns that do. A place whose row and column are both in this list is a centre, unless it is in a corner with a
 -- finder pattern (ISO/IEC 18004:2015, 6.3.6)
-abbrev pub alignment_places : ℕ → List ℕ → List Place
+abbrev pub alignment_places : ℕ → List ℕ → List Module
 alignment_places s cs = flat_map (λ a. flat_map (λ b. if is_corner_pair s a b then [] else record { row = a; col = b } ∷ []) cs) cs

@@ -5,7 +5,7 @@ use Rattle.std.specs.Prelude.{◌≡◌, ℕ, ◌+◌, ◌-◌, ◌*◌, ◌/◌
 use Prim.Native.Nat.{zero, suc}
 use Rattle.std.specs.Int.{bit_at}
 use Rattle.std.specs.List.{find, range_with_len}
-use Rattle.qr_layout.specs.declared.region.Place.{Place}
+use Rattle.qr_layout.specs.declared.region.Module.{Module}
 use Rattle.qr_layout.specs.declared.level.Level.{Level}
 use Rattle.qr_layout.specs.declared.level.Level.TheVariants.{L, M, Q, H}
 use Rattle.qr_layout.specs.Version.{side_of}
@@ -89,7 +89,7 @@ pub record IsVersionWord (v word : ℕ) : Type 0 where
 -- The place of bit `i` of the format information in the first copy, which is beside the top left finder pattern. The
 -- bits go down column 8 and then along row 8 to the left. They leave out the timing patterns (ISO/IEC 18004:2015,
 -- 7.9.1)
-abbrev pub first_place : ℕ → Place
+abbrev pub first_place : ℕ → Module
 first_place i = record {
   row = if nat_lt i 6 then i else (if i == 6 then 7 else 8);
   col = if nat_lt i 8 then 8 else (if i == 8 then 7 else 14 - i);
@@ -98,7 +98,7 @@ first_place i = record {
 -- The place of bit `i` of the format information in the second copy. Its bits 0 to 7 are below the top right finder
 -- pattern, from right to left, and its bits 8 to 14 beside the bottom left one, from the top down (ISO/IEC 18004:2015,
 -- 7.9.1)
-abbrev pub second_place : ℕ → ℕ → Place
+abbrev pub second_place : ℕ → ℕ → Module
 second_place s i = record {
   row = if nat_lt i 8 then 8 else s - 15 + i;
   col = if nat_lt i 8 then s - 1 - i else 8;
@@ -107,15 +107,15 @@ second_place s i = record {
 -- The place of bit `i` of the version information in the copy beside the top right finder pattern. Each of its six rows
 -- has three bits, with bit 0 at the top left. In the copy beside the bottom left finder pattern, rows and columns are
 -- exchanged (ISO/IEC 18004:2015, 7.10)
-abbrev pub version_place : ℕ → ℕ → Place
+abbrev pub version_place : ℕ → ℕ → Module
 version_place s i = record { row = i / 3; col = s - 11 + i % 3 }
 
 -- The place whose row is the column of `m`, and whose column is the row of `m` [own]
-abbrev pub mirror_of : Place → Place
+abbrev pub mirror_of : Module → Module
 mirror_of m = record { row = m.col; col = m.row }
 
 -- The place `m` is in row `r` and column `c` [own]
-abbrev pub is_at : Place → ℕ → ℕ → Bool
+abbrev pub is_at : Module → ℕ → ℕ → Bool
 is_at m r c = m.row == r && m.col == c
 
 -- The number of the bit of the format information that the module in row `r` and column `c` contains, where bit 0 is

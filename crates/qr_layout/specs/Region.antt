@@ -3,7 +3,7 @@
 use Rattle.std.specs.Prelude.{◌≡◌, ℕ, ◌-◌, Bool, true, max, not, ◌&&◌, ◌||◌, ◌==◌, nat_lt, nat_le}
 use Rattle.std.specs.Int.{abs_diff}
 use Rattle.std.specs.List.{list_any}
-use Rattle.qr_layout.specs.declared.region.Place.{Place}
+use Rattle.qr_layout.specs.declared.region.Module.{Module}
 use Rattle.qr_layout.specs.Version.{side_of}
 use Rattle.qr_layout.specs.Alignment.{centres_of, alignment_places}
 
@@ -45,5 +45,5 @@ is_in_region v r c =
     && not (is_corner (side_of v) r c || is_timing r c || is_version_information v r c || is_alignment v r c)
 
 -- The place `m` is in the region (ISO/IEC 18004:2015, 6.3.7, 7.7.3)
-abbrev pub InRegion : ℕ → Place → Type 0
+abbrev pub InRegion : ℕ → Module → Type 0
 InRegion v m = is_in_region v m.row m.col ≡ true

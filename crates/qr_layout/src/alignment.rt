@@ -9,7 +9,7 @@ ghost use Rattle.qr_layout.specs.Version.{side_of};
 ghost use Rattle.qr_layout.specs.Alignment.{alignment_places, centres_of, is_corner_pair};
 ghost use Rattle.qr_layout.specs.Region.{is_alignment};
 
-use crate::region::Place;
+use crate::region::Module;
 use crate::version::Version;
 use arrayvec::ArrayVec;
 
@@ -143,7 +143,7 @@ pub(crate) fn is_in_alignment(version: Version, row: u8, col: u8) -> bool
 
 /// Returns the centres of the alignment patterns of a version, row by row from the top, and in each row from left to
 /// right. Version 1 has none, and version 40 has 46 (ISO/IEC 18004:2015, 6.3.6 and Annex E).
-pub fn alignment_centres(version: Version) -> ArrayVec<Place, 49>
+pub fn alignment_centres(version: Version) -> ArrayVec<Module, 49>
     ensures { result.items ≡ alignment_places (side_of version) (centres_of version) }
 {
     let side = version.side();
@@ -153,7 +153,7 @@ pub fn alignment_centres(version: Version) -> ArrayVec<Place, 49>
     for row in centres {
         for col in centres {
             if !is_corner_pair(side, *row, *col) {
-                places.push(Place {
+                places.push(Module {
                     row: *row,
                     col: *col,
                 });

@@ -13,7 +13,7 @@ ghost use Rattle.qr_layout.specs.Version.{side_of};
 ghost use Rattle.qr_layout.specs.Format.{format_word_of, version_word_of, first_place, second_place, format_bit_at, version_bit_at};
 
 use crate::level::Level;
-use crate::region::{Place, is_in_version_copy};
+use crate::region::{Module, is_in_version_copy};
 use crate::version::Version;
 
 /// The number of bits of the format information, and of the modules in each of its two copies.
@@ -54,7 +54,7 @@ pub fn format_word(level: Level, mask: u8) -> u16
 
 /// Returns the place of a bit of the format information in the first copy, which is beside the top left finder pattern.
 /// Bits are numbered from 0, the lowest, to 14 (ISO/IEC 18004:2015, 7.9.1).
-pub fn format_place(bit: u8) -> Place
+pub fn format_place(bit: u8) -> Module
     requires { bit < FORMAT_BITS }
     ensures place { result ≡ first_place bit }
     ensures row_in { result.row < 21 }
@@ -74,12 +74,12 @@ pub fn format_place(bit: u8) -> Place
     } else {
         14 - bit
     };
-    Place { row, col }
+    Module { row, col }
 }
 
 /// Returns the place of a bit of the format information in the second copy, whose halves are beside the top right and
 /// the bottom left finder pattern. Bits are numbered from 0, the lowest, to 14 (ISO/IEC 18004:2015, 7.9.1).
-pub fn second_format_place(version: Version, bit: u8) -> Place
+pub fn second_format_place(version: Version, bit: u8) -> Module
     requires { bit < FORMAT_BITS }
     ensures place { result ≡ second_place (side_of version) bit }
     ensures row_in { result.row < side_of version }
@@ -88,7 +88,7 @@ pub fn second_format_place(version: Version, bit: u8) -> Place
     let side = version.side();
     let row = if bit < 8 { 8 } else { side - FORMAT_BITS + bit };
     let col = if bit < 8 { side - 1 - bit } else { 8 };
-    Place { row, col }
+    Module { row, col }
 }
 
 // The number of the bit of the format information at row `row` of column 8, or `None` if this module contains no such

@@ -4,7 +4,7 @@
 
 ghost use Rattle.std.specs.Prelude.{◌≡◌, ◌<◌, ◌≤◌, ◌-◌, ◌*◌, ◌/◌, ◌⊎◌, ◌↔◌, ◌||◌, not, true, ℕ, List, ◌∷◌, ◌++◌, length, map, slice_get, IsTrue};
 ghost use Rattle.std.specs.List.{list_any, range_with_len};
-ghost use Rattle.qr_layout.specs.declared.region.Place.{Place};
+ghost use Rattle.qr_layout.specs.declared.region.Module.{Module};
 ghost use Rattle.qr_layout.specs.declared.level.Level.{Level};
 ghost use Rattle.qr_layout.specs.declared.level.Level.TheVariants.{L, M, Q, H};
 ghost use Rattle.qr_layout.specs.declared.role.Role.TheVariants.{Fixed, FormatBit, VersionBit, Region};
@@ -23,19 +23,19 @@ ghost use Rattle.qr_layout.specs.Laws.{all_versions, printed_correction, printed
 use crate::blocks::Blocks;
 use crate::level::Level;
 use crate::order::walk;
-use crate::region::{Place, Rectangle};
+use crate::region::{Module, Rectangle};
 use crate::role::Role;
 use crate::version::Version;
 
 /// The region of a version has at most one order.
 pub fn order_is_one(version: Version)
-    ensures { (ms ns : List Place) → IsOrder version ms → IsOrder version ns → ms ≡ ns }
+    ensures { (ms ns : List Module) → IsOrder version ms → IsOrder version ns → ms ≡ ns }
 {}
 
 /// The order has a module for each bit of the codewords and for each remainder bit. It has at most 29,648 modules,
 /// which is its length in version 40.
 pub fn order_is_full(version: Version)
-    ensures count { (ms : List Place) → IsOrder version ms → length ms ≡ module_count_of version }
+    ensures count { (ms : List Module) → IsOrder version ms → length ms ≡ module_count_of version }
     ensures most { module_count_of version ≤ 29648 }
 {}
 
@@ -63,23 +63,23 @@ pub fn region_is_symmetric(version: Version)
 
 /// `index_of` is how many modules come before a module in the order.
 pub fn index_counts(version: Version)
-    ensures { (front back : List Place) (m : Place) → IsOrder version (front ++ m ∷ back)
+    ensures { (front back : List Module) (m : Module) → IsOrder version (front ++ m ∷ back)
         → index_of version m ≡ length front }
 {}
 
 /// The indices of the modules of the region begin with 0 and have no gaps: each index below the number of these modules
 /// is that of exactly one of them.
 pub fn indices_are_places(version: Version)
-    ensures below { (m : Place) → InRegion version m → index_of version m < module_count_of version }
-    ensures one_place { (m n : Place) → InRegion version m → InRegion version n
+    ensures below { (m : Module) → InRegion version m → index_of version m < module_count_of version }
+    ensures one_place { (m n : Module) → InRegion version m → InRegion version n
         → index_of version m ≡ index_of version n → m ≡ n }
     ensures each_index { (n : ℕ) → n < module_count_of version
-        → (m : Place) × InRegion version m × (index_of version m ≡ n) }
+        → (m : Module) × InRegion version m × (index_of version m ≡ n) }
 {}
 
 /// Returns the place with this index in the order of a version, or `None` if the order is shorter.
-pub fn nth_place(version: Version, index: usize) -> Option<Place>
-    ensures { (ms : List Place) → IsOrder version ms → result ≡ slice_get ms index }
+pub fn nth_place(version: Version, index: usize) -> Option<Module>
+    ensures { (ms : List Module) → IsOrder version ms → result ≡ slice_get ms index }
 {
     walk(version).nth(index)
 }
@@ -220,7 +220,7 @@ pub fn format_bits_have_places(version: Version)
     ensures second { (i : ℕ) → i < 15
         → role_of version (second_place (side_of version) i).row (second_place (side_of version) i).col
         ≡ FormatBit i }
-    ensures no_other { (m : Place) (i : ℕ) → role_of version m.row m.col ≡ FormatBit i
+    ensures no_other { (m : Module) (i : ℕ) → role_of version m.row m.col ≡ FormatBit i
         → (i < 15) × ((m ≡ first_place i) ⊎ (m ≡ second_place (side_of version) i)) }
 {}
 
@@ -233,7 +233,7 @@ pub fn version_bits_have_places(version: Version)
     ensures second { (i : ℕ) → 7 ≤ version → i < 18
         → role_of version (version_place (side_of version) i).col (version_place (side_of version) i).row
         ≡ VersionBit i }
-    ensures no_other { (m : Place) (i : ℕ) → role_of version m.row m.col ≡ VersionBit i
+    ensures no_other { (m : Module) (i : ℕ) → role_of version m.row m.col ≡ VersionBit i
         → (7 ≤ version) × (i < 18)
         × ((m ≡ version_place (side_of version) i) ⊎ (m ≡ mirror_of (version_place (side_of version) i))) }
 {}
@@ -258,10 +258,10 @@ pub fn first_version() -> Version
 }
 
 /// Returns the default place, row 0 and column 0.
-pub fn default_place() -> Place
+pub fn default_module() -> Module
     ensures { result ≡ record { row = 0; col = 0 } }
 {
-    Place::default()
+    Module::default()
 }
 
 /// Returns the default rectangle, which has no rows and no columns.

@@ -15,10 +15,10 @@ ghost use Rattle.std.specs.Iterator.{YieldsFirst, item_count};
 ghost use Rattle.qr_layout.specs.Region.{InRegion};
 ghost use Rattle.qr_layout.specs.Order.{IsOrder, IsOrderAfter};
 ghost use Rattle.qr_layout.specs.Version.{module_count_of, side_of};
-ghost use Rattle.qr_layout.specs.declared.region.Place.{Place};
+ghost use Rattle.qr_layout.specs.declared.region.Module.{Module};
 ghost use Rattle.qr_layout.specs.Steps.Order.{IsCursor, place_of, next_of, cursor_at};
 
-use crate::region::{Place, is_in_region};
+use crate::region::{Module, is_in_region};
 use crate::strips::{column_without_timing, strip_at};
 use crate::version::Version;
 use std::marker::Model;
@@ -35,14 +35,14 @@ struct Cursor {
 
 impl Cursor {
     // The place of the module that the cursor is at. There are at most 88 strips, in version 40.
-    fn place(self) -> Place
+    fn place(self) -> Module
         requires strips_left { 0 < self.strips_left }
         requires strips_in { self.strips_left ≤ 88 }
         ensures { result ≡ place_of self }
     {
         let right = strip_at(self.strips_left).right;
         let col = if self.at_left { right - 1 } else { right };
-        Place { row: self.row, col }
+        Module { row: self.row, col }
     }
 
     // The cursor at the module that comes next. After the last row of a strip comes the same row of the next strip.
@@ -76,7 +76,7 @@ impl Cursor {
 
     // The cursor at a place. It has no meaning if the place is in column 6, which is in no strip.
     #[tactic(auto, unfolding(crate::specs::Steps::Order::cursor_at))]
-    fn at(place: Place) -> Cursor
+    fn at(place: Module) -> Cursor
         ensures { result ≡ cursor_at place }
     {
         let untimed = column_without_timing(place.col);
@@ -95,32 +95,32 @@ impl Cursor {
 ///
 /// The iterator stores the version and the place that it has reached, but no list of places.
 #[derive(Drop)]
-pub struct Places {
+pub struct Steps {
     version: Version,
     cursor: Cursor,
 }
 
-impl Model for Places {
+impl Model for Steps {
     ghost use Rattle.std.specs.Prelude.{◌≤◌, List};
-    ghost use Rattle.qr_layout.specs.declared.region.Place.{Place};
+    ghost use Rattle.qr_layout.specs.declared.region.Module.{Module};
     ghost use Rattle.qr_layout.specs.Steps.Order.{to_come, IsCursor};
 
-    ghost Value = { List Place };
+    ghost Value = { List Module };
 
     ghost view = { λ s. to_come s.version s.cursor };
 
     ghost invariant = { λ s. (1 ≤ s.version) × (s.version ≤ 40) × IsCursor s.version s.cursor };
 }
 
-impl Iterator for Places {
-    type Item = Place;
+impl Iterator for Steps {
+    type Item = Module;
 
     ghost next_gives = { YieldsFirst (λ s. s) };
 
     ghost remaining = { item_count (λ s. s) };
 
     #[inline(always)]
-    fn next(&mut self) -> Option<Place> {
+    fn next(&mut self) -> Option<Module> {
         while self.cursor.strips_left > 0 {
             let here = self.cursor.place();
             self.cursor = self.cursor.next(self.version);
@@ -135,43 +135,43 @@ impl Iterator for Places {
 /// Returns an iterator over all places of the region (the places outside the function patterns, the dark module, the
 /// format information and the version information), each once, in the order in which they are filled. The places of the
 /// codewords come first, and those of the remainder bits last (ISO/IEC 18004:2015, 7.7.3).
-pub fn walk(version: Version) -> Places
-    ensures order { IsOrder version result }
-    ensures count { length result ≡ module_count_of version }
+pub fn walk(v: Version) -> Steps
+    ensures order { IsOrder v result }
+    ensures count { length result ≡ module_count_of v }
 {
-    Places {
-        version,
+    Steps {
+        version: v,
         cursor: Cursor {
             // All columns but column 6 are in strips, so there are (side - 1) / 2 strips.
-            strips_left: 8 + 2 * version.number(),
-            row: version.side() - 1,
+            strips_left: 8 + 2 * v.number(),
+            row: v.side() - 1,
             at_left: false,
         },
     }
 }
 
-/// Returns an iterator over the places that come after `place` in `walk`, or `None` if `place` is outside the region or
-/// outside the symbol.
-pub fn walk_after(version: Version, place: Place) -> Option<Places>
-    ensures given { IsSome result ↔ InRegion version place }
-    ensures rest { IfSome result (IsOrderAfter version place) }
+/// Returns an iterator over the places that come after `m` in `walk`, or `None` if `m` is outside the region or outside
+/// the symbol.
+pub fn walk_after(v: Version, m: Module) -> Option<Steps>
+    ensures given { IsSome result ↔ InRegion v m }
+    ensures rest { IfSome result (IsOrderAfter v m) }
 {
-    if !is_in_region(version, place.row, place.col) {
+    if !is_in_region(v, m.row, m.col) {
         return None;
     }
-    let here = Cursor::at(place);
-    let next = here.next(version);
-    Some(Places {
-        version,
+    let here = Cursor::at(m);
+    let next = here.next(v);
+    Some(Steps {
+        version: v,
         cursor: next,
     })
 }
 
 /// Returns the number of modules of the region: 8 for each codeword, and 1 for each remainder bit. These are 208 in
 /// version 1, and 29,648 in version 40 (ISO/IEC 18004:2015, 7.1, Table 1).
-pub fn region_len(version: Version) -> u32
-    ensures count { result ≡ module_count_of version }
-    ensures length { (ms : List Place) → IsOrder version ms → length ms ≡ result }
+pub fn region_len(v: Version) -> u32
+    ensures count { result ≡ module_count_of v }
+    ensures length { (ms : List Module) → IsOrder v ms → length ms ≡ result }
 {
-    8 * u32::from(version.total_codewords()) + u32::from(version.remainder_bits())
+    8 * u32::from(v.total_codewords()) + u32::from(v.remainder_bits())
 }

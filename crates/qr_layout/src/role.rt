@@ -82,22 +82,22 @@ fn pattern_colour(version: Version, row: u8, col: u8) -> Option<bool>
 /// Returns what the module in this row and column is for in a symbol of this version. Rows are counted from 0 at the
 /// top, and columns from 0 at the left (ISO/IEC 18004:2015, 6.3 and 7.7.2).
 #[tactic(auto, unfolding(crate::specs::Role::role_of))]
-pub fn role_at(version: Version, row: u8, col: u8) -> Role
-    requires row_in { row < side_of version }
-    requires col_in { col < side_of version }
-    ensures { result ≡ role_of version row col }
+pub fn cell(v: Version, row: u8, col: u8) -> Role
+    requires row_in { row < side_of v }
+    requires col_in { col < side_of v }
+    ensures { result ≡ role_of v row col }
 {
-    if let Some(dark) = pattern_colour(version, row, col) {
+    if let Some(dark) = pattern_colour(v, row, col) {
         return Role::Fixed(dark);
     }
-    let side = version.side();
+    let side = v.side();
     if row == side - 8 && col == 8 {
         return Role::Fixed(true);
     }
     if let Some(bit) = format_bit(side, row, col) {
         return Role::FormatBit(bit);
     }
-    match version_bit(version, row, col) {
+    match version_bit(v, row, col) {
         Some(bit) => Role::VersionBit(bit),
         None => Role::Region,
     }

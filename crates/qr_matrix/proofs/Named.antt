@@ -1,9 +1,9 @@
 -- The lemmas that the attributes of functions name.
-use Rattle.qr_matrix.proofs.lemmas.{bit_row.PlaceLemmas.{at-step, eight-step, four-step, words-small}, matrix.TranspositionLemmas.{word-put, word-read}}
+use Rattle.qr_matrix.proofs.lemmas.{bit_row.PlaceLemmas.{at-step, eight-step, words-small}, matrix.TranspositionLemmas.{word-put, word-read}}
 use Rattle.qr_matrix.proofs.lemmas.matrix.MatrixLemmas.{dark-replicate, light-square, row-read, rows-long}
 
 -- reading and writing parts of a bit row
-pub ruleset bit_row_facts = (at-step, four-step, eight-step, word-read, word-put, words-small)
+pub ruleset bit_row_facts = (at-step, eight-step, word-read, word-put, words-small)
 
 -- reading a row of modules
 pub ruleset row_facts = (row-read)

@@ -175,17 +175,6 @@ impl BitRow {
         self.0[usize::from(index / 64)] >> (index % 64) & 1 == 1
     }
 
-    /// Returns the four bits from bit `index` on as a number, of which bit `index` is the lowest bit.
-    #[tactic(auto, using(crate::proofs::Named::bit_row_facts))]
-    pub fn four(&self, index: u8) -> u8
-        requires index_in { index < 192 }
-        requires whole { index % 4 ≡ 0 }
-        ensures small { result < 16 }
-        ensures bits { (k : ℕ) → k < 4 → has_bit result k ≡ has self.now (index + k) }
-    {
-        ((self.0[usize::from(index / 64)] >> (index % 64)) % 16) as u8
-    }
-
     /// Sets bit `index` if `dark` is true, and clears it otherwise.
     pub fn put(&mut self, index: u8, dark: bool)
         requires { index < 192 }
@@ -216,17 +205,6 @@ impl BitRow {
         ensures { (i : ℕ) → has self.new i ≡ (has self.old i || nat_le index i && has_bit bits (i - index)) }
     {
         self.0[usize::from(index / 64)] |= bits << (index % 64);
-    }
-
-    /// Sets bit `index + k` for each bit `k` of `bits` that is 1, and changes no other bit.
-    pub fn set_four(&mut self, index: u8, bits: u8)
-        requires index_in { index < 192 }
-        requires whole { index % 4 ≡ 0 }
-        requires bits { bits < 16 }
-        ensures { (i : ℕ) → has self.new i
-            ≡ (has self.old i || nat_le index i && nat_lt i (index + 4) && has_bit bits (i - index)) }
-    {
-        self.set_bits(index, u64::from(bits));
     }
 
     /// Returns the bits from bit `index` to the highest bit of the word of 64 bits that contains it, as a number. Bit

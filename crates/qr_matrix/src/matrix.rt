@@ -77,19 +77,6 @@ impl Matrix {
         self.rows[usize::from(row)].at(col)
     }
 
-    /// Returns the four modules of row `row` from column `col` on as a number: the leftmost is the lowest bit, and a
-    /// set bit is dark.
-    #[tactic(auto, using(crate::proofs::Named::row_facts))]
-    pub fn four(&self, row: u8, col: u8) -> u8
-        requires row_in { row < self.now.side }
-        requires col_in { col + 4 ≤ self.now.side }
-        requires whole { col % 4 ≡ 0 }
-        ensures small { result < 16 }
-        ensures colours { (k : ℕ) → k < 4 → has_bit result k ≡ colour self.now row (col + k) }
-    {
-        self.rows[usize::from(row)].four(col)
-    }
-
     /// Returns the eight modules of row `row` from column `col` on as a number: the leftmost is the lowest bit, and a
     /// set bit is dark. Modules outside the square are light.
     #[tactic(auto, using(crate::proofs::Named::bit_row_facts, crate::proofs::Named::row_facts))]

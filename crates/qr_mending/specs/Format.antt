@@ -5,7 +5,7 @@ use Rattle.std.specs.Prelude.{ℕ, ◌+◌, ◌*◌, ◌<◌, ◌≤◌, ◌&&�
 use Prim.Native.Nat.{zero, suc}
 use Rattle.qr_layout.specs.declared.level.Level.{Level}
 use Rattle.qr_layout.specs.Format.{format_word_of}
-use Rattle.qr_layout.specs.declared.region.Place.{Place}
+use Rattle.qr_layout.specs.declared.region.Module.{Module}
 use Rattle.qr_layout.specs.Format.{first_place, second_place}
 use Rattle.qr_matrix.specs.Grid.{Grid, colour, is_same}
 use Rattle.qr_matrix.specs.Sums.{count_below}
@@ -16,7 +16,7 @@ use Rattle.qr_mending.specs.declared.format.FormatCopy.TheVariants.{First, Secon
 -- The place of the module that shows bit `i` in a copy of the format information, if the symbol has `s` modules on a
 -- side. Bit 0 is the lowest. The first copy is beside the top left finder pattern, and the second beside the other two
 -- (ISO/IEC 18004:2015, 7.9.1)
-abbrev pub copy_place : FormatCopy → ℕ → ℕ → Place
+abbrev pub copy_place : FormatCopy → ℕ → ℕ → Module
 copy_place First s i = first_place i
 copy_place Second s i = second_place s i
 

@@ -8,7 +8,7 @@ use Rattle.qr_field.specs.Polynomial.{IsCorrection}
 use Rattle.qr_field.specs.Distance.{erasures}
 use Rattle.qr_layout.specs.declared.blocks.Blocks.{Blocks}
 use Rattle.qr_layout.specs.declared.level.Level.{Level}
-use Rattle.qr_layout.specs.declared.region.Place.{Place}
+use Rattle.qr_layout.specs.declared.region.Module.{Module}
 use Rattle.qr_layout.specs.Blocks.{blocks_of, spare_of}
 use Rattle.qr_layout.specs.Order.{IsOrder}
 use Rattle.qr_layout.specs.Version.{total_codewords_of}
@@ -24,12 +24,12 @@ received b d e i = part_of (data_sizes b) d i ++ part_of (correction_sizes b) e 
 
 -- The eight modules of codeword `k` of the final sequence, counted from 0, if `places` is the order of all modules of
 -- the region (ISO/IEC 18004:2015, 7.7.3)
-abbrev pub modules_of : List Place → ℕ → List Place
+abbrev pub modules_of : List Module → ℕ → List Module
 modules_of places k = take 8 (drop (8 * k) places)
 
 -- What was read of codeword `k` of the final sequence, counted from 0: `None` if one of its modules was not read, and
 -- its value in `cw` otherwise (ISO/IEC 18004:2015, 7.7.3)
-abbrev pub read_at : Grid → List Place → List ℕ → ℕ → Option ℕ
+abbrev pub read_at : Grid → List Module → List ℕ → ℕ → Option ℕ
 read_at unknown places cw k =
     if list_any (λ m. colour unknown m.row m.col) (modules_of places k) then None else Some (slice_index cw k)
 
@@ -63,7 +63,7 @@ pub record IsMendedBlock (b : Blocks) (spare : ℕ) (read : List (Option ℕ)) (
 -- `message`. Item i of `changed` counts the codewords of block i, counted from 0, that are misread and erased (ISO/IEC
 -- 18004:2015, 7.5.1, 7.6, 7.7.3)
 pub record IsMendedIn (unknown : Grid) (v : ℕ) (l : Level) (cw message : List ℕ) (changed : List Changes) : Type 0 where
-  pub places : List Place
+  pub places : List Module
   pub order : IsOrder v places
   pub indices : List ℕ
   pub checks : List ℕ

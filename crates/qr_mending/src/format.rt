@@ -14,7 +14,7 @@ ghost use Rattle.qr_mending.specs.Mending.{wrong_format_least, wrong_format_modu
 
 use crate::scan::Scan;
 use qr_layout::{
-    FORMAT_BITS, Level, Place, Version, format_place, format_word, second_format_place,
+    FORMAT_BITS, Level, Module, Version, format_place, format_word, second_format_place,
 };
 
 // The number whose 15 lowest bits are 1 and whose other bits are 0.
@@ -33,7 +33,7 @@ pub(crate) enum FormatCopy {
 }
 
 impl FormatCopy {
-    fn place(self, version: Version, bit: u8) -> Place
+    fn place(self, version: Version, bit: u8) -> Module
         requires { bit < FORMAT_BITS }
         ensures place { result ≡ copy_place self (side_of version) bit }
         ensures row_in { result.row < side_of version }

@@ -3,7 +3,7 @@
 use Rattle.std.specs.Prelude.{◌≡◌, ◌≢◌, ℕ, ◌-◌, ◌*◌, ◌<◌, ◌≤◌, Bool, false, List, ◌++◌, map, take, length, replicate, Option, Result, Ok, Err, None}
 use Rattle.std.specs.List.{All}
 use Rattle.qr_layout.specs.declared.level.Level.{Level}
-use Rattle.qr_layout.specs.declared.region.Place.{Place}
+use Rattle.qr_layout.specs.declared.region.Module.{Module}
 use Rattle.qr_layout.specs.Version.{side_of, total_codewords_of}
 use Rattle.qr_layout.specs.Blocks.{data_codewords_of}
 use Rattle.qr_layout.specs.Format.{format_word_of}
@@ -28,20 +28,20 @@ use Rattle.qr_symbol.specs.Interleaving.{IsInterleaved}
 
 -- The colour that module `m` had before the mask was applied: its colour in `g`, changed to the other colour if the
 -- mask inverts it (ISO/IEC 18004:2015, 12)
-abbrev pub unmasked : ℕ → Grid → Place → Bool
+abbrev pub unmasked : ℕ → Grid → Module → Bool
 unmasked mask g m = inverted (inverts mask m.row m.col) (colour g m.row m.col)
 
 -- The bits of all codewords of version `v`, read from the modules `ms` in turn. Each bit is the colour of a module with
 -- the mask undone, where `true` is dark. Modules that come after those of the last codeword are left out. If there are
 -- too few modules, the bits that are missing are `false` (ISO/IEC 18004:2015, 7.7.3, 12)
-abbrev pub read_bits : ℕ → ℕ → Grid → List Place → List Bool
+abbrev pub read_bits : ℕ → ℕ → Grid → List Module → List Bool
 read_bits v mask g ms = map (unmasked mask g) (take (8 * total_codewords_of v) ms) ++ replicate (8 * total_codewords_of v - length ms) false
 
 -- `cw` are the codewords in the region of the square `g`, read in the standard's order with the mask undone (ISO/IEC
 -- 18004:2015, 7.7.3, 12)
 pub record IsRead (v mask : ℕ) (g : Grid) (cw : List ℕ) : Type 0 where
   pub bytes : All (λ x. x < 256) cw
-  pub places : List Place
+  pub places : List Module
   pub order : IsOrder v places
   pub bits : bits_of cw ≡ read_bits v mask g places
 
@@ -50,7 +50,7 @@ pub record IsRead (v mask : ℕ) (g : Grid) (cw : List ℕ) : Type 0 where
 -- module of a symbol was not read (ISO/IEC 18004:2015, 7.7.3)
 pub record IsReadUnmasked (v : ℕ) (g : Grid) (cw : List ℕ) : Type 0 where
   pub bytes : All (λ x. x < 256) cw
-  pub places : List Place
+  pub places : List Module
   pub order : IsOrder v places
   pub bits : bits_of cw ≡ map (λ m. colour g m.row m.col) (take (8 * total_codewords_of v) places)
 

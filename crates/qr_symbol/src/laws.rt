@@ -4,7 +4,7 @@
 ghost use Rattle.std.specs.Prelude.{◌≡◌, ◌<◌, ◌≤◌, ◌+◌, ◌%◌, ◌⊎◌, ℕ, false, List, length, map, Option, [], ◌∷◌, IfOk, IfErr, ◌≢◌, ◌↔◌, Err};
 ghost use Rattle.std.specs.List.{All};
 ghost use Rattle.qr_layout.specs.declared.level.Level.{Level};
-ghost use Rattle.qr_layout.specs.declared.region.Place.{Place};
+ghost use Rattle.qr_layout.specs.declared.region.Module.{Module};
 ghost use Rattle.qr_layout.specs.declared.role.Role.TheVariants.{FormatBit, VersionBit};
 ghost use Rattle.qr_layout.specs.Order.{IsOrder};
 ghost use Rattle.qr_bits.specs.declared.fault.ParseFault.{ParseFault};
@@ -119,7 +119,7 @@ pub fn damaged_messages_are_one(version: Version, level: Level)
 /// Reading the codeword bits of a square yields the bits of the codewords from which the square was drawn.
 #[tactic(auto, using(crate::proofs::Named::laws_of_reading))]
 pub fn squares_give_their_bits(version: Version)
-    ensures { (l : Level) (mask : ℕ) (cw : List ℕ) (ms : List Place) → IsOrder version ms
+    ensures { (l : Level) (mask : ℕ) (cw : List ℕ) (ms : List Module) → IsOrder version ms
         → length cw ≡ total_codewords_of version
         → read_bits version mask (grid_of version l mask cw) ms ≡ bits_of cw }
 {}

@@ -15,7 +15,7 @@ ghost use Rattle.qr_symbol.specs.Steps.Patterns.{fixed_colour, format_or, is_in_
 ghost use Rattle.qr_symbol.specs.Steps.Placement.{region_grid};
 
 use qr_layout::{
-    FORMAT_BITS, Place, Rectangle, Version, alignment_centres, fixed_rectangles, format_place,
+    FORMAT_BITS, Module, Rectangle, Version, alignment_centres, fixed_rectangles, format_place,
     second_format_place,
 };
 use qr_matrix::Matrix;
@@ -23,14 +23,14 @@ use std::alloc::{AllocError, Global};
 
 // Fills the square around `centre`: the modules at most `distance` rows and at most `distance` columns away from it.
 #[inline]
-fn fill_around(matrix: &mut Matrix, centre: Place, distance: u8, dark: bool)
+fn fill_around(matrix: &mut Matrix, centre: Module, distance: u8, dark: bool)
     requires rows_in { (distance ≤ centre.row) × (centre.row + distance < matrix.old.side) }
     requires columns_in { (distance ≤ centre.col) × (centre.col + distance < matrix.old.side) }
     requires side { matrix.old.side ≤ 177 }
     ensures { IsOver matrix.old.side (λ r c. nat_le (ring_of centre.row centre.col r c) distance) (λ _ _. dark)
         (colour matrix.old) matrix.new }
 {
-    let Place { row, col } = centre;
+    let Module { row, col } = centre;
     matrix.fill(
         row - distance,
         row + distance + 1,
@@ -42,7 +42,7 @@ fn fill_around(matrix: &mut Matrix, centre: Place, distance: u8, dark: bool)
 
 // Draws a finder pattern and its separator. Together they fill eight by eight modules, of which `area` is the top left
 // one. The pattern is three squares around `centre`, one inside the other, of 7, 5 and 3 modules a side.
-fn paint_finder(matrix: &mut Matrix, version: Version, area: Place, centre: Place)
+fn paint_finder(matrix: &mut Matrix, version: Version, area: Module, centre: Module)
     requires square { IsSquare (side_of version) matrix.old }
     requires bottom_in { area.row + 8 ≤ side_of version }
     requires right_in { area.col + 8 ≤ side_of version }
@@ -86,18 +86,18 @@ fn paint_corners(matrix: &mut Matrix, version: Version, format: u32)
     let start = side - 8;
     // The column of the centre in the right corner, and the row of the centre in the lower corner.
     let centre = side - 4;
-    let near = Place { row: 3, col: 3 };
-    let right = Place {
+    let near = Module { row: 3, col: 3 };
+    let right = Module {
         row: 3,
         col: centre,
     };
-    let below = Place {
+    let below = Module {
         row: centre,
         col: 3,
     };
-    paint_finder(matrix, version, Place { row: 0, col: 0 }, near);
-    paint_finder(matrix, version, Place { row: 0, col: start }, right);
-    paint_finder(matrix, version, Place { row: start, col: 0 }, below);
+    paint_finder(matrix, version, Module { row: 0, col: 0 }, near);
+    paint_finder(matrix, version, Module { row: 0, col: start }, right);
+    paint_finder(matrix, version, Module { row: start, col: 0 }, below);
     matrix.set(8, 6, true);
     matrix.set(6, 8, true);
     matrix.set(start, 8, true);
@@ -109,7 +109,7 @@ fn paint_corners(matrix: &mut Matrix, version: Version, format: u32)
 const VERSION_BITS: u8 = 18;
 
 // Gives all modules of the alignment patterns, each of five by five modules, one colour (ISO/IEC 18004:2015, 6.3.6).
-fn fill_alignment(matrix: &mut Matrix, version: Version, centres: &[Place], dark: bool)
+fn fill_alignment(matrix: &mut Matrix, version: Version, centres: &[Module], dark: bool)
     requires square { IsSquare (side_of version) matrix.old }
     requires centres { centres.now ≡ alignment_places (side_of version) (centres_of version) }
     requires inside { All (IsCentreInside (side_of version)) centres.now }

@@ -15,7 +15,7 @@ ghost use Rattle.qr_symbol.specs.Steps.Spans.{AreWithin};
 use crate::mask::inverts;
 use crate::spans::{Columns, Span, Spans, columns_of};
 use crate::words::{bit_at, bits_at, split};
-use qr_layout::{Place, Strip, Version, all_strips, walk};
+use qr_layout::{Module, Strip, Version, all_strips, walk};
 use qr_matrix::Matrix;
 
 // The most rows that are drawn at once, because a word of 64 bits has two bits for each of 32 rows.
@@ -117,7 +117,7 @@ pub(crate) fn draw_along_walk(matrix: &mut Matrix, version: Version, codewords: 
 {
     let mut number = 0;
     for module in walk(version) {
-        let Place { row, col } = module;
+        let Module { row, col } = module;
         let bit = bit_at(codewords, number);
         matrix.set(row, col, bit != inverts(mask, row, col));
         number += 1;

@@ -1,5 +1,5 @@
 -- What the characters of items stand for, item by item.
-use Rattle.qr_bits.specs.Interpretation.{plain, meant, meant_bytes, eci_changes, fnc1_of, is_doubled, character_for, doubled_gs1, characters_gs1, doubled, characters_in, are_fields, MayWrite}
+use Rattle.qr_bits.specs.Interpretation.{plain, meant, meant_bytes, eci_changes, fnc1_of, is_doubled, character_for, doubled_gs1, characters_gs1, doubled, characters_in, are_fields, MayWrite, segments_among}
 use Rattle.qr_bits.specs.{Parsing.{content_of, plain_content}, Segmentation.{rank, least_sixths, IsLeastSegmentation}, Stream.Suits}
 use Rattle.qr_bits.specs.declared.{interpretation.{Interpretation.{Interpretation, TheVariants.{Default, Gs1, Eci}}, Item.Item}, modes.Mode.Mode}
 use Rattle.qr_bits.specs.declared.{modes.{Mode.TheVariants.{Numeric, Byte, Kanji}, Rule.Rule}, segmentation.Segment.Segment, stream.Header.Header}
@@ -24,6 +24,16 @@ plain-meant h segs xs s = rw (meant-plain segs xs s, ecis-plain segs 0 xs) refl
 -- the items from index `i` on, of which the first is `x`
 pub item-next : (items : List Item) (i : ℕ) (d x : Item) → i < length items → get_or items i d ≡ x → drop i items ≡ x ∷ drop (i + 1) items
 item-next items i d x h e = rw (← e) (search (arith, drop-cons))
+
+-- the segments among an item and more items
+among-more : (x : Item) (items : List Item) → segments_among (x ∷ items) ≡ segments_among (x ∷ []) ++ segments_among items
+unfolding segments_among
+among-more x items = grind arith
+
+-- the segments among the items from index `i` on are that item, if it is a segment, and those among the items after it
+pub among-next : (items : List Item) (i : ℕ) (d : Item) → i < length items
+    → segments_among (drop i items) ≡ segments_among (get_or items i d ∷ []) ++ segments_among (drop (i + 1) items)
+among-next items i d h = rw (item-next items i d _ h refl) (among-more _ _)
 
 -- The FNC1 among the items from index `i` on, if that item is `x`.
 pub fnc1_next : (items : List Item) (i : ℕ) (d x : Item) → i < length items → get_or items i d ≡ x → fnc1_of (drop i items) ≡ fnc1_of (x ∷ drop (i + 1) items)

@@ -2,7 +2,7 @@
 use Rattle.qr_layout.specs.{Alignment.{centres_of, centre_table, is_corner_pair, alignment_places}, Rectangles.{AreFixed, is_in_rectangle}}
 use Rattle.qr_layout.specs.Region.{is_corner, is_timing, is_version_information, is_alignment, ring_of, is_in_region}
 use Rattle.qr_layout.specs.{Steps.Rectangles.{IsCentreInside, IsInside, fixed_list, taken_rectangles}, Version.side_of, declared.alignment.TheConstants.CENTRES}
-use Rattle.qr_layout.specs.declared.region.{Place.Place, Rectangle.Rectangle}
+use Rattle.qr_layout.specs.declared.region.{Module.Module, Rectangle.Rectangle}
 use Rattle.std.proofs.Common.{◌≡◌, ℕ, zero, suc, ◌+◌, ◌-◌, ◌/◌, ◌<◌, ◌≤◌, Bool, true, false, ◌&&◌, cond, eqb, leb, List, [], ◌∷◌, length, take, get_or, refl, sym, ◌∙◌, subst, inl, inr, arith, not, ◌||◌, ltb, map, ap}
 use Rattle.std.proofs.lemmas.{Bool.{cases_lt, and_parts, eqb-true, Decides.nat_tests}, List.{Elements.{All-nil, All-cons, All-weaker}, Folds.list_any-append}}
 use Rattle.std.specs.List.{All, list_all, list_any, flat_map}
@@ -85,7 +85,7 @@ list_any-map p f [] = refl
 list_any-map p f (x ∷ xs) = ap (λ b. p (f x) || b) (list_any-map p f xs)
 
 -- a test of the alignment patterns' centres goes over their rows and then their columns
-pub any-places : (p : Place → Bool) (s : ℕ) (cs : List ℕ) → list_any p (alignment_places s cs) ≡ list_any (λ a. list_any (λ b. not (is_corner_pair s a b) && p (record { row = a; col = b })) cs) cs
+pub any-places : (p : Module → Bool) (s : ℕ) (cs : List ℕ) → list_any p (alignment_places s cs) ≡ list_any (λ a. list_any (λ b. not (is_corner_pair s a b) && p (record { row = a; col = b })) cs) cs
 any-places p s cs = grind (arith, list_any-flat_map, list_any-same, nat_tests)
 
 -- a place near one centre, or near none where the centre is in a corner
@@ -188,7 +188,7 @@ region-version v r c h = search arith
 pub ruleset region_out = (region-row-out, region-col-out, region-corners, region-timing, region-version)
 
 -- the square round a centre is inside a symbol of side s
-abbrev is_inside : ℕ → Place → Bool
+abbrev is_inside : ℕ → Module → Bool
 is_inside s m = leb 2 m.row && leb (m.row + 3) s && leb 2 m.col && leb (m.col + 3) s
 
 -- the squares of the alignment patterns are inside, in each version, computed

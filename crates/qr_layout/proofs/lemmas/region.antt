@@ -1,7 +1,7 @@
 -- A module of the region is inside the square, and not in column 6. There are small facts of tests, too.
 use Rattle.qr_layout.{proofs.lemmas.alignment.{any-places, list_any-same}, specs.Alignment.{centres_of, is_corner_pair}}
 use Rattle.qr_layout.specs.{Region.{is_corner, is_timing, is_version_information, is_alignment, is_in_region, InRegion, ring_of}, Version.side_of}
-use Rattle.qr_layout.specs.declared.region.Place.{Place}
+use Rattle.qr_layout.specs.declared.region.Module.{Module}
 use Rattle.std.proofs.Common.{◌≡◌, ℕ, ◌<◌, true, not, ◌||◌, ltb, arith, Bool, false, ◌&&◌, leb, List, [], ◌∷◌, refl, sym, ap, ◌∙◌}
 use Rattle.std.{proofs.{Math.Bool.{and_comm, or_comm}, lemmas.Bool.{and_parts, Decides.nat_tests}}, specs.List.list_any}
 
@@ -12,17 +12,17 @@ record IsFree (v r c : ℕ) : Type 0 where
   free : not (is_corner (side_of v) r c || is_timing r c || is_version_information v r c || is_alignment v r c) ≡ true
 
 -- the row of a module of the region is inside the square
-pub row-in : (v : ℕ) (m : Place) → InRegion v m → m.row < side_of v
+pub row-in : (v : ℕ) (m : Module) → InRegion v m → m.row < side_of v
 unfolding is_in_region
 row-in v m h = search (arith, nat_tests, and_parts)
 
 -- the column of a module of the region is inside the square
-pub col-in : (v : ℕ) (m : Place) → InRegion v m → m.col < side_of v
+pub col-in : (v : ℕ) (m : Module) → InRegion v m → m.col < side_of v
 unfolding is_in_region
 col-in v m h = search (arith, nat_tests, and_parts)
 
 -- no module of the region is in column 6
-pub col-not_timing : (v : ℕ) (m : Place) → InRegion v m → m.col ≡ 6 → ⊥
+pub col-not_timing : (v : ℕ) (m : Module) → InRegion v m → m.col ≡ 6 → ⊥
 unfolding is_in_region
 col-not_timing v m h e = search (arith, and_parts, nat_tests)
 

@@ -1,13 +1,13 @@
 -- The places of the strips of version v in the region, one strip after the other, are its order.
 use Rattle.std.proofs.Common.{◌≡◌, ℕ, zero, suc, ◌+◌, ◌-◌, ◌*◌, ◌<◌, ◌≤◌, false, cond, List, [], ◌∷◌, ◌++◌, refl, sym, ap, ◌∙◌, arith}
 use Rattle.std.{proofs.lemmas.{List.Elements.All-from_recursion, Bool.Decides.nat_tests}, specs.List.{All, AllByRecursion}}
-use Rattle.qr_layout.specs.{declared.{region.Place.Place, order.Cursor.Cursor, strips.Strip.Strip}, Version.side_of, Order.{IsOrder, in_region_of}}
+use Rattle.qr_layout.specs.{declared.{region.Module.Module, order.Cursor.Cursor, strips.Strip.Strip}, Version.side_of, Order.{IsOrder, in_region_of}}
 use Rattle.qr_layout.specs.Steps.Order.{place_of, left_of, next_of, places_among, to_come, first_cursor}
 use Rattle.qr_layout.specs.Strips.{rows_from, both_of, places_of, strip_at, strips_to_come}
 use Rattle.qr_layout.proofs.lemmas.order.WalkLemmas.{places-nil, places-suc, to_come-start}
 
 -- the right places of n rows of strips, from cursor a on, in the region or not
-pairs_among : ℕ → ℕ → Cursor → List Place
+pairs_among : ℕ → ℕ → Cursor → List Module
 pairs_among v zero a = []
 pairs_among v (suc n) a = place_of a ∷ pairs_among v n (next_of (side_of v) (next_of (side_of v) a))
 
@@ -43,7 +43,7 @@ rows-then v p k (suc n) m e =
     search (arith, pairs-suc, nat_tests, rows-then v p (k + 1) n m (omega arith))
 
 -- the right places of all rows of the strips
-abbrev all_rows : ℕ → List Strip → List Place
+abbrev all_rows : ℕ → List Strip → List Module
 all_rows s [] = []
 all_rows s (x ∷ xs) = rows_from s x 0 s ++ all_rows s xs
 
@@ -62,7 +62,7 @@ rows-all v (suc p) =
     times p s l = omega arith
 
 -- `both_of` of the list xs followed by the list ys is `both_of xs` followed by `both_of ys`
-both-append : (xs ys : List Place) → both_of (xs ++ ys) ≡ both_of xs ++ both_of ys
+both-append : (xs ys : List Module) → both_of (xs ++ ys) ≡ both_of xs ++ both_of ys
 both-append [] ys = refl
 both-append (x ∷ xs) ys = cc (both-append xs ys)
 

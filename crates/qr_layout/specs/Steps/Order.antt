@@ -4,7 +4,7 @@
 -- is also how many strips the walk has still to visit, this one included, and 0 is the end.
 use Rattle.std.specs.Prelude.{ℕ, ◌+◌, ◌-◌, ◌*◌, ◌/◌, ◌%◌, ◌<◌, ◌≤◌, Bool, true, false, ◌==◌, if◌then◌else◌, List, [], ◌∷◌}
 use Prim.Native.Nat.{zero, suc}
-use Rattle.qr_layout.specs.declared.region.Place.{Place}
+use Rattle.qr_layout.specs.declared.region.Module.{Module}
 use Rattle.qr_layout.specs.declared.order.Cursor.{Cursor}
 use Rattle.qr_layout.specs.Region.{is_in_region}
 use Rattle.qr_layout.specs.Version.{side_of}
@@ -17,7 +17,7 @@ abbrev pub half_of : Bool → ℕ
 half_of at_left = if at_left then 1 else 0
 
 -- The place at which the cursor `a` is: its row, and the left or the right column of its strip
-abbrev pub place_of : Cursor → Place
+abbrev pub place_of : Cursor → Module
 place_of a = let right = (strip_at a.strips_left).right in record { row = a.row; col = if a.at_left then right - 1 else right }
 
 -- How many rows of the strip of the cursor `a` the walk visits before the row of `a`. If the strip is filled upward,
@@ -47,14 +47,14 @@ pub record IsCursor (v : ℕ) (a : Cursor) : Type 0 where
 
 -- The places of the cursor `a` and of those that follow, `n` cursors in all, in the order of the walk. Places outside
 -- the region are left out
-unfoldable pub places_among : ℕ → ℕ → Cursor → List Place
+unfoldable pub places_among : ℕ → ℕ → Cursor → List Module
 places_among v zero a = []
 places_among v (suc n) a =
     if is_in_region v a.row (place_of a).col then place_of a ∷ places_among v n (next_of (side_of v) a) else places_among v n (next_of (side_of v) a)
 
 -- The places in the region that the walk visits from the cursor `a` on, the place of `a` included, in the order of the
 -- walk
-unfoldable pub to_come : ℕ → Cursor → List Place
+unfoldable pub to_come : ℕ → Cursor → List Module
 to_come v a = places_among v (left_of (side_of v) a) a
 
 -- The cursor at which the walk of version `v` begins, in the bottom right corner
@@ -62,5 +62,5 @@ abbrev pub first_cursor : ℕ → Cursor
 first_cursor v = record { strips_left = 8 + 2 * v; row = 16 + 4 * v; at_left = false }
 
 -- The cursor that is at the place `m`, if `m` is not in column 6
-unfoldable pub cursor_at : Place → Cursor
+unfoldable pub cursor_at : Module → Cursor
 cursor_at m = let c = column_without_timing m.col in record { strips_left = c / 2 + 1; row = m.row; at_left = c % 2 == 0 }

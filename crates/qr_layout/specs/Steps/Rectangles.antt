@@ -1,7 +1,7 @@
 -- Rectangles that cover all modules outside the region. To draw the region, the code makes all modules of a square
 -- dark, and then these rectangles light, one after the other.
 use Rattle.std.specs.Prelude.{ℕ, ◌≤◌, ◌+◌, ◌-◌, nat_lt, if◌then◌else◌, List, [], ◌∷◌, ◌++◌, map}
-use Rattle.qr_layout.specs.declared.region.Place.{Place}
+use Rattle.qr_layout.specs.declared.region.Module.{Module}
 use Rattle.qr_layout.specs.declared.region.Rectangle.{Rectangle}
 use Rattle.qr_layout.specs.Version.{side_of}
 use Rattle.qr_layout.specs.Alignment.{centres_of, alignment_places}
@@ -15,7 +15,7 @@ pub record IsInside (s : ℕ) (b : Rectangle) : Type 0 where
   pub right : b.right ≤ s
 
 -- The five by five modules with the place `m` in their middle are inside a symbol with `s` modules on a side
-pub record IsCentreInside (s : ℕ) (m : Place) : Type 0 where
+pub record IsCentreInside (s : ℕ) (m : Module) : Type 0 where
   pub row_least : 2 ≤ m.row
   pub row_most : m.row + 3 ≤ s
   pub col_least : 2 ≤ m.col
@@ -23,7 +23,7 @@ pub record IsCentreInside (s : ℕ) (m : Place) : Type 0 where
 
 -- The alignment pattern with the centre `m` as a rectangle: the five by five modules with this centre in their middle
 -- (ISO/IEC 18004:2015, 6.3.6)
-abbrev pub rectangle_around : Place → Rectangle
+abbrev pub rectangle_around : Module → Rectangle
 rectangle_around m = record { top = m.row - 2; bottom = m.row + 3; left = m.col - 2; right = m.col + 3 }
 
 -- The alignment patterns of a symbol with `s` modules on a side as rectangles. `cs` lists the numbers of the rows that

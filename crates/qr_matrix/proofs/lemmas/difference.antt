@@ -1,7 +1,7 @@
 -- Differences of squares.
-use Rattle.qr_matrix.specs.{BitRow.has, Difference.{differs, difference_count}, Grid.{Grid, colour, is_same}, Sums.{places_passing, sum_below, count_below}}
+use Rattle.qr_matrix.specs.{Difference.{differs, difference_count}, Grid.{Grid, colour, is_same}, Sums.{places_passing, sum_below, count_below}}
 use Rattle.std.proofs.{Common.{◌≡◌, ℕ, zero, suc, ◌<◌, ◌≤◌, Bool, true, false, not, cond, inl, inr, refl, arith}, lemmas.Bool.{cases_lt, Decides.nat_tests}}
-use Rattle.std.specs.Prelude.{List, ◌↔◌}
+use Rattle.std.specs.Prelude.{◌↔◌}
 
 -- a colour is the same as itself
 same-self : (b : Bool) → is_same b b ≡ true
@@ -14,11 +14,6 @@ one_if b = cond b 1 0
 -- colours that are not different are equal
 same-is : (a b : Bool) → one_if (not (is_same a b)) ≡ 0 → a ≡ b
 same-is a b h = grind (arith, nat_tests)
-
--- the bits of a are the colours of row r of g, and none from s on is set
-pub record HasRow (s : ℕ) (g : Grid) (r : ℕ) (a : List ℕ) : Type 0 where
-  pub colours : (c : ℕ) → has a c ≡ colour g r c
-  pub past : (c : ℕ) → s ≤ c → has a c ≡ false
 
 -- if a sum is 0, each term is 0
 term-zero : (n : ℕ) (f : ℕ → ℕ) → sum_below n f ≡ 0 → (k : ℕ) → k < n → f k ≡ 0

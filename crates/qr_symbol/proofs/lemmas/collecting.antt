@@ -1,5 +1,5 @@
 -- The bits of a strip, row by row, are those of the strip's places in the region, in their order.
-use Rattle.{qr_bits.specs.Bits.field, qr_layout.specs.{Order.in_region_of, Region.is_in_region, Strips.{both_of, rows_from}, declared.region.Place.Place}}
+use Rattle.{qr_bits.specs.Bits.field, qr_layout.specs.{Order.in_region_of, Region.is_in_region, Strips.{both_of, rows_from}, declared.region.Module.Module}}
 use Rattle.{qr_layout.specs.declared.strips.Strip.Strip, qr_matrix.specs.{BitRow.{has, has_bit}, Grid.{Grid, colour}}}
 use Rattle.qr_symbol.{proofs.lemmas.placement.PlacementLemmas.at, specs.Steps.Collecting.{bit_if, bits_in_rows, colour_across}}
 use Rattle.qr_symbol.specs.{Steps.{Spans.{row_of, AreOutside, AreWholeRows}, Words.{Appends, Collected}}, declared.spans.Columns.Columns}
@@ -41,7 +41,7 @@ pub outside-read : (s : ℕ) (x : Strip) (r y : Columns) (k n : ℕ) (a : Collec
 outside-read s x r y k n a out room xs i = rw (outside-bits s x r y k n out, append-nil) i
 
 -- the bits of a place and of further places
-kept-bit : (t : Bool) (f : Place → Bool) (m : Place) (ms : List Place) → map f (cond t (m ∷ ms) ms) ≡ bit_if t (f m) ++ map f ms
+kept-bit : (t : Bool) (f : Module → Bool) (m : Module) (ms : List Module) → map f (cond t (m ∷ ms) ms) ≡ bit_if t (f m) ++ map f ms
 kept-bit true f m ms = refl
 kept-bit false f m ms = refl
 

@@ -2,7 +2,7 @@
 -- in which a bit is set exactly if its module is in the region.
 use Rattle.std.specs.Prelude.{ℕ, ◌+◌, Bool, if◌then◌else◌, List, [], ◌∷◌, ◌++◌}
 use Prim.Native.Nat.{zero, suc}
-use Rattle.qr_layout.specs.declared.region.Place.{Place}
+use Rattle.qr_layout.specs.declared.region.Module.{Module}
 use Rattle.qr_layout.specs.declared.strips.Strip.{Strip}
 use Rattle.qr_matrix.specs.BitRow.{has}
 use Rattle.qr_matrix.specs.Grid.{Grid, colour}
@@ -26,5 +26,5 @@ bits_in_rows s strip region x k (suc n) = bits_in_row region x (row_of s strip k
 
 -- The colour of module `m` of a symbol, if `g` is the transposed square of the symbol: a row of `g` is a column of the
 -- symbol.
-abbrev pub colour_across : Grid → Place → Bool
+abbrev pub colour_across : Grid → Module → Bool
 colour_across g m = colour g m.col m.row

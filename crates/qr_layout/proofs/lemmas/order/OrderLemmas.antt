@@ -3,7 +3,7 @@ use Rattle.qr_layout.proofs.lemmas.{alignment.{below, below-from}, order.{CountL
 use Rattle.qr_layout.proofs.lemmas.order.ListLemmas.{Mem, Rises, Distinct, Mem-at, All-of-Mem, All-rec, Mem-left, Mem-right, Mem-append, Rises-of-pairs, one-rising, Mem-of-Contains}
 use Rattle.qr_layout.{proofs.lemmas.region.{row-in, col-in}, specs.{Alignment.centres_of, Laws.region_size}}
 use Rattle.qr_layout.specs.{Order.{key_of, is_before, IsOrder, places_passing, index_of}, Region.{is_in_region, InRegion}}
-use Rattle.qr_layout.specs.{Version.{total_codewords_of, remainder_bits_of, module_count_of, side_of}, declared.region.Place.Place}
+use Rattle.qr_layout.specs.{Version.{total_codewords_of, remainder_bits_of, module_count_of, side_of}, declared.region.Module.Module}
 use Rattle.std.proofs.Common.{◌≡◌, ℕ, ◌+◌, ◌≤◌, true, leb, eqb, List, [], ◌∷◌, ◌++◌, ◌&&◌, length, refl, sym, ◌∙◌, subst, inl, inr, arith}
 use Rattle.std.proofs.lemmas.Bool.{and_parts, eqb-true, Decides.nat_tests}
 use borrow.Author.Tests.{leb-true}
@@ -14,24 +14,24 @@ Rises-distinct R a [] h = tt
 Rises-distinct R a (x ∷ xs) h = search (arith, All-of-Mem, Mem-at, Rises-distinct R a xs h.1)
 
 -- the key of the first module is before that of the second
-abbrev Before : ℕ → Place → Place → Type 0
+abbrev Before : ℕ → Module → Module → Type 0
 Before v m n = is_before (key_of v m) (key_of v n) ≡ true
 
 -- no two modules are each before the other
-asym : (v : ℕ) (m n : Place) → Before v m n → Before v n m → ⊥
+asym : (v : ℕ) (m n : Module) → Before v m n → Before v n m → ⊥
 unfolding is_before
 asym v m n h k = search (arith, nat_tests)
 
 -- each item of the order is in the region
-pub order-mem : (v : ℕ) (ms : List Place) → IsOrder v ms → (m : Place) → Mem m ms → InRegion v m
+pub order-mem : (v : ℕ) (ms : List Module) → IsOrder v ms → (m : Module) → Mem m ms → InRegion v m
 order-mem v ms o m k = Mem-at (InRegion v) ms m (All-rec (InRegion v) ms o.in_region) k
 
 -- each module of the region is in the order
-pub order-has : (v : ℕ) (ms : List Place) → IsOrder v ms → (m : Place) → InRegion v m → Mem m ms
+pub order-has : (v : ℕ) (ms : List Module) → IsOrder v ms → (m : Module) → InRegion v m → Mem m ms
 order-has v ms o m h = Mem-of-Contains ms m (o.complete m h)
 
 -- there is only one order
-pub only-order : (v : ℕ) (ms ns : List Place) → IsOrder v ms → IsOrder v ns → ms ≡ ns
+pub only-order : (v : ℕ) (ms ns : List Module) → IsOrder v ms → IsOrder v ns → ms ≡ ns
 only-order v ms ns o p = search (arith, one-rising, asym, Rises-of-pairs, order-has, order-mem)
 
 -- the region of each version has as many places as its codewords and remainder bits need
@@ -52,7 +52,7 @@ pub region-size : (v : ℕ) → 1 ≤ v → v ≤ 40 → places_passing (side_of
 region-size v l h = count-at v l h ∙ size-at v l h
 
 -- the length of the order is this number
-pub order-length : (v : ℕ) (ms : List Place) → 1 ≤ v → v ≤ 40 → IsOrder v ms → length ms ≡ module_count_of v
+pub order-length : (v : ℕ) (ms : List Module) → 1 ≤ v → v ≤ 40 → IsOrder v ms → length ms ≡ module_count_of v
 order-length v ms l h o =
     count-of (side_of v) (is_in_region v) ms (Rises-distinct (Before v) (asym v) ms (Rises-of-pairs (Before v) ms o.rising)) (λ m k. let w = order-mem v ms o m k in (row-in v m w, col-in v m w, w)) (λ m a b k. order-has v ms o m k)
     ∙ count-at v l h
@@ -67,7 +67,7 @@ pub module-count-small : (v : ℕ) → 1 ≤ v → v ≤ 40 → module_count_of 
 module-count-small v l h = leb-true _ _ (below-from 40 1 (λ v. leb (module_count_of v) 29648) count-small v l (omega arith))
 
 -- no order has more than 29,648 items
-pub order-small : (v : ℕ) (ms : List Place) → 1 ≤ v → v ≤ 40 → IsOrder v ms → length ms ≤ 29648
+pub order-small : (v : ℕ) (ms : List Module) → 1 ≤ v → v ≤ 40 → IsOrder v ms → length ms ≤ 29648
 order-small v ms l h o = let d = order-length v ms l h o in let c = module-count-small v l h in omega arith
 
 -- ---- the index of a place
@@ -89,7 +89,7 @@ Rises-after R [] back m h x k = Mem-at (R m) back x h.0 k
 Rises-after R (y ∷ ys) back m h x k = Rises-after R ys back m h.1 x k
 
 -- the index of a place of the order is the number of places before it
-pub index-at : (v : ℕ) (front back : List Place) (m : Place) → IsOrder v (front ++ m ∷ back) → index_of v m ≡ length front
+pub index-at : (v : ℕ) (front back : List Module) (m : Module) → IsOrder v (front ++ m ∷ back) → index_of v m ≡ length front
 unfolding index_of
 index-at v front back m o =
     let whole = front ++ m ∷ back in

@@ -2,7 +2,7 @@
 use Rattle.qr_layout.proofs.lemmas.order.{ListLemmas.Rises, PathLemmas.{half_of-bound, mul-lt, mul-le_one, next-left, next-IsCursor, is_before-left}}
 use Rattle.qr_layout.{proofs.lemmas.region.{row-in, col-in, col-not_timing}, specs.Order.{key_of, is_before, IsOrder, IsOrderAfter}}
 use Rattle.qr_layout.specs.{Region.{is_in_region, InRegion}, Steps.Order.{place_of, left_of, next_of, IsCursor, places_among, to_come, first_cursor, cursor_at}}
-use Rattle.qr_layout.specs.{Version.side_of, declared.{order.Cursor.Cursor, region.Place.Place}}
+use Rattle.qr_layout.specs.{Version.side_of, declared.{order.Cursor.Cursor, region.Module.Module}}
 use Rattle.std.proofs.Common.{◌≡◌, ℕ, zero, suc, ◌+◌, ◌-◌, ◌*◌, ◌<◌, ◌≤◌, Bool, true, false, cond, List, [], ◌∷◌, ◌++◌, refl, sym, ap, ◌∙◌, subst, inl, inr, arith}
 use Rattle.std.proofs.{Math.Nat.mul-le-mul_right, lemmas.{Bool.{cases_lt, Decides.nat_tests}, List.Elements.All-from_recursion}}
 use Rattle.std.specs.List.{AllPairs, AllByRecursion, Contains}
@@ -60,7 +60,7 @@ unfolding places_among
 places-suc v n a = refl
 
 -- module m is in the region, and it is the module at a cursor b with at most n cursors left
-abbrev Stop : ℕ → ℕ → Place → Type 0
+abbrev Stop : ℕ → ℕ → Module → Type 0
 Stop v n m = (b : Cursor) × IsCursor v b × (0 < b.strips_left) × (left_of (side_of v) b ≤ n) × (place_of b ≡ m) × InRegion v m
 
 -- each module that the walk yields from a cursor a with n cursors left is at a cursor with at most n cursors left
@@ -72,7 +72,7 @@ stops v (suc n) top a i e l =
     search (arith, places-suc, next-IsCursor, stops v n top (next_of (side_of v) a) (next-IsCursor v a i k) (omega arith) (omega arith))
 
 -- a rising list still rises with an item in front that has the relation to each of its items
-rises-cond : (R : Place → Place → Type 0) (x : Place) (t : Bool) (xs : List Place) → AllByRecursion (R x) xs → Rises R xs → Rises R (cond t (x ∷ xs) xs)
+rises-cond : (R : Module → Module → Type 0) (x : Module) (t : Bool) (xs : List Module) → AllByRecursion (R x) xs → Rises R xs → Rises R (cond t (x ∷ xs) xs)
 rises-cond R x t xs h k = grind arith
 
 -- the modules that the walk yields from a cursor a with n cursors left have rising keys
@@ -83,11 +83,11 @@ rises v (suc n) a i e =
     let k = strips-positive s a n e in
     let d = next-left s a k i.row_in in
     let j = next-IsCursor v a i k in
-    let f : (m : Place) → Stop v n m → is_before (key_of v (place_of a)) (key_of v m) ≡ true = λ m w. subst (λ (z : Place). is_before (key_of v (place_of a)) (key_of v z) ≡ true) w.4 (is_before-left v a w.0 i w.1 k w.2 (omega arith)) in
+    let f : (m : Module) → Stop v n m → is_before (key_of v (place_of a)) (key_of v m) ≡ true = λ m w. subst (λ (z : Module). is_before (key_of v (place_of a)) (key_of v z) ≡ true) w.4 (is_before-left v a w.0 i w.1 k w.2 (omega arith)) in
     rw places-suc (rises-cond (λ m n. is_before (key_of v m) (key_of v n) ≡ true) (place_of a) (is_in_region v a.row (place_of a).col) _ (All-weaker_rec (Stop v n) _ f _ (stops v n n (next_of s a) j (omega arith) (omega arith))) (rises v n (next_of s a) j (omega arith)))
 
 -- if the list xs contains m, then the list xs with x in front, if the test t passes, contains m
-contains-cond : (x m : Place) (t : Bool) (xs : List Place) → Contains xs m → Contains (cond t (x ∷ xs) xs) m
+contains-cond : (x m : Module) (t : Bool) (xs : List Module) → Contains xs m → Contains (cond t (x ∷ xs) xs) m
 contains-cond x m true xs h = Contains-tail x m xs h
 contains-cond x m false xs h = h
 
@@ -109,17 +109,17 @@ pub start-IsCursor : (v : ℕ) → IsCursor v (first_cursor v)
 start-IsCursor v = record { strips_in = omega arith; row_in = omega arith }
 
 -- the cursor of a module m is in a strip
-pub at-strips : (m : Place) → 0 < (cursor_at m).strips_left
+pub at-strips : (m : Module) → 0 < (cursor_at m).strips_left
 unfolding cursor_at
 at-strips m = omega arith
 
 -- the cursor of each module m of the square is a cursor of the walk
-pub at-IsCursor : (v : ℕ) (m : Place) → m.row < side_of v → m.col < side_of v → IsCursor v (cursor_at m)
+pub at-IsCursor : (v : ℕ) (m : Module) → m.row < side_of v → m.col < side_of v → IsCursor v (cursor_at m)
 unfolding cursor_at
 at-IsCursor v m h k = record { strips_in = grind (arith, nat_tests); row_in = h }
 
 -- the module at the cursor of module m is m, unless m is in column 6
-pub at-place : (m : Place) → (m.col ≡ 6 → ⊥) → place_of (cursor_at m) ≡ m
+pub at-place : (m : Module) → (m.col ≡ 6 → ⊥) → place_of (cursor_at m) ≡ m
 unfolding cursor_at
 at-place m h = grind (arith, nat_tests)
 
@@ -142,19 +142,19 @@ to_come-start v =
           let b = cursor_at m in
           let e = at-place m (col-not_timing v m h) in
           let j = at-IsCursor v m (row-in v m h) (col-in v m h) in
-          subst (λ (z : Place). Contains (places_among v n (first_cursor v)) z) e (finds v n (first_cursor v) b i refl j (at-strips m) (start-most v b j) (subst (InRegion v) (sym e) h));
+          subst (λ (z : Module). Contains (places_among v n (first_cursor v)) z) e (finds v n (first_cursor v) b i refl j (at-strips m) (start-most v b j) (subst (InRegion v) (sym e) h));
       rising = AllPairs-from_rises _ _ (rises v n (first_cursor v) i refl);
     }
 
 -- ---- the walk from a cursor in the middle
 
 -- if the list xs ends with ys, then the list xs with x in front, if the test t passes, ends with ys
-reach-cond : (v : ℕ) (x : Place) (t : Bool) (xs ys : List Place) → ((front : List Place) × (xs ≡ front ++ ys)) → (front : List Place) × (cond t (x ∷ xs) xs ≡ front ++ ys)
+reach-cond : (v : ℕ) (x : Module) (t : Bool) (xs ys : List Module) → ((front : List Module) × (xs ≡ front ++ ys)) → (front : List Module) × (cond t (x ∷ xs) xs ≡ front ++ ys)
 reach-cond v x true xs ys w = (x ∷ w.0, ap (λ zs. x ∷ zs) w.1)
 reach-cond v x false xs ys w = w
 
 -- the modules that the walk yields from a on end with those from a later cursor b on
-reaches : (v n : ℕ) (a b : Cursor) → IsCursor v a → left_of (side_of v) a ≡ n → IsCursor v b → 0 < b.strips_left → left_of (side_of v) b ≤ n → (front : List Place) × (places_among v n a ≡ front ++ places_among v (left_of (side_of v) b) b)
+reaches : (v n : ℕ) (a b : Cursor) → IsCursor v a → left_of (side_of v) a ≡ n → IsCursor v b → 0 < b.strips_left → left_of (side_of v) b ≤ n → (front : List Module) × (places_among v n a ≡ front ++ places_among v (left_of (side_of v) b) b)
 reaches v zero a b i e j l h = let p = left-positive v b j l in absurd (omega arith)
 reaches v (suc n) a b i e j l h =
     let s = side_of v in
@@ -173,7 +173,7 @@ to_come-next v a i k =
     search (arith, places-suc)
 
 -- the modules that the walk yields after the cursor of module m are the modules that come after m in the order
-pub after : (v : ℕ) (m : Place) → InRegion v m → IsOrderAfter v m (to_come v (next_of (side_of v) (cursor_at m)))
+pub after : (v : ℕ) (m : Module) → InRegion v m → IsOrderAfter v m (to_come v (next_of (side_of v) (cursor_at m)))
 unfolding to_come
 after v m h =
     let s = side_of v in
@@ -195,9 +195,9 @@ walk-order v n s e f =
 -- ---- one step of the code
 
 -- the cursor a that the code computes for module m is in a strip
-pub after-strips : (m : Place) (a : Cursor) → a ≡ cursor_at m → 0 < a.strips_left
+pub after-strips : (m : Module) (a : Cursor) → a ≡ cursor_at m → 0 < a.strips_left
 after-strips m a f = rw f (at-strips m)
 
 -- the cursor a that the code computes for a module m of the region is a cursor of the walk
-pub after-cursor : (v : ℕ) (m : Place) (a : Cursor) (t : Bool) → t ≡ is_in_region v m.row m.col → t ≡ true → a ≡ cursor_at m → IsCursor v a
+pub after-cursor : (v : ℕ) (m : Module) (a : Cursor) (t : Bool) → t ≡ is_in_region v m.row m.col → t ≡ true → a ≡ cursor_at m → IsCursor v a
 after-cursor v m a t h j f = rw f (at-IsCursor v m (row-in v m (sym h ∙ j)) (col-in v m (sym h ∙ j)))

@@ -1,7 +1,7 @@
 -- Which places contain the bits of the format and version information, and that all other free places are the region.
 use Rattle.std.proofs.Common.{◌≡◌, ℕ, ◌+◌, ◌-◌, ◌<◌, ◌≤◌, max, Bool, true, false, not, ◌&&◌, ◌||◌, cond, eqb, ltb, Option, None, Some, refl, sym, ap, ◌∙◌, inl, inr, ◌⊎◌, arith}
 use Rattle.std.{proofs.lemmas.Bool.{Decides.nat_tests, and_parts, eqb-true}, specs.{Int.abs_diff, List.{find, range_with_len}, Option.option_map_or}}
-use Rattle.qr_layout.specs.{declared.{region.Place.Place, role.Role.Role}, Version.side_of, Alignment.centres_of}
+use Rattle.qr_layout.specs.{declared.{region.Module.Module, role.Role.Role}, Version.side_of, Alignment.centres_of}
 use Rattle.qr_layout.{specs.declared.role.Role.TheVariants.{Fixed, FormatBit, VersionBit, Region}, proofs.lemmas.role.RoleSymmetryLemmas.role-symmetric}
 use Rattle.qr_layout.specs.Region.{is_alignment, is_corner, is_in_region, is_timing, is_version_information, ring_of}
 use Rattle.qr_layout.specs.Role.{finder_ring, is_alignment_light, pattern_colour, is_dark_module, role_of}
@@ -21,20 +21,20 @@ role-with v r c = refl
 -- ---- the places of the bits
 
 -- a module at the row and column of another is that one
-at-place : (m n : Place) → is_at n m.row m.col ≡ true → m ≡ n
+at-place : (m n : Module) → is_at n m.row m.col ≡ true → m ≡ n
 at-place m n h = search (arith, eqb-true, and_parts)
 
 -- a module at one of two places is one of the two
-either-place : (m n k : Place) → (is_at n m.row m.col || is_at k m.row m.col) ≡ true → (m ≡ n) ⊎ (m ≡ k)
+either-place : (m n k : Module) → (is_at n m.row m.col || is_at k m.row m.col) ≡ true → (m ≡ n) ⊎ (m ≡ k)
 either-place m n k h = search (arith, either, at-place)
 
 -- a bit of the format information that is found is at one of its two places
-found-format : (s : ℕ) (m : Place) (i : ℕ) → format_bit_at s m.row m.col ≡ Some i → (i < 15) × ((m ≡ first_place i) ⊎ (m ≡ second_place s i))
+found-format : (s : ℕ) (m : Module) (i : ℕ) → format_bit_at s m.row m.col ≡ Some i → (i < 15) × ((m ≡ first_place i) ⊎ (m ≡ second_place s i))
 unfolding format_bit_at
 found-format s m i h = search (arith, either-place, first-at 15 (λ i. is_at (first_place i) m.row m.col || is_at (second_place s i) m.row m.col) i h)
 
 -- a bit of the format information is only at its two places
-pub format-only : (v : ℕ) (m : Place) (i : ℕ) → role_of v m.row m.col ≡ FormatBit i → (i < 15) × ((m ≡ first_place i) ⊎ (m ≡ second_place (side_of v) i))
+pub format-only : (v : ℕ) (m : Module) (i : ℕ) → role_of v m.row m.col ≡ FormatBit i → (i < 15) × ((m ≡ first_place i) ⊎ (m ≡ second_place (side_of v) i))
 format-only v m i h = found-format (side_of v) m i (search (arith, role-with, nat_tests))
 
 -- if a place has version information, the version is 7 or more
@@ -42,7 +42,7 @@ old-enough : (v i : ℕ) (o : Option ℕ) → cond (ltb v 7) None o ≡ Some i �
 old-enough v i o h = search arith
 
 -- a bit of the version information that is found is at one of its two places
-found-version : (v : ℕ) (m : Place) (i : ℕ) → version_bit_at v m.row m.col ≡ Some i → (7 ≤ v) × (i < 18) × ((m ≡ version_place (side_of v) i) ⊎ (m ≡ mirror_of (version_place (side_of v) i)))
+found-version : (v : ℕ) (m : Module) (i : ℕ) → version_bit_at v m.row m.col ≡ Some i → (7 ≤ v) × (i < 18) × ((m ≡ version_place (side_of v) i) ⊎ (m ≡ mirror_of (version_place (side_of v) i)))
 unfolding version_bit_at
 found-version v m i h =
     let p : ℕ → Bool = λ i. is_at (version_place (side_of v) i) m.row m.col || is_at (mirror_of (version_place (side_of v) i)) m.row m.col in
@@ -50,7 +50,7 @@ found-version v m i h =
     search (arith, either-place, first-at 18 p i o.1)
 
 -- a bit of the version information is only at its two places
-pub version-only : (v : ℕ) (m : Place) (i : ℕ) → role_of v m.row m.col ≡ VersionBit i → (7 ≤ v) × (i < 18) × ((m ≡ version_place (side_of v) i) ⊎ (m ≡ mirror_of (version_place (side_of v) i)))
+pub version-only : (v : ℕ) (m : Module) (i : ℕ) → role_of v m.row m.col ≡ VersionBit i → (7 ≤ v) × (i < 18) × ((m ≡ version_place (side_of v) i) ⊎ (m ≡ mirror_of (version_place (side_of v) i)))
 version-only v m i h = found-version v m i (search (arith, role-with, nat_tests))
 
 -- whether a role is the other
@@ -62,7 +62,7 @@ is_role Region Region = true
 is_role x y = false
 
 -- the module has the role
-abbrev has_role : ℕ → Place → Role → Bool
+abbrev has_role : ℕ → Module → Role → Bool
 has_role v m x = is_role (role_of v m.row m.col) x
 
 role-same : (x y : Role) → is_role x y ≡ true → x ≡ y

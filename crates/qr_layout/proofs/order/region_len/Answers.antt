@@ -2,4 +2,4 @@ use Rattle.{std.proofs.Common.arith, qr_layout.proofs.lemmas.order.OrderLemmas.o
 use Rattle.qr_layout.proofs.order.region_len.Goals as goal
 
 pub returns-clause-length : goal.returns-clause-length
-returns-clause-length c = λ ms o. let e = order-length c.args.version ms (omega arith) (omega arith) o in omega arith
+returns-clause-length c = λ ms o. let e = order-length c.args.v ms (omega arith) (omega arith) o in omega arith

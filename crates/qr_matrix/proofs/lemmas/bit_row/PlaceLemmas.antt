@@ -118,7 +118,7 @@ unfolding has_bit
 put-step ws c k x d l w m h e here there i =
     search (arith, has-place, get_or-set_same, nat_tests, get_or-set_other, has-past)
 
--- ---- four places
+-- ---- neighbouring places
 
 -- the n lowest bits of m are the bits of m % 2 ^ n
 pub low-bits : (n m k : ℕ) → k < n → has_bit (m % 2 ^ n) k ≡ has_bit m k
@@ -129,10 +129,6 @@ low-bits n m k l = cc (bit_at_cat_low (m / 2 ^ n) n (m % 2 ^ n) k l, shr_split m
 places-step : (ws : List ℕ) (n c i k : ℕ) → ((j : ℕ) → get_or ws j 0 < 2 ^ 64) → c < 192 →
     c % 64 + n ≤ 64 → i ≡ c / 64 → k < n → has_bit (get_or ws i 0 / 2 ^ (c % 64) % 2 ^ n) k ≡ has ws (c + k)
 places-step ws n c i k w h m e l = search (arith, low-bits, has_bit-shr, has-place)
-
--- the four bits that the code reads are the bits c to c + 3 of the bit row
-pub four-step : (ws : List ℕ) (c i k : ℕ) → ((j : ℕ) → get_or ws j 0 < 2 ^ 64) → c < 192 → c % 4 ≡ 0 → i ≡ c / 64 → k < 4 → has_bit (get_or ws i 0 / 2 ^ (c % 64) % 16) k ≡ has ws (c + k)
-four-step ws c i k w h m e l = places-step ws 4 c i k w h (omega arith) e l
 
 -- the bits that are read are eight places
 pub eight-step : (ws : List ℕ) (c i k : ℕ) → ((j : ℕ) → get_or ws j 0 < 2 ^ 64) → c < 192 → c % 8 ≡ 0 → i ≡ c / 64 → k < 8 → has_bit (get_or ws i 0 / 2 ^ (c % 64) % 256) k ≡ has ws (c + k)

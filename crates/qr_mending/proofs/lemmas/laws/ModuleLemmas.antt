@@ -1,6 +1,6 @@
 -- A wrong module damages at most one codeword.
 use Rattle.{qr_bits.specs.Bits.{bits_of, field}, qr_field.proofs.lemmas.laws.DistanceLemmas.{difference-most, difference-same}}
-use Rattle.{qr_field.specs.Distance.{difference, differences}, qr_layout.specs.{Order.IsOrder, Version.total_codewords_of, declared.region.Place.Place}}
+use Rattle.{qr_field.specs.Distance.{difference, differences}, qr_layout.specs.{Order.IsOrder, Version.total_codewords_of, declared.region.Module.Module}}
 use Rattle.qr_matrix.{proofs.Facts.same-same, specs.{Difference.differs, Grid.Grid}}
 use Rattle.qr_mending.{proofs.lemmas.message.{MarkLemmas.{codeword-read, codewords-bits, codewords-many}, MessageLemmas.item}, specs.Message.modules_of}
 use Rattle.{qr_mending.specs.Modules.codeword_differences, qr_symbol.{proofs.Facts.bits-one, specs.Reading.{unmasked, IsRead}}}
@@ -10,11 +10,11 @@ use Rattle.std.{proofs.lemmas.List.{Elements.{All-nil, All-cons, All-head, All-t
 -- ---- one codeword
 
 -- if no module differs, the same bits are read
-same-bits : (mask : ℕ) (g h : Grid) (ms : List Place) → count_by (λ m. differs g h m.row m.col) ms ≡ 0 →
+same-bits : (mask : ℕ) (g h : Grid) (ms : List Module) → count_by (λ m. differs g h m.row m.col) ms ≡ 0 →
     map (unmasked mask g) ms ≡ map (unmasked mask h) ms
 same-bits mask g h [] e = refl
 same-bits mask g h (m ∷ ms) e =
-    let more = sum_by-cons (λ (m : Place). cond (differs g h m.row m.col) 1 0) m ms in
+    let more = sum_by-cons (λ (m : Module). cond (differs g h m.row m.col) 1 0) m ms in
     search (arith, same-same, same-bits mask g h ms (omega arith))
 
 -- bytes with the same eight bits are equal
@@ -25,13 +25,13 @@ byte-one a b l m e =
     cc (bits-one (a ∷ []) (b ∷ []) (single a l) (single b m) (ap (λ (z : List Bool). z ++ []) e))
 
 -- the bits of codeword j of a square are read from its eight modules
-codeword-modules : (v mask : ℕ) (g : Grid) (ms : List Place) (cw : List ℕ) (j : ℕ) → 1 ≤ v → v ≤ 40 →
+codeword-modules : (v mask : ℕ) (g : Grid) (ms : List Module) (cw : List ℕ) (j : ℕ) → 1 ≤ v → v ≤ 40 →
     IsOrder v ms → IsRead v mask g cw → j < total_codewords_of v →
     field 8 (get_or cw j 0) ≡ map (unmasked mask g) (modules_of ms j)
 codeword-modules v mask g ms cw j p q o h l = search (arith, codeword-read, codewords-bits, codewords-many)
 
 -- codeword j of two squares differs only if one of its modules differs
-pub interleaved-differences : (v mask : ℕ) (g h : Grid) (ms : List Place) (cs ds : List ℕ) (j : ℕ) → 1 ≤ v →
+pub interleaved-differences : (v mask : ℕ) (g h : Grid) (ms : List Module) (cs ds : List ℕ) (j : ℕ) → 1 ≤ v →
     v ≤ 40 → IsOrder v ms → IsRead v mask g cs → IsRead v mask h ds → j < total_codewords_of v →
     difference (get_or cs j 0) (get_or ds j 0) ≤ codeword_differences g h ms j
 interleaved-differences v mask g h ms cs ds j p q o a b l =

@@ -3,7 +3,7 @@
 use Rattle.{qr_bits.{proofs.Facts.length-bits_of, specs.Bits.{bits_of, field}}, qr_field.proofs.lemmas.laws.DistanceLemmas.{erasures-read}}
 use Rattle.{qr_field.specs.{Distance.differences, Polynomial.IsCorrection}, qr_layout.proofs.Facts.{col-in, order-length, row-in}}
 use Rattle.qr_layout.specs.{Blocks.{blocks_of, correctable_of}, Region.InRegion, Version.{side_of, total_codewords_of}, declared.blocks.Blocks.Blocks}
-use Rattle.{qr_layout.specs.declared.{level.Level.Level, region.Place.Place}, qr_matrix.specs.{BitRow.has_bit, Grid.{Grid, colour, light, rows_of}}}
+use Rattle.{qr_layout.specs.declared.{level.Level.Level, region.Module.Module}, qr_matrix.specs.{BitRow.has_bit, Grid.{Grid, colour, light, rows_of}}}
 use Rattle.qr_mending.{proofs.lemmas.erasures.{changes-unerased, unerased}, specs.Message.no_changes}
 use Rattle.qr_mending.proofs.lemmas.message.{MarkLemmas.codewords-many, MessageLemmas.{in-blocks-one, indices-some, item, items-in-blocks, received-map}}
 use Rattle.{qr_mending.specs.Message.{modules_of, read_at, received, IsMendedIn, AreInBlocks}, qr_symbol.proofs.Facts.{map-each, read-some}}
@@ -51,7 +51,7 @@ pub colour-light : (s r c : ℕ) → colour (light s) r c ≡ false
 unfolding colour rows_of
 colour-light s r c = light-rows (range_with_len 0 s) (range_with_len 0 s) r c
 
-colours-light : (s : ℕ) (ms : List Place) → AreLight (map (λ m. colour (light s) m.row m.col) ms)
+colours-light : (s : ℕ) (ms : List Module) → AreLight (map (λ m. colour (light s) m.row m.col) ms)
 colours-light s [] = tt
 colours-light s (m ∷ ms) = (colour-light s m.row m.col, colours-light s ms)
 
@@ -86,8 +86,8 @@ no-marks v u p q e h =
     let w = (read-some v 0 u p q).1 in
     let n = total_codewords_of v in
     let zeros : List ℕ = replicate n 0 in
-    let some : List Place = take (8 * n) w.places in
-    let colour_of : Place → Bool = λ m. colour (light u.side) m.row m.col in
+    let some : List Module = take (8 * n) w.places in
+    let colour_of : Module → Bool = λ m. colour (light u.side) m.row m.col in
     let many = order-length v w.places p q w.order in
     record {
       bytes = All-replicate (λ x. x < 256) n 0 (omega arith);
@@ -110,12 +110,12 @@ no-marks v u p q e h =
 
 -- ---- what is read of a symbol of which all modules were read
 
-none-unread : (s : ℕ) (ms : List Place) → list_any (λ m. colour (light s) m.row m.col) ms ≡ false
+none-unread : (s : ℕ) (ms : List Module) → list_any (λ m. colour (light s) m.row m.col) ms ≡ false
 none-unread s [] = refl
 none-unread s (m ∷ ms) = λ i. colour-light s m.row m.col i || none-unread s ms i
 
 -- no codeword is erased
-all-read : (s : ℕ) (places : List Place) (cw ks : List ℕ) →
+all-read : (s : ℕ) (places : List Module) (cw ks : List ℕ) →
     map (read_at (light s) places cw) ks ≡ map (λ x. Some x) (map (item cw) ks)
 all-read s places cw [] = refl
 all-read s places cw (k ∷ ks) = cc (none-unread s (modules_of places k), all-read s places cw ks)

@@ -3,7 +3,7 @@
 use Rattle.std.proofs.Common.{◌≡◌, ◌==◌, ◌||◌, not, cond, Bool, true, false, ℕ, zero, suc, ◌+◌, ◌-◌, ◌*◌, ◌<◌, ◌≤◌, None, Some, List, [], ◌∷◌, ◌++◌, map, take, drop, length, get_or, refl, sym, ◌∙◌, ap, arith}
 use Rattle.std.proofs.lemmas.List.{append-nil, length-map, length-take, take_at, take-map, take-take, drop_at, drop-drop, drop-map, drop-take}
 use Rattle.std.{proofs.lemmas.List.Elements.All-tail, specs.List.{list_any, All}}
-use Rattle.qr_layout.specs.{declared.{level.Level.Level, region.Place.Place}, Blocks.{blocks_of, spare_of}, Order.IsOrder, Version.total_codewords_of}
+use Rattle.qr_layout.specs.{declared.{level.Level.Level, region.Module.Module}, Blocks.{blocks_of, spare_of}, Order.IsOrder, Version.total_codewords_of}
 use Rattle.qr_layout.proofs.Facts.{below, below-at, only-order, order-length}
 use Rattle.qr_bits.{specs.Bits.{bits_of, field}, proofs.Facts.{length-bits_of, length-field}}
 use Rattle.{qr_matrix.{proofs.Facts.same-same, specs.Grid.{Grid, colour, is_same}}, qr_symbol.specs.Reading.{unmasked, IsRead, IsReadUnmasked}}
@@ -27,13 +27,13 @@ codeword-bits (c ∷ cs) (suc j) l =
     )
 
 -- codewords are as many as their modules allow
-many-read : (f : Place → Bool) (ms : List Place) (cw : List ℕ) (n : ℕ) →
+many-read : (f : Module → Bool) (ms : List Module) (cw : List ℕ) (n : ℕ) →
     bits_of cw ≡ map f (take (8 * n) ms) → 8 * n ≤ length ms → length cw ≡ n
 many-read f ms cw n e l =
     omega (arith, ap (length {A = Bool}) e, length-map (take (8 * n) ms) f, length-take (8 * n) ms, length-bits_of cw)
 
 -- the bits of codeword j are read from its eight modules
-pub codeword-read : (f : Place → Bool) (ms : List Place) (cw : List ℕ) (n j : ℕ) →
+pub codeword-read : (f : Module → Bool) (ms : List Module) (cw : List ℕ) (n j : ℕ) →
     bits_of cw ≡ map f (take (8 * n) ms) → length cw ≡ n → j < n → field 8 (get_or cw j 0) ≡ map f (take 8 (drop (8 * j) ms))
 codeword-read f ms cw n j e many l =
     let k = 8 * j in
@@ -48,7 +48,7 @@ codeword-read f ms cw n j e many l =
     )
 
 -- the bits of the codewords of a square are read from the modules in order
-pub codewords-bits : (v mask : ℕ) (g : Grid) (ms : List Place) (cw : List ℕ) → 1 ≤ v → v ≤ 40 →
+pub codewords-bits : (v mask : ℕ) (g : Grid) (ms : List Module) (cw : List ℕ) → 1 ≤ v → v ≤ 40 →
     IsOrder v ms → IsRead v mask g cw → bits_of cw ≡ map (unmasked mask g) (take (8 * total_codewords_of v) ms)
 codewords-bits v mask g ms cw p q o h =
     let t = 8 * total_codewords_of v in
@@ -79,12 +79,12 @@ bytes-marked : below 256 is_marked ≡ true
 unfolding field is_marked
 bytes-marked = refl
 
-any-read : (f : Place → Bool) (ms : List Place) → list_any f ms ≡ list_any (λ b. b) (map f ms)
+any-read : (f : Module → Bool) (ms : List Module) → list_any f ms ≡ list_any (λ b. b) (map f ms)
 any-read f [] = refl
 any-read f (m ∷ ms) = ap (λ (b : Bool). f m || b) (any-read f ms)
 
 -- a codeword is erased exactly if its mark is not 0
-abbrev AgreesAt : Grid → List Place → List ℕ → ℕ → Type 0
+abbrev AgreesAt : Grid → List Module → List ℕ → ℕ → Type 0
 AgreesAt unknown places marks k =
     list_any (λ m. colour unknown m.row m.col) (modules_of places k) ≡ not (get_or marks k 0 == 0)
 
@@ -93,7 +93,7 @@ mark-agrees : (v : ℕ) (unknown : Grid) (marks : List ℕ) (k : ℕ) → 1 ≤ 
     (h : IsReadUnmasked v unknown marks) → k < total_codewords_of v → AgreesAt unknown h.places marks k
 unfolding is_marked
 mark-agrees v unknown marks k p q h l =
-    let f : Place → Bool = λ m. colour unknown m.row m.col in
+    let f : Module → Bool = λ m. colour unknown m.row m.col in
     let many = marks-many v unknown marks p q h in
     let mark = get_or marks k 0 in
     let byte : mark < 256 = h.bytes k 0 (omega arith) in
@@ -107,7 +107,7 @@ read-next x xs true bs = refl
 read-next x xs false bs = refl
 
 -- what is read by marks
-read-marked : (unknown : Grid) (places : List Place) (cw marks ks : List ℕ) → All (AgreesAt unknown places marks) ks →
+read-marked : (unknown : Grid) (places : List Module) (cw marks ks : List ℕ) → All (AgreesAt unknown places marks) ks →
     read_by (map (item cw) ks) (map (item marks) ks) ≡ map (read_at unknown places cw) ks
 read-marked unknown places cw marks [] h = refl
 read-marked unknown places cw marks (k ∷ ks) h =

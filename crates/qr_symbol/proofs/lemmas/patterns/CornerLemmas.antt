@@ -1,6 +1,6 @@
 -- The modules of row 8 and column 8 that are beside the finder patterns.
 use Rattle.qr_layout.{proofs.Facts.{dark-module, format-first, format-only, format-second}, specs.{Format.{first_place, second_place}, Region.is_corner}}
-use Rattle.qr_layout.specs.{Role.role_of, Version.side_of, declared.{region.Place.Place, role.Role.{Role, TheVariants.FormatBit}}}
+use Rattle.qr_layout.specs.{Role.role_of, Version.side_of, declared.{region.Module.Module, role.Role.{Role, TheVariants.FormatBit}}}
 use Rattle.qr_symbol.proofs.lemmas.{patterns.TimingLemmas.paint-fixed, placement.PlacementLemmas.{at, by_test}}
 use Rattle.qr_symbol.specs.Steps.Patterns.{fixed_colour, format_or, is_in_finder_area, paint_of}
 use Rattle.std.proofs.Common.{◌≡◌, ℕ, ◌+◌, ◌-◌, ◌<◌, ◌≤◌, Bool, true, false, cond, eqb, ◌&&◌, ◌||◌, ◌⊎◌, refl, ap, inl, inr, arith}
@@ -75,8 +75,8 @@ outside-kept v r c format w k h = kept _ (λ i q. far i (format-only v _ i q))
 
     far : (i : ℕ) → (i < 15) × ((at r c ≡ first_place i) ⊎ (at r c ≡ second_place (side_of v) i)) → ⊥
     far i p = elim p.1 [
-      | inl e ↦ first i p.0 (ap (λ (z : Place). z.row) e) (ap (λ (z : Place). z.col) e)
-      | inr e ↦ second i p.0 (ap (λ (z : Place). z.row) e) (ap (λ (z : Place). z.col) e)
+      | inl e ↦ first i p.0 (ap (λ (z : Module). z.row) e) (ap (λ (z : Module). z.col) e)
+      | inr e ↦ second i p.0 (ap (λ (z : Module). z.row) e) (ap (λ (z : Module). z.col) e)
     ]
 
     kept : (q : Role) → ((i : ℕ) → q ≡ FormatBit i → ⊥) → format_or format q w ≡ w

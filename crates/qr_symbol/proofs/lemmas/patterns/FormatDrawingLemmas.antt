@@ -1,6 +1,6 @@
 -- The format information, drawn bit by bit over a symbol.
 use Rattle.qr_layout.{proofs.Facts.{format-only, format-first, format-second}, specs.{Format.{first_place, second_place}, Role.role_of, Version.side_of}}
-use Rattle.qr_layout.specs.declared.{region.Place.Place, role.Role.{Role, TheVariants.FormatBit}}
+use Rattle.qr_layout.specs.declared.{region.Module.Module, role.Role.{Role, TheVariants.FormatBit}}
 use Rattle.qr_matrix.{proofs.Facts.{same-place, square-same, colour-painted-here, colour-painted-there, colour-square}, specs.BitRow.has_bit}
 use Rattle.{qr_matrix.specs.Grid.{Grid, square, colour, painted, with_row, IsSquare}, qr_symbol.specs.{Mask.{inverts, inverted}, Steps.Patterns.format_or}}
 use Rattle.std.proofs.Common.{◌≡◌, ◌≢◌, ◌⊎◌, ℕ, ◌+◌, ◌-◌, ◌<◌, ◌≤◌, Bool, true, false, cond, ltb, leb, eqb, ◌&&◌, refl, sym, ◌∙◌, ap, inl, inr, arith}
@@ -43,13 +43,13 @@ pub format-start : (v format : ℕ) (g : Grid) → FormatDone v format 0 g g
 format-start v format g r c l m = none-drawn format _ _
 
 -- `at` is the place p, which is in a square of side n
-pub record IsPlaceIn (n : ℕ) (p at : Place) : Type 0 where
+pub record IsPlaceIn (n : ℕ) (p at : Module) : Type 0 where
   pub same : at ≡ p
   pub row : at.row < n
   pub col : at.col < n
 
 -- one bit is drawn at its two places
-pub format-step : (v format i : ℕ) (g0 g : Grid) (a b : Place) (d : Bool) → 1 ≤ v → v ≤ 40
+pub format-step : (v format i : ℕ) (g0 g : Grid) (a b : Module) (d : Bool) → 1 ≤ v → v ≤ 40
     → i < 15 → g.side ≡ side_of v → IsPlaceIn (side_of v) (first_place i) a → IsPlaceIn (side_of v) (second_place (side_of v) i) b
     → d ≡ has_bit format i → FormatDone v format i g0 g
     → FormatDone v format (i + 1) g0 (painted (painted g a.row a.col d) b.row b.col d)
@@ -61,7 +61,7 @@ format-step v format i g0 g a b d k1 k2 l s at bt ed h r c m n = let eb = bt.sam
     | inl u ↦ search (arith, format-first, colour-painted-here, bit-drawn)
     | inr u ↦ colour-painted-there g _ _ r c d (omega arith) (omega arith) u.0
         ∙ (h r c m n ∙ bit-kept i _ _ _ (λ q. elim (format-only v _ i q).1 [
-          | inl f ↦ let e = f ∙ sym at.same in u.0 (ap (λ (z : Place). z.row) e, ap (λ (z : Place). z.col) e)
+          | inl f ↦ let e = f ∙ sym at.same in u.0 (ap (λ (z : Module). z.row) e, ap (λ (z : Module). z.col) e)
           | inr f ↦ search arith
         ]))
   ]
@@ -93,18 +93,18 @@ unfolding format_or
 bit-same format i q x y e = rw e refl
 
 -- of the places of bit i, a is the one in column 8
-abbrev pub IsInEight : ℕ → ℕ → Place → Type 0
+abbrev pub IsInEight : ℕ → ℕ → Module → Type 0
 IsInEight n i a = ((i < 8) × (a ≡ first_place i)) ⊎ ((8 ≤ i) × (a ≡ second_place n i))
 
 -- the other place of a bit is in row 8
-eight-only : (v i : ℕ) (a m : Place) → 1 ≤ v → IsInEight (side_of v) i a → role_of v m.row m.col ≡ FormatBit i → m.row ≢ 8 → m ≡ a
+eight-only : (v i : ℕ) (a m : Module) → 1 ≤ v → IsInEight (side_of v) i a → role_of v m.row m.col ≡ FormatBit i → m.row ≢ 8 → m ≡ a
 eight-only v i a m k at q o = by-place (format-only v m i q).1 at
   where
     by-place : (m ≡ first_place i) ⊎ (m ≡ second_place (side_of v) i) → IsInEight (side_of v) i a → m ≡ a
     by-place (inl f) (inl e) = f ∙ sym e.1
     by-place (inr f) (inr e) = f ∙ sym e.1
-    by-place (inl f) (inr e) = absurd (o (ap (λ (z : Place). z.row) f ∙ grind (arith, nat_tests)))
-    by-place (inr f) (inl e) = absurd (o (ap (λ (z : Place). z.row) f ∙ grind (arith, nat_tests)))
+    by-place (inl f) (inr e) = absurd (o (ap (λ (z : Module). z.row) f ∙ grind (arith, nat_tests)))
+    by-place (inr f) (inl e) = absurd (o (ap (λ (z : Module). z.row) f ∙ grind (arith, nat_tests)))
 
 -- a colour after a row was written
 row-written : (n row : ℕ) (g h : Grid) (line : ℕ → Bool) → g.side ≡ n → h ≡ with_row g row line → (r c : ℕ) → r < n → c < n → colour h r c ≡ cond (eqb r row) (line c) (colour g r c)
@@ -115,7 +115,7 @@ one-written : (row col r c n : ℕ) (f : ℕ → ℕ → Bool) → cond (eqb r r
 one-written row col r c n f = search (arith, nat_tests)
 
 -- a bit is drawn in column 8
-pub down-step : (v format i n : ℕ) (g0 g h : Grid) (a : Place) → 1 ≤ v → v ≤ 40 → i < 15 → g.side ≡ side_of v → IsInEight (side_of v) i a → has_bit n 0 ≡ has_bit format i
+pub down-step : (v format i n : ℕ) (g0 g h : Grid) (a : Module) → 1 ≤ v → v ≤ 40 → i < 15 → g.side ≡ side_of v → IsInEight (side_of v) i a → has_bit n 0 ≡ has_bit format i
     → h ≡ with_row g a.row (λ c. cond (leb a.col c && ltb c (a.col + 1)) (has_bit n (c - a.col)) (colour g a.row c))
     → FormatDown v format i g0 g → FormatDown v format (i + 1) g0 h
 down-step v format i n g0 g h a k1 k2 l s at bit e before r c m o =

@@ -1,5 +1,5 @@
 -- Squares that are painted at the places that pass a test.
-use Rattle.qr_layout.specs.{Region.{is_alignment, ring_of}, Role.is_alignment_light, declared.region.{Rectangle.Rectangle, Place.Place}}
+use Rattle.qr_layout.specs.{Region.{is_alignment, ring_of}, Role.is_alignment_light, declared.region.{Rectangle.Rectangle, Module.Module}}
 use Rattle.qr_matrix.{proofs.Facts.{same-place, square-same, colour-square}, specs.Grid.{Grid, square, colour, painted, with_rectangle, IsSquare}}
 use Rattle.qr_symbol.{proofs.lemmas.placement.PlacementLemmas.square-is, specs.Steps.Patterns.IsOver}
 use Rattle.std.proofs.Common.{◌≡◌, ℕ, ◌+◌, ◌-◌, ◌<◌, Bool, true, false, not, cond, eqb, ltb, leb, ◌&&◌, ◌||◌, List, [], ◌∷◌, length, take, get_or, refl, ◌∙◌, ap, arith}
@@ -103,6 +103,6 @@ light-inside v r c h = rings _ h
     first _ true a b f g e = refl
     first _ _ a b f g e = g e
 
-    rings : (ms : List Place) → list_any (λ m. eqb (ring_of m.row m.col r c) 1) ms ≡ true → list_any (λ m. leb (ring_of m.row m.col r c) 2) ms ≡ true
+    rings : (ms : List Module) → list_any (λ m. eqb (ring_of m.row m.col r c) 1) ms ≡ true → list_any (λ m. leb (ring_of m.row m.col r c) 2) ms ≡ true
     rings [] e = cc
     rings (m ∷ ms) e = first _ _ _ _ (ring _) (rings ms) e

@@ -1,6 +1,6 @@
 -- Drawing along the walk, where each bit is masked as it is placed.
 use Rattle.{qr_bits.specs.Bits.codeword_bit, qr_layout.{proofs.Facts.{order-small, region-role, role-region}, specs.Format.{format_word_of, version_word_of}}}
-use Rattle.qr_layout.specs.{Order.IsOrder, Region.is_in_region, Role.role_of, Version.side_of, declared.{level.Level.Level, region.Place.Place}}
+use Rattle.qr_layout.specs.{Order.IsOrder, Region.is_in_region, Role.role_of, Version.side_of, declared.{level.Level.Level, region.Module.Module}}
 use Rattle.qr_matrix.proofs.Facts.{same-place, colour-painted-here, colour-painted-there, square-same, colour-square}
 use Rattle.qr_matrix.specs.Grid.{Grid, square, colour, light, painted, IsSquare}
 use Rattle.qr_symbol.proofs.lemmas.placement.PlacementLemmas.{by_test, Done, done-start, next-number, painted-square, whole-next, whole-push, in-square}
@@ -15,23 +15,23 @@ unfolding walked_colour
 walked-outside v cw mask f r c e = rw e refl
 
 -- the modules of the walk in `front` have been drawn, and those in `later` are still to come
-pub record IsWalked (v : ℕ) (cw : List ℕ) (mask : ℕ) (g0 : Grid) (front later : List Place) (number : ℕ) (g : Grid) : Type 0 where
+pub record IsWalked (v : ℕ) (cw : List ℕ) (mask : ℕ) (g0 : Grid) (front later : List Module) (number : ℕ) (g : Grid) : Type 0 where
   pub whole : IsOrder v (front ++ later)
   pub next : number ≡ length front
   pub square : IsSquare (side_of v) g
   pub done : Done (side_of v) (walked_colour v cw mask (colour g0)) later g
 
 -- at first no module has been drawn
-pub walked-start : (v : ℕ) (cw : List ℕ) (mask : ℕ) (g : Grid) (ms : List Place) → IsSquare (side_of v) g → IsOrder v ms → IsWalked v cw mask g [] ms 0 g
+pub walked-start : (v : ℕ) (cw : List ℕ) (mask : ℕ) (g : Grid) (ms : List Module) → IsSquare (side_of v) g → IsOrder v ms → IsWalked v cw mask g [] ms 0 g
 walked-start v cw mask g ms s o = search (arith, done-start, walked-outside)
 
 -- the next module is in the square
-pub walked-in : (v : ℕ) (cw : List ℕ) (mask : ℕ) (g0 g : Grid) (front now later : List Place) (x : Place) (number : ℕ) → IsWalked v cw mask g0 front now number g → now ≡ x ∷ later → (x.row < g.side) × (x.col < g.side)
+pub walked-in : (v : ℕ) (cw : List ℕ) (mask : ℕ) (g0 g : Grid) (front now later : List Module) (x : Module) (number : ℕ) → IsWalked v cw mask g0 front now number g → now ≡ x ∷ later → (x.row < g.side) × (x.col < g.side)
 walked-in v cw mask g0 g front now later x number w e =
     let l = in-square v _ _ x (whole-next v _ now _ x w.whole e) in search arith
 
 -- one module is drawn
-pub walked-step : (v : ℕ) (cw : List ℕ) (mask : ℕ) (g0 g : Grid) (front now later : List Place) (x : Place)
+pub walked-step : (v : ℕ) (cw : List ℕ) (mask : ℕ) (g0 g : Grid) (front now later : List Module) (x : Module)
     (number : ℕ) (bit turned : Bool) → bit ≡ codeword_bit cw number → turned ≡ inverts mask x.row x.col →
     now ≡ x ∷ later → IsWalked v cw mask g0 front now number g → IsWalked v cw mask g0 (front ++ x ∷ []) later
     (number + 1) (painted g x.row x.col (not (beq bit turned)))
@@ -47,7 +47,7 @@ walked-step v cw mask g0 g front now later x number bit turned b t e w =
     }
 
 -- the number of the next bit is at most the number of all modules of the region
-pub walked-small : (v : ℕ) (cw : List ℕ) (mask : ℕ) (g0 g : Grid) (front later : List Place) (number : ℕ) → 1 ≤ v → v ≤ 40 → IsWalked v cw mask g0 front later number g → number ≤ 29648
+pub walked-small : (v : ℕ) (cw : List ℕ) (mask : ℕ) (g0 g : Grid) (front later : List Module) (number : ℕ) → 1 ≤ v → v ≤ 40 → IsWalked v cw mask g0 front later number g → number ≤ 29648
 walked-small v cw mask g0 g front later number k l w =
     let m = order-small v _ k l w.whole in search (arith, length-append)
 

@@ -1,7 +1,7 @@
 -- What is read from the square of a symbol: the codeword bits, the codewords and the message.
 use Rattle.qr_bits.{proofs.Facts.{length-field, length-bits_of, bits_at, bytes-takes}, specs.{Bits.{field, bits_of, codeword_bit}, Parsing.bytes_of}}
 use Rattle.qr_layout.{proofs.Facts.{order-mem, order-length, index-at, only-order, to_come-start, region-role}, specs.{Blocks.data_codewords_of, Order.IsOrder}}
-use Rattle.qr_layout.specs.{Steps.Order.{to_come, first_cursor}, Version.total_codewords_of, declared.{level.Level.Level, region.Place.Place}}
+use Rattle.qr_layout.specs.{Steps.Order.{to_come, first_cursor}, Version.total_codewords_of, declared.{level.Level.Level, region.Module.Module}}
 use Rattle.qr_matrix.{proofs.Facts.colour-square, specs.Grid.Grid}
 use Rattle.qr_symbol.proofs.lemmas.interleaving.MessageLemmas.{append-front, data-one, data-sizes-whole}
 use Rattle.qr_symbol.{proofs.lemmas.placement.PlacementLemmas.{in-square, whole-push, Mem-mid}, specs.{Interleaving.IsInterleaved, Mask.{inverts, inverted}}}
@@ -16,7 +16,7 @@ inverted-twice : (b x : Bool) → inverted b (inverted b x) ≡ x
 inverted-twice b x = grind (arith, nat_tests)
 
 -- the bit that is read at one module
-read-place : (v : ℕ) (l : Level) (mask : ℕ) (cw : List ℕ) (front back : List Place) (m : Place) → 1 ≤ v → IsOrder v (front ++ m ∷ back) → unmasked mask (grid_of v l mask cw) m ≡ codeword_bit cw (length front)
+read-place : (v : ℕ) (l : Level) (mask : ℕ) (cw : List ℕ) (front back : List Module) (m : Module) → 1 ≤ v → IsOrder v (front ++ m ∷ back) → unmasked mask (grid_of v l mask cw) m ≡ codeword_bit cw (length front)
 unfolding colour_of
 read-place v l mask cw front back m k o =
     let w = in-square v _ _ m o in
@@ -24,7 +24,7 @@ read-place v l mask cw front back m k o =
     ∙ (inverted-twice _ _ ∙ ap (codeword_bit cw) (index-at v _ _ m o))
 
 -- the bits that are read from one module of the order on
-read-from : (v : ℕ) (l : Level) (mask : ℕ) (cw : List ℕ) (n : ℕ) (front rest : List Place) → 1 ≤ v → IsOrder v (front ++ rest) → length front + n ≤ 8 * length cw → n ≤ length rest → map (unmasked mask (grid_of v l mask cw)) (take n rest) ≡ take n (drop (length front) (bits_of cw))
+read-from : (v : ℕ) (l : Level) (mask : ℕ) (cw : List ℕ) (n : ℕ) (front rest : List Module) → 1 ≤ v → IsOrder v (front ++ rest) → length front + n ≤ 8 * length cw → n ≤ length rest → map (unmasked mask (grid_of v l mask cw)) (take n rest) ≡ take n (drop (length front) (bits_of cw))
 read-from v l mask cw zero front rest p o i h = refl
 read-from v l mask cw (suc n) front [] p o i h = absurd (omega arith)
 read-from v l mask cw (suc n) front (m ∷ rest) p o i h =
@@ -39,7 +39,7 @@ take-whole : {X : Type 0} (xs : List X) (n : ℕ) → length xs ≡ n → take n
 take-whole xs n e = rw (← e) (take-length xs)
 
 -- a symbol is read as the bits of its codewords
-pub read-grid : (v : ℕ) (l : Level) (mask : ℕ) (cw : List ℕ) (ms : List Place) → 1 ≤ v → v ≤ 40 → IsOrder v ms → length cw ≡ total_codewords_of v → read_bits v mask (grid_of v l mask cw) ms ≡ bits_of cw
+pub read-grid : (v : ℕ) (l : Level) (mask : ℕ) (cw : List ℕ) (ms : List Module) → 1 ≤ v → v ≤ 40 → IsOrder v ms → length cw ≡ total_codewords_of v → read_bits v mask (grid_of v l mask cw) ms ≡ bits_of cw
 read-grid v l mask cw ms p h o e =
     let t = 8 * total_codewords_of v in let many = order-length v ms p h o in
     let none : t - length ms ≡ 0 = omega arith in

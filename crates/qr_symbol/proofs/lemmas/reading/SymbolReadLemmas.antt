@@ -2,7 +2,7 @@
 use Rattle.qr_bits.{proofs.Facts.{fault-read, length-field, length-bits_of}, specs.{Bits.{field, bits_of}, Parsing.{parse, Content, IsResultOf}}}
 use Rattle.{qr_bits.specs.declared.fault.ParseFault.ParseFault, qr_layout.proofs.Facts.{Mem, col-in, order-length, order-mem, row-in, below, below-at}}
 use Rattle.qr_layout.specs.{Blocks.data_codewords_of, Order.IsOrder, Region.is_in_region, Version.{side_of, total_codewords_of, remainder_bits_of}}
-use Rattle.{qr_layout.specs.declared.{level.Level.Level, region.Place.Place}, qr_matrix.proofs.Facts.{colour-square, colour-transposed}}
+use Rattle.{qr_layout.specs.declared.{level.Level.Level, region.Module.Module}, qr_matrix.proofs.Facts.{colour-square, colour-transposed}}
 use Rattle.{qr_matrix.specs.Grid.{Grid, colour, square, transposed}, qr_symbol.proofs.lemmas.interleaving.MessageLemmas.append-front}
 use Rattle.qr_symbol.{proofs.lemmas.{placement.PlacementLemmas.at, reading.ReadLemmas.read-one}, specs.{Fault.unread_for, Interleaving.IsInterleaved}}
 use Rattle.qr_symbol.specs.{Mask.{inverts, inverted}, Reading.{unmasked, IsRead, IsReadUnmasked, IsMessage, IsFormat, IsOfVersion, IsReading, IsUnread}}
@@ -23,16 +23,16 @@ few-left v l h =
     ltb-true _ _ (subst (λ (k : ℕ). ltb (remainder_bits_of k) 8 ≡ true) (omega arith) (below-at 40 (λ i. ltb (remainder_bits_of (i + 1)) 8) remainder-small (v - 1) (omega arith)))
 
 -- the bits of all modules fill no more codewords than there are
-pub filled-few : (v : ℕ) (f : Place → Bool) (ms : List Place) → 1 ≤ v → v ≤ 40 → IsOrder v ms → length (map f ms) / 8 ≤ total_codewords_of v
+pub filled-few : (v : ℕ) (f : Module → Bool) (ms : List Module) → 1 ≤ v → v ≤ 40 → IsOrder v ms → length (map f ms) / 8 ≤ total_codewords_of v
 filled-few v f ms p q o = omega (arith, order-length v ms p q o, few-left v p q, length-map ms f)
 
 -- if fewer than eight bits are left after all modules, all codewords have been read
-pub all-read : (v : ℕ) (f : Place → Bool) (ms : List Place) (cw : List ℕ) (width begun : ℕ) → 1 ≤ v → v ≤ 40 → IsOrder v ms → width < 8 → bits_of cw ++ field width begun ≡ map f ms → length cw ≡ total_codewords_of v
+pub all-read : (v : ℕ) (f : Module → Bool) (ms : List Module) (cw : List ℕ) (width begun : ℕ) → 1 ≤ v → v ≤ 40 → IsOrder v ms → width < 8 → bits_of cw ++ field width begun ≡ map f ms → length cw ≡ total_codewords_of v
 all-read v f ms cw width begun p q o w bits =
     let many = order-length v ms p q o in search (arith, few-left, length-append, bits_of, length-map, length-bits_of, length-field)
 
 -- the codewords that have been read have the bits of the first modules
-pub read-whole : (v : ℕ) (f : Place → Bool) (ms : List Place) (cw : List ℕ) (width begun : ℕ) → 1 ≤ v → v ≤ 40 → IsOrder v ms → width < 8 → bits_of cw ++ field width begun ≡ map f ms → bits_of cw ≡ map f (take (8 * total_codewords_of v) ms)
+pub read-whole : (v : ℕ) (f : Module → Bool) (ms : List Module) (cw : List ℕ) (width begun : ℕ) → 1 ≤ v → v ≤ 40 → IsOrder v ms → width < 8 → bits_of cw ++ field width begun ≡ map f ms → bits_of cw ≡ map f (take (8 * total_codewords_of v) ms)
 read-whole v f ms cw width begun p q o w bits =
     let many = order-length v ms p q o in let all = all-read v f ms cw _ _ p q o w bits in
     let t = 8 * total_codewords_of v in let a = length-bits_of cw in
@@ -40,16 +40,16 @@ read-whole v f ms cw width begun p q o w bits =
     (append-front (bits_of cw) (map f _) (field _ _) (map f _) (omega arith) (bits ∙ (ap (map f) (sym (take-append-drop t ms)) ∙ map-append f _ _))).0
 
 -- two functions with the same values at all modules of a list
-take-same : (f h : Place → Bool) (n : ℕ) (ms : List Place) → ((m : Place) → Mem m ms → f m ≡ h m) → map f (take n ms) ≡ map h (take n ms)
+take-same : (f h : Module → Bool) (n : ℕ) (ms : List Module) → ((m : Module) → Mem m ms → f m ≡ h m) → map f (take n ms) ≡ map h (take n ms)
 take-same f h (suc n) (m ∷ ms) e = let t = take-same f h n ms (λ x k. e x (inr k)) in cc (e m (inl refl))
 take-same f h n ms e = refl
 
 -- two functions with the same values in the region
-order-same : (v : ℕ) (f h : Place → Bool) (n : ℕ) (ms : List Place) → IsOrder v ms → ((r c : ℕ) → r < side_of v → c < side_of v → is_in_region v r c ≡ true → f (at r c) ≡ h (at r c)) → map f (take n ms) ≡ map h (take n ms)
+order-same : (v : ℕ) (f h : Module → Bool) (n : ℕ) (ms : List Module) → IsOrder v ms → ((r c : ℕ) → r < side_of v → c < side_of v → is_in_region v r c ≡ true → f (at r c) ≡ h (at r c)) → map f (take n ms) ≡ map h (take n ms)
 order-same v f h n ms o e = search (arith, take-same, order-mem, row-in, col-in)
 
 -- the codewords that are read from the transposed square, strip by strip, are those of the square
-pub read-across : (v : ℕ) (g : Grid) (ms : List Place) (cw : List ℕ) (width begun : ℕ) → 1 ≤ v → v ≤ 40
+pub read-across : (v : ℕ) (g : Grid) (ms : List Module) (cw : List ℕ) (width begun : ℕ) → 1 ≤ v → v ≤ 40
     → g.side ≡ side_of v → IsOrder v ms → All (λ x. x < 256) cw → width < 8
     → bits_of cw ++ field width begun ≡ map (colour_across g) ms → IsReadUnmasked v (transposed g) cw
 read-across v g ms cw width begun p q s o bytes w bits = record {

@@ -1,6 +1,6 @@
 use Rattle.qr_layout.{proofs.lemmas.order.{PathLemmas.{next-IsCursor, next-left}, WalkLemmas.{places-nil, to_come-next}}, specs.Steps.Order.{left_of, to_come}}
 use Rattle.std.proofs.Common.{arith, rules}
-use Rattle.qr_layout.proofs.order.PlacesIterator.next.Goals as goal
+use Rattle.qr_layout.proofs.order.StepsIterator.next.Goals as goal
 
 pub invariant_of-self-then-is_in_region : goal.invariant_of-self-then-is_in_region
 invariant_of-self-then-is_in_region c = search (rules, next-IsCursor)

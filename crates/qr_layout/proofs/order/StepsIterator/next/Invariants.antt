@@ -1,5 +1,5 @@
 use Rattle.{qr_layout.specs.{Steps.Order.{IsCursor, to_come, left_of}, Version.side_of}, std.proofs.Common.{◌≡◌, ◌≤◌}}
-use Rattle.qr_layout.proofs.order.PlacesIterator.next.Given as goal
+use Rattle.qr_layout.proofs.order.StepsIterator.next.Given as goal
 
 abbrev pub invariant-loop-self : goal.invariant-loop-self
 invariant-loop-self l = record {
