@@ -137,7 +137,7 @@ fn longest_gs1_prefix(input: &[u8], version: Version, rule: Rule, room: u64) -> 
 pub fn longest_fit(
     _alloc: Global,
     input: &[u8],
-    version: Version,
+    v: Version,
     level: Level,
     rule: Rule,
     interpretation: Interpretation,
@@ -145,18 +145,18 @@ pub fn longest_fit(
     requires short { length input.now ≤ INPUT_MAX }
     requires written { MayWrite interpretation input.now }
     ensures { IsOkAnd result (λ n.
-        IsLongestFit interpretation version rule input.now (room_of version level interpretation) n) }
+        IsLongestFit interpretation v rule input.now (room_of v level interpretation) n) }
 {
-    let room = room(version, level, interpretation);
-    let most = bytes_in(room, version);
+    let room = room(v, level, interpretation);
+    let most = bytes_in(room, v);
     // Each rule allows byte mode, so the whole input fits as one segment in byte mode.
     if input.len() <= most {
         return Ok(input.len());
     }
     match rule {
         Rule::BytesOnly => Ok(most),
-        _ if is_gs1(interpretation) => Ok(longest_gs1_prefix(input, version, rule, room)),
-        Rule::Auto => Ok(longest_by_rows(input, version, rule, false, false, room)),
-        Rule::WithKanji => Ok(longest_by_rows(input, version, rule, true, false, room)),
+        _ if is_gs1(interpretation) => Ok(longest_gs1_prefix(input, v, rule, room)),
+        Rule::Auto => Ok(longest_by_rows(input, v, rule, false, false, room)),
+        Rule::WithKanji => Ok(longest_by_rows(input, v, rule, true, false, room)),
     }
 }

@@ -38,40 +38,33 @@ pub fn codewords(
     segmented: &Segmented<'_>,
     header: Option<Header>,
     interpretation: Interpretation,
-    version: Version,
+    v: Version,
     level: Level,
 ) -> Result<Vec<u8>, BitFault>
     requires short { length (cow_slice_items segmented.now.characters) ≤ 2 * INPUT_MAX }
     requires covered { Covers (cow_slice_items segmented.now.characters) segmented.now.segments.items }
     requires in_range { ForSome header (λ h. (h.position < 16) × (h.last < 16)) }
     requires number { InterpretationFits interpretation }
-    ensures ok { IfOk result (λ cw. IsData version level (cow_slice_items segmented.now.characters) segmented.now.segments.items
+    ensures ok { IfOk result (λ cw. IsData v level (cow_slice_items segmented.now.characters) segmented.now.segments.items
         header interpretation cw.items) }
     ensures too_long { (result ≡ Err BitFault.TooLong)
-        ↔ (capacity_of version level < header_bits header + interpretation_bits interpretation
-        + bits version segmented.now.segments.items) }
+        ↔ (capacity_of v level < header_bits header + interpretation_bits interpretation
+        + bits v segmented.now.segments.items) }
 {
-    let capacity = version.capacity(level);
+    let capacity = v.capacity(level);
     let header_bits = match header {
         None => 0,
         Some(_) => HEADER_BITS,
     };
-    let used = header_bits
-        + interpretation_bits(interpretation)
-        + bit_len(&segmented.segments, version);
+    let used = header_bits + interpretation_bits(interpretation) + bit_len(&segmented.segments, v);
     if used > capacity {
         return Err(BitFault::TooLong);
     }
     let left = capacity - used;
-    let len = usize::from(version.data_codewords(level));
+    let len = usize::from(v.data_codewords(level));
     let mut writer = BitWriter::with_capacity(alloc, len)?;
     put_start(&mut writer, header, interpretation)?;
-    put_segments(
-        &mut writer,
-        &segmented.characters,
-        &segmented.segments,
-        version,
-    )?;
+    put_segments(&mut writer, &segmented.characters, &segmented.segments, v)?;
     writer.put(TERMINATOR_BITS.min(left) as u8, 0)?;
     let mut codewords = writer.into_codewords()?;
     pad(&mut codewords, len)?;

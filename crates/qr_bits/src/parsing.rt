@@ -105,13 +105,13 @@ impl Parsed {
 /// or an ECI designator or application indicator that is not defined. If the data of a segment are cut, the fault is
 /// `Cut` even if a value among them is wrong. Returns `Memory` if memory is refused.
 #[tactic(auto, unfolding(crate::specs::Parsing::parse))]
-pub fn parse(alloc: Global, codewords: &[u8], version: Version) -> Result<Parsed, ParseFault>
+pub fn parse(alloc: Global, codewords: &[u8], v: Version) -> Result<Parsed, ParseFault>
     requires { length codewords.now ≤ 3706 }
-    ensures { IsResultOf result (parse version (bits_of codewords.now)) }
+    ensures { IsResultOf result (parse v (bits_of codewords.now)) }
 {
     let mut reader = BitReader::new(codewords);
     let header = first_header(&mut reader)?;
-    let (items, characters) = items(alloc, reader, version)?;
+    let (items, characters) = items(alloc, reader, v)?;
     let meaning = interpreted(alloc, &items, characters)?;
     Ok(Parsed {
         header,

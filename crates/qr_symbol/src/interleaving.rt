@@ -172,15 +172,15 @@ fn corrections(alloc: Global, blocks: Blocks, message: &[u8]) -> Result<Vec<u8>,
 #[inline(always)]
 pub fn interleave(
     alloc: Global,
-    version: Version,
+    v: Version,
     level: Level,
     message: &[u8],
 ) -> Result<Vec<u8>, AllocError>
-    requires whole { length message.now ≡ data_codewords_of version level }
-    ensures interleaved { IfOk result (λ cw. IsInterleaved version level message.now cw.items) }
-    ensures many { IfOk result (λ cw. length cw.items ≡ total_codewords_of version) }
+    requires whole { length message.now ≡ data_codewords_of v level }
+    ensures interleaved { IfOk result (λ cw. IsInterleaved v level message.now cw.items) }
+    ensures many { IfOk result (λ cw. length cw.items ≡ total_codewords_of v) }
 {
-    let blocks = version.blocks(level);
+    let blocks = v.blocks(level);
     let corrections = corrections(alloc, blocks, message)?;
     let mut interleaved = vec![in alloc; 0u8; message.len() + corrections.len()]?;
     let (data, checks) = interleaved.split_at_mut(message.len());
@@ -245,17 +245,17 @@ fn checked_message(alloc: Global, blocks: Blocks, codewords: &[u8]) -> Result<Ve
 #[tactic(auto, using(crate::proofs::Named::messages))]
 pub fn deinterleave(
     alloc: Global,
-    version: Version,
+    v: Version,
     level: Level,
-    codewords: &[u8],
+    cw: &[u8],
 ) -> Result<Vec<u8>, ReadFault>
-    requires whole { length codewords.now ≡ total_codewords_of version }
-    ensures many { IfOk result (λ d. length d.items ≡ data_codewords_of version level) }
-    ensures read { IfOk result (λ d. IsInterleaved version level d.items codewords.now) }
+    requires whole { length cw.now ≡ total_codewords_of v }
+    ensures many { IfOk result (λ d. length d.items ≡ data_codewords_of v level) }
+    ensures read { IfOk result (λ d. IsInterleaved v level d.items cw.now) }
     ensures check { (result ≡ Err ReadFault.Check) ↔ ((result ≢ Err ReadFault.Memory) × ((d : List ℕ)
-        → (length d ≡ data_codewords_of version level) × IsInterleaved version level d codewords.now
+        → (length d ≡ data_codewords_of v level) × IsInterleaved v level d cw.now
         → ⊥)) }
     ensures fault { IfErr result (λ e. (e ≡ ReadFault.Memory) ⊎ (e ≡ ReadFault.Check)) }
 {
-    checked_message(alloc, version.blocks(level), codewords)
+    checked_message(alloc, v.blocks(level), cw)
 }

@@ -156,16 +156,16 @@ fn read_with(
 /// `Format` if the format information belongs to no level and mask; `Check` if the error correction codewords of some
 /// block do not belong to its data codewords; `Segments` if the data codewords cannot be parsed. Returns `Memory` if an
 /// allocation is refused, which happens only after `Side` and `Format` are checked.
-pub fn read_symbol(alloc: Global, matrix: &Matrix) -> Result<Parsed, ReadFault>
-    ensures read { MatchResult result (IsReading matrix.now) (IsUnread matrix.now) }
-    ensures side { IsUnread matrix.now ReadFault.Side → result ≡ Err ReadFault.Side }
-    ensures format { IsUnread matrix.now ReadFault.Format → result ≡ Err ReadFault.Format }
+pub fn read_symbol(alloc: Global, m: &Matrix) -> Result<Parsed, ReadFault>
+    ensures read { MatchResult result (IsReading m.now) (IsUnread m.now) }
+    ensures side { IsUnread m.now ReadFault.Side → result ≡ Err ReadFault.Side }
+    ensures format { IsUnread m.now ReadFault.Format → result ≡ Err ReadFault.Format }
 {
-    let Some(version) = Version::of_side(matrix.side()) else {
+    let Some(version) = Version::of_side(m.side()) else {
         return Err(ReadFault::Side);
     };
-    let Some((level, mask)) = format_of(matrix) else {
+    let Some((level, mask)) = format_of(m) else {
         return Err(ReadFault::Format);
     };
-    read_with(alloc, matrix, version, level, mask)
+    read_with(alloc, m, version, level, mask)
 }

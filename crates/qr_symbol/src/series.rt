@@ -48,7 +48,7 @@ use std::alloc::Global;
 pub fn encode_series(
     alloc: Global,
     input: &[u8],
-    version: Version,
+    v: Version,
     level: Level,
     rule: Rule,
     interpretation: Interpretation,
@@ -56,29 +56,29 @@ pub fn encode_series(
     requires short { length input.now ≤ INPUT_MAX }
     requires number { InterpretationFits interpretation }
     requires written { MayWrite interpretation input.now }
-    ensures series { IfOk result (λ ss. IsSeries version level rule interpretation input.now ss.items) }
+    ensures series { IfOk result (λ ss. IsSeries v level rule interpretation input.now ss.items) }
     ensures joined { IfOk result (λ ss. IsJoined (squares_of ss.items) input.now) }
     ensures interpreted { IfOk result (λ ss. AreInterpreted interpretation (squares_of ss.items)) }
     ensures shortest { IfOk result (λ ss. may_use rule Mode.Kanji ≡ false
-        → NeedsParts version level rule interpretation input.now (length ss.items)) }
+        → NeedsParts v level rule interpretation input.now (length ss.items)) }
     ensures empty { (result ≡ Err EncodeFault.Empty) ↔ (input.now ≡ []) }
     ensures too_many { (result ≡ Err EncodeFault.TooMany)
-        ↔ ((result ≢ Err EncodeFault.Memory) × HasNoSeries version level rule interpretation input.now) }
+        ↔ ((result ≢ Err EncodeFault.Memory) × HasNoSeries v level rule interpretation input.now) }
     ensures no_shorter { result ≡ Err EncodeFault.TooMany → may_use rule Mode.Kanji ≡ false
-        → NeedsParts version level rule interpretation input.now 17 }
+        → NeedsParts v level rule interpretation input.now 17 }
     ensures fault { IfErr result (λ e. (e ≡ EncodeFault.Empty) ⊎ (e ≡ EncodeFault.TooMany)
         ⊎ (e ≡ EncodeFault.Memory)) }
 {
     if input.is_empty() {
         return Err(EncodeFault::Empty);
     }
-    if let Some(symbol) = plain_symbol(alloc, input, version, level, rule, interpretation)? {
+    if let Some(symbol) = plain_symbol(alloc, input, v, level, rule, interpretation)? {
         let mut symbols = Vec::new(alloc);
         symbols.push(symbol)?;
         return Ok(symbols);
     }
-    let lengths = part_lengths(alloc, input, version, level, rule, interpretation)?;
-    let mut canvas = Canvas::new(alloc, version, level)?;
+    let lengths = part_lengths(alloc, input, v, level, rule, interpretation)?;
+    let mut canvas = Canvas::new(alloc, v, level)?;
     symbols_on(
         alloc,
         &mut canvas,

@@ -7,4 +7,4 @@ returns-then-input-most c = search (arith, le_refl, take_all, bytes-fit)
 pub returns-in-BytesOnly : goal.returns-in-BytesOnly
 returns-in-BytesOnly c =
     rw (c.in-BytesOnly.is, ← c.room-room.ensures.value)
-    (bytes-longest c.args.interpretation c.args.version c.args.input.now c.room-room.result c.bytes_in-most.result c.bytes_in-most.result (omega (arith, c.if-input-most.false)) c.bytes_in-most.ensures.fits c.bytes_in-most.ensures.most)
+    (bytes-longest c.args.interpretation c.args.v c.args.input.now c.room-room.result c.bytes_in-most.result c.bytes_in-most.result (omega (arith, c.if-input-most.false)) c.bytes_in-most.ensures.fits c.bytes_in-most.ensures.most)

@@ -26,8 +26,8 @@ pub put_segments-requires-clause-short : goal.put_segments-requires-clause-short
 put_segments-requires-clause-short c =
     let head : c.match-header.header_bits ≡ header_bits c.args.header = elim c.match-header.branch [ in-None w ↦ search rules | in-Some w ↦ search rules ] in
     let segs = c.args.segmented.now.segments.items in
-    let least = bits-least c.args.version _ segs (covers-suits _ segs c.requires.covered) in
-    let most = capacity-most c.args.version c.args.level (omega arith) (omega arith) in
+    let least = bits-least c.args.v _ segs (covers-suits _ segs c.requires.covered) in
+    let most = capacity-most c.args.v c.args.level (omega arith) (omega arith) in
     rw c.deref-2.ensures.value ((room _ _ _ _ _ _ _ _ head c.interpretation_bits.ensures.value (rw c.deref.ensures.value at c.bit_len.ensures) c.capacity-capacity.ensures.value c.if-used-capacity.false).3 _ least most)
 
 pub returns-clause-ok : goal.returns-clause-ok
@@ -38,16 +38,16 @@ returns-clause-ok c =
     let suit = covers-suits xs segs c.requires.covered in
     let bits = rw c.deref.ensures.value at c.bit_len.ensures in
     let left = room _ _ _ _ _ _ _ _ head c.interpretation_bits.ensures.value bits c.capacity-capacity.ensures.value c.if-used-capacity.false in
-    let is : IsStream c.args.version xs segs c.args.header c.args.interpretation ((header_stream c.args.header ++ interpretation_stream c.args.interpretation) ++ segments_stream c.args.version xs segs) = record {
+    let is : IsStream c.args.v xs segs c.args.header c.args.interpretation ((header_stream c.args.header ++ interpretation_stream c.args.interpretation) ++ segments_stream c.args.v xs segs) = record {
       bytes = rw c.deref-2.ensures.value at c.in_ok-put_segments.ensures.1;
       suit = suit;
-      counts = counts_fit c.args.version c.args.level segs (omega arith) (omega arith) left.1;
+      counts = counts_fit c.args.v c.args.level segs (omega arith) (omega arith) left.1;
       header = λ h e. let r = c.requires.in_range h e in (r.0, r.1, c.in_ok-put_start.ensures.1 h e);
       interpretation = c.requires.number;
       whole = refl;
     } in
-    is-data c.args.version c.args.level xs segs c.args.header c.args.interpretation _ (c.match-header.header_bits + c.interpretation_bits.result + c.bit_len.result) c.in_ok-codewords.codewords.items _ is
-    (rw (length-append (header_stream c.args.header ++ interpretation_stream c.args.interpretation) (segments_stream c.args.version xs segs), length-append (header_stream c.args.header) (interpretation_stream c.args.interpretation), length-header_stream c.args.header, length-interpretation_stream c.args.interpretation, length-segments_stream c.args.version xs segs suit, head, c.interpretation_bits.ensures.value, bits) refl)
+    is-data c.args.v c.args.level xs segs c.args.header c.args.interpretation _ (c.match-header.header_bits + c.interpretation_bits.result + c.bit_len.result) c.in_ok-codewords.codewords.items _ is
+    (rw (length-append (header_stream c.args.header ++ interpretation_stream c.args.interpretation) (segments_stream c.args.v xs segs), length-append (header_stream c.args.header) (interpretation_stream c.args.interpretation), length-header_stream c.args.header, length-interpretation_stream c.args.interpretation, length-segments_stream c.args.v xs segs suit, head, c.interpretation_bits.ensures.value, bits) refl)
     left.0
     (rw (c.in_ok-codewords.ensures, c.in_ok-put.ensures, c.in_ok-put_segments.ensures.0, c.in_ok-put_start.ensures.0, c.in_ok-writer.ensures, c.deref-2.ensures.value, c.deref-3.ensures.value, c.min.ensures, ← c.capacity-capacity.ensures.value))
     (search arith) c.in_ok-pad.ensures.1

@@ -13,7 +13,7 @@ scatter-requires c =
 
 pub returns : goal.returns
 returns c =
-    let v = c.args.version in let l = c.args.level in
+    let v = c.args.v in let l = c.args.level in
     let b : c.blocks-blocks.result ≡ blocks_of v l = c.blocks-blocks.ensures in
     let first = rw (c.of_data.ensures, b) at c.scatter.ensures in
     let checks = rw (c.of_corrections.ensures, b, c.deref.ensures.value) at c.scatter-2.ensures in

@@ -2,7 +2,7 @@ use Rattle.{qr_symbol.{proofs.reading.read_symbol.Goals.In-Some, specs.Reading.I
 use Rattle.qr_symbol.proofs.reading.read_symbol.Goals as goal
 
 -- the version that was found
-of-version : (c : In-Some) → IsOfVersion c.args.matrix.now c.in-Some.version
+of-version : (c : In-Some) → IsOfVersion c.args.m.now c.in-Some.version
 of-version c = search rules
 
 pub returns-in_default-clause-read : goal.returns-in_default-clause-read
