@@ -1,4 +1,5 @@
-//! Laws of the command. A function here does nothing: its contract is the law.
+//! Laws of the command. A function here does nothing: its contract is the law. The theorems that the README claims are
+//! in `qr_theorems`. The laws here compute examples and refuse wrong definitions.
 
 ghost use Rattle.std.specs.Prelude.{◌≡◌};
 ghost use Rattle.qr_bits.specs.declared.modes.TheConstants.{INPUT_MAX};

@@ -1,5 +1,5 @@
-use Rattle.qr_mending.proofs.lemmas.laws.DamageLemmas.{symbol-counted}
-use Rattle.qr_mending.proofs.laws.damaged_symbols_are_mended.Goals as goal
+use Rattle.qr_theorems.proofs.lemmas.laws.DamageLemmas.{symbol-counted}
+use Rattle.qr_theorems.proofs.laws.damaged_symbols_are_mended.Goals as goal
 
 pub returns : goal.returns
 returns c = λ v l rule how x header mask g changed least most may s side f d.

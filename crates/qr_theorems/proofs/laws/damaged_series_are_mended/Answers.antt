@@ -1,5 +1,5 @@
-use Rattle.{qr_mending.proofs.lemmas.series.{damaged-joined, mended-to}, qr_symbol.{proofs.Facts.series-joined, specs.Series.squares_of}}
-use Rattle.qr_mending.proofs.laws.damaged_series_are_mended.Goals as goal
+use Rattle.{qr_theorems.proofs.lemmas.laws.SeriesLemmas.{damaged-joined, mended-to}, qr_symbol.{proofs.Facts.series-joined, specs.Series.squares_of}}
+use Rattle.qr_theorems.proofs.laws.damaged_series_are_mended.Goals as goal
 
 pub returns : goal.returns
 returns c =

@@ -1,8 +1,9 @@
 -- Two symbols of a version that contain different messages lie far apart.
 use Rattle.{qr_layout.{proofs.Facts.format-second, specs.{Format.format_word_of, declared.level.Level.Level}}, qr_matrix.proofs.Facts.colour-square}
-use Rattle.{qr_matrix.specs.BitRow.has_bit, qr_mending.{proofs.lemmas.format.{bits-alike, word-one}, specs.Distance.{SomeBlockLiesApart, SymbolsLieApart}}}
+use Rattle.{qr_matrix.specs.BitRow.has_bit, qr_mending.proofs.Facts.{bits-alike, word-one}}
+use Rattle.qr_theorems.{proofs.lemmas.laws.MessageLemmas.messages-apart, specs.Distance.{HeldMessage, SomeBlockLiesApart, SymbolsLieApart}}
 use Rattle.qr_mending.specs.{Format.copy_bit, declared.format.FormatCopy.{FormatCopy, TheVariants.{First, Second}}}
-use Rattle.qr_symbol.{proofs.Facts.{format-read, messages-apart}, specs.{Distance.HeldMessage, Symbol.{colour_of, grid_of}}}
+use Rattle.qr_symbol.{proofs.Facts.format-read, specs.Symbol.{colour_of, grid_of}}
 use Rattle.std.proofs.{Common.{◌≡◌, ℕ, ◌<◌, ◌≤◌, List, subst, inl, inr, arith}, lemmas.Bool.Decides.nat_tests}
 
 -- the bits of each copy in a symbol are those of the word of its level and mask

@@ -2,8 +2,8 @@
 use Rattle.{qr_bits.specs.Bits.{bits_of, field}, qr_field.proofs.lemmas.laws.DistanceLemmas.{difference-most, difference-same}}
 use Rattle.{qr_field.specs.Distance.{difference, differences}, qr_layout.specs.{Order.IsOrder, Version.total_codewords_of, declared.region.Place.Place}}
 use Rattle.qr_matrix.{proofs.Facts.same-same, specs.{Difference.differs, Grid.Grid}}
-use Rattle.qr_mending.{proofs.lemmas.message.{MarkLemmas.{codeword-read, codewords-bits, codewords-many}, MessageLemmas.item}, specs.Message.modules_of}
-use Rattle.{qr_mending.specs.Modules.codeword_differences, qr_symbol.{proofs.Facts.bits-one, specs.Reading.{unmasked, IsRead}}}
+use Rattle.qr_mending.{proofs.Facts.{codeword-read, codewords-bits, codewords-many, item}, specs.Message.modules_of}
+use Rattle.{qr_theorems.specs.Damage.codeword_differences, qr_symbol.{proofs.Facts.bits-one, specs.Reading.{unmasked, IsRead}}}
 use Rattle.std.proofs.Common.{◌≡◌, ℕ, ◌<◌, ◌≤◌, Bool, cond, List, [], ◌∷◌, ◌++◌, map, get_or, refl, ap, arith}
 use Rattle.std.{proofs.lemmas.List.{Elements.{All-nil, All-cons, All-head, All-tail}, Sums.sum_by-cons}, specs.List.{All, count_by, sum_by}}
 

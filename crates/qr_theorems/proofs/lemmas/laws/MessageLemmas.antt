@@ -1,28 +1,11 @@
 -- Messages whose blocks differ in few codewords are the same message.
-use Rattle.std.proofs.Common.{◌≡◌, ℕ, zero, suc, ◌+◌, ◌<◌, ◌≤◌, List, [], length, take, drop, length-drop, get_or, sym, ◌∙◌, inl, inr, ◌⊎◌, arith}
-use Rattle.std.proofs.{Math.Seq.{take-add, take-length}, lemmas.{Bool.cases_lt, List.length-take}}
+use Rattle.std.proofs.Common.{◌≡◌, ℕ, zero, suc, ◌+◌, ◌<◌, ◌≤◌, List, [], length, length-drop, get_or, sym, ◌∙◌, inl, inr, ◌⊎◌, arith}
+use Rattle.std.proofs.lemmas.{Bool.cases_lt, List.length-take}
 use Rattle.qr_field.{proofs.Facts.{near-same, unambiguous-known}, specs.Distance.differences}
 use Rattle.qr_layout.{proofs.Facts.laws-of, specs.{Blocks.blocks_of, declared.level.Level.Level}}
-use Rattle.qr_symbol.specs.{declared.interleaving.BlockSizes.BlockSizes, Interleaving.{block_count, block_len, start_of, codeword_count, data_sizes, block_of}}
-use Rattle.qr_symbol.specs.Distance.{blocks_in, held_block, DamagedMessagesAreOne, HeldMessage, MessagesLieApart}
-use Rattle.qr_symbol.proofs.lemmas.interleaving.{MessageLemmas.data-sizes-whole, PositionLemmas.{start-none, start-next, len-most}}
-
--- block i, where the list contains the codewords block after block
-abbrev pub part : BlockSizes → List ℕ → ℕ → List ℕ
-part c d i = take (block_len c i) (drop (start_of c i) d)
-
--- lists of codewords whose first blocks are equal are equal as far as these blocks reach
-fronts-same : (c : BlockSizes) (d e : List ℕ) (i : ℕ) → ((j : ℕ) → j < i → part c d j ≡ part c e j)
-    → take (start_of c i) d ≡ take (start_of c i) e
-fronts-same c d e zero h = cc (start-none c)
-fronts-same c d e (suc i) h =
-    let f = fronts-same c d e i (λ j l. h j (omega arith)) in let more : suc i ≡ i + 1 = omega arith in
-    search (arith, start-next, take-add)
-
--- lists of codewords with equal blocks are equal
-pub parts-same : (c : BlockSizes) (d e : List ℕ) → length d ≡ codeword_count c → length e ≡ codeword_count c
-    → ((j : ℕ) → j < block_count c → part c d j ≡ part c e j) → d ≡ e
-parts-same c d e n m h = cc (take-length d, fronts-same c d e _ h, take-length e)
+use Rattle.qr_symbol.specs.Interleaving.{blocks_in, data_sizes, block_of}
+use Rattle.qr_symbol.proofs.Facts.{data-sizes-whole, len-most, part, parts-same}
+use Rattle.qr_theorems.specs.Distance.{held_block, DamagedMessagesAreOne, HeldMessage, MessagesLieApart}
 
 -- a block has at most 255 codewords
 part-short : (v : ℕ) (l : Level) (d : List ℕ) (i : ℕ) → 1 ≤ v → v ≤ 40 →

@@ -2,7 +2,7 @@
 use Rattle.qr_bits.specs.{Interpretation.MayWrite, Parsing.Content, declared.{interpretation.Interpretation.Interpretation, modes.Rule.Rule}}
 use Rattle.{qr_bits.specs.declared.stream.Header.Header, qr_layout.specs.declared.level.Level.Level, qr_matrix.specs.Grid.Grid}
 use Rattle.qr_mending.specs.declared.erasures.Changes.{Changes}
-use Rattle.qr_mending.proofs.lemmas.{laws.SoundnessLemmas.wrong-one, mending.{mended-reading-one, mended-not-refused}}
+use Rattle.qr_mending.proofs.Facts.{mended-not-refused, mended-reading-one, wrong-one}
 use Rattle.qr_mending.specs.Mending.{wrong_format_least, wrong_format_modules, wrong_modules, HasFormat, HasWrongModules, HoldsDamaged, IsDamagedForm, IsMendedReading, IsUnmended}
 use Rattle.qr_mending.specs.declared.mending.Mended.{Mended}
 use Rattle.qr_symbol.{proofs.Facts.symbol-parsed, specs.{Encoding.IsSymbolAt, Reading.interpreted_content, Symbol.grid_of, declared.fault.ReadFault.ReadFault}}

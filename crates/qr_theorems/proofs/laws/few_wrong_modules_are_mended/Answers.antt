@@ -1,7 +1,7 @@
 use Rattle.qr_symbol.{specs.Reading.interpreted_content, proofs.Facts.{symbol-format, symbol-holds}}
 use Rattle.{qr_matrix.specs.Grid.light}
-use Rattle.qr_mending.proofs.lemmas.laws.{DamageLemmas.{symbol-mended, symbol-mended-as}, FewModuleLemmas.{few-format, few-damaged}}
-use Rattle.qr_mending.proofs.laws.few_wrong_modules_are_mended.Goals as goal
+use Rattle.qr_theorems.proofs.lemmas.laws.{DamageLemmas.{symbol-mended, symbol-mended-as}, FewModuleLemmas.{few-format, few-damaged}}
+use Rattle.qr_theorems.proofs.laws.few_wrong_modules_are_mended.Goals as goal
 
 pub returns : goal.returns
 returns c = λ v l rule how x header mask g least most may s side few.

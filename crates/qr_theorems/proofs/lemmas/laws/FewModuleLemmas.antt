@@ -2,11 +2,11 @@
 use Rattle.{qr_field.specs.Distance.{difference, differences}, qr_layout.specs.{Blocks.blocks_of, Format.format_word_of, Version.total_codewords_of}}
 use Rattle.{qr_layout.specs.declared.level.Level.Level, qr_matrix.specs.{BitRow.has_bit, Grid.{Grid, light}}}
 use Rattle.qr_mending.specs.declared.erasures.Changes.{Changes}
-use Rattle.qr_mending.proofs.lemmas.erasures.{unerased}
-use Rattle.qr_mending.proofs.lemmas.{format.bits-alike, laws.{DistanceLemmas.shown, ModuleLemmas.{interleaved-differences, items-differences}}}
-use Rattle.qr_mending.proofs.lemmas.{laws.UndamagedLemmas.{copy-light, final-in-blocks}, mending.sure-format, message.LightLemmas.light-mended}
-use Rattle.qr_mending.proofs.lemmas.message.{MarkLemmas.codewords-many, MessageLemmas.{in-blocks-one, item, items-in-blocks, received-all, received-map}}
-use Rattle.qr_mending.specs.{Format.copy_bit, Mending.{HasFormat, HoldsDamaged}, Message.received, Modules.{codeword_differences, DifferInFewModules}}
+use Rattle.qr_theorems.proofs.lemmas.laws.{DistanceLemmas.shown, ModuleLemmas.{interleaved-differences, items-differences}}
+use Rattle.qr_mending.proofs.Facts.{bits-alike, codewords-many, copy-light, final-in-blocks, in-blocks-one, item, items-in-blocks, light-mended}
+use Rattle.qr_mending.proofs.Facts.{received-all, received-map, sure-format, unerased}
+use Rattle.qr_mending.specs.{Format.copy_bit, Mending.{HasFormat, HoldsDamaged}, Message.received}
+use Rattle.qr_theorems.specs.Damage.{codeword_differences, DifferInFewModules}
 use Rattle.{qr_mending.specs.declared.format.FormatCopy.TheVariants.{First, Second}, qr_symbol.proofs.Facts.{data-sizes-whole, read-some}}
 use Rattle.qr_symbol.specs.{Interleaving.{block_count, codeword_count, data_sizes, part_of}, Reading.{IsFormat, IsMessage}, Symbol.grid_of}
 use Rattle.std.proofs.Common.{◌≡◌, ℕ, ◌<◌, ◌≤◌, List, [], ◌++◌, map, length, get_or, refl, sym, ◌∙◌, arith}
