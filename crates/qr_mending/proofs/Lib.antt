@@ -1,2 +1,4 @@
 mod lemmas
+-- The lemmas that other crates use.
+pub mod Facts
 pub mod Named

@@ -3,7 +3,7 @@ use Rattle.qr_field.proofs.lemmas.{galois.{ByteLemmas.product-of_zero, PowerLemm
 use Rattle.{qr_field.proofs.lemmas.polynomial.ListLemmas.length-plus, qr_layout.proofs.Facts.{blocks-sound, laws-of}}
 use Rattle.qr_mending.proofs.lemmas.block.{erasures-one, differences-same, mended-same}
 use Rattle.qr_mending.proofs.lemmas.{erasures.{erased-more, erased-self, errors-more, modified-more, erasures-marked, length-read, errors-self}, errors.RemovalLemmas.sum-more}
-use Rattle.qr_mending.proofs.lemmas.{format.{near-one, near-two}, laws.{DistanceLemmas.symbols-apart, WeakerLemmas.weaker-block}}
+use Rattle.qr_mending.proofs.lemmas.{format.{near-one, near-two}, laws.WeakerLemmas.weaker-block}
 use Rattle.qr_mending.proofs.lemmas.locator.{add-all, add-begins, add-leading, add-more, add-skip, search-begins, shift-more, shift-leading}
 use Rattle.qr_mending.proofs.lemmas.{mending.unmended-one, roots.{length-rooted, length-rooted_rest, divided-more, quotient-value-more_divided, value-more_divided}}
 use Rattle.qr_mending.proofs.lemmas.sums.{digits-added, table-at, multiple-first, multiple-is, multiple-none, multiple-same, values-none}
@@ -39,8 +39,6 @@ pub ruleset erasure_facts = (difference-same, erased-more, errors-more, modified
 pub ruleset series_facts = (err_from_is_err_and, readings-none, unjoined-next)
 
 pub ruleset law_facts = (near-one, near-two, unmended-one, weaker-block)
-
-pub ruleset distance_facts = (symbols-apart)
 
 pub ruleset mend_with_erasures_facts = (erased-self, erasures-marked, length-read, errors-self, erasures-one)
 

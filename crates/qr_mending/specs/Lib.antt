@@ -1,9 +1,7 @@
 pub mod Block
 pub mod Erasures
-pub mod Distance
 pub mod Format
 pub mod Message
 pub mod Mending
 pub mod Series
-pub mod Modules
 pub mod Steps

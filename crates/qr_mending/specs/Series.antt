@@ -1,14 +1,12 @@
 -- How the damaged symbols of a series are mended, read and joined in their order.
 use Rattle.std.specs.Prelude.{ℕ, List}
-use Rattle.std.specs.List.{AllZip}
 use Rattle.qr_layout.specs.declared.level.Level.{Level}
 use Rattle.qr_bits.specs.Parsing.{Content}
 use Rattle.qr_matrix.specs.Grid.{Grid, light}
 use Rattle.qr_symbol.specs.declared.fault.ReadFault.{ReadFault}
-use Rattle.qr_symbol.specs.Reading.{IsFormat, IsMessage, IsOfVersion}
 use Rattle.qr_symbol.specs.Joining.{IsJoinedBy, IsUnjoinedBy}
 use Rattle.qr_mending.specs.declared.erasures.Changes.{Changes}
-use Rattle.qr_mending.specs.Mending.{IsDamagedForm, IsMendedReading, IsUnmended}
+use Rattle.qr_mending.specs.Mending.{IsMendedReading, IsUnmended}
 
 -- The square `g`, of which all modules were read, is mended with some version, level and mask, and read as `content`
 -- (ISO/IEC 18004:2015, 12)
@@ -26,21 +24,3 @@ IsMendedSeries squares bytes = IsJoinedBy IsMendedContent squares bytes
 -- is refused for it (ISO/IEC 18004:2015, 8.1 to 8.3, 12)
 abbrev pub IsUnmendedSeries : List Grid → ReadFault → Type 0
 IsUnmendedSeries squares e = IsUnjoinedBy IsMendedContent (λ g. IsUnmended (light g.side) g) squares e
-
--- The square `damaged`, of which all modules were read, is a damaged form of the square `whole`. The level, the mask
--- and the data codewords of `whole` can be read without mending (ISO/IEC 18004:2015, 7.5.1, 7.9.1, 12)
-pub record IsDamagedSquare (damaged whole : Grid) : Type 0 where
-  pub version : ℕ
-  pub level : Level
-  pub mask : ℕ
-  pub message : List ℕ
-  pub changed : List Changes
-  pub sized : IsOfVersion whole version
-  pub format : IsFormat whole level mask
-  pub holds : IsMessage version level mask whole message
-  pub form : IsDamagedForm (light damaged.side) damaged version level mask message changed
-
--- There are as many squares in `damaged` as in `whole`, and each square of `damaged` is a damaged form of the square of
--- `whole` at the same index [own]
-unfoldable pub AreDamagedSquares : List Grid → List Grid → Type 0
-AreDamagedSquares damaged whole = AllZip IsDamagedSquare damaged whole

@@ -24,8 +24,9 @@ const ALL_BITS: u16 = 0x7FFF;
 // not read.
 const COST_MAX: u8 = 6;
 
+/// One of the two copies of the format information.
 #[derive(Clone, Copy)]
-pub(crate) enum FormatCopy {
+pub enum FormatCopy {
     /// The copy beside the top left finder pattern.
     First,
     /// The copy beside the top right and the bottom left finder pattern.

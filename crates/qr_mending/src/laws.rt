@@ -1,47 +1,40 @@
 //! Laws of mending. The contract of each function is the law. Where a function has code, the law is about what this
-//! code returns.
+//! code returns. The theorems that the README claims are in `qr_theorems`. The laws here are called by code, refuse
+//! wrong definitions, or say how definitions of this crate belong together.
 //!
 //! `format.rt` says what a copy of the format information costs, and when a level and a mask are near to it. A codeword
 //! is erased if it is known to be unreadable, and misread if it was read with a wrong value.
 
-ghost use Rattle.std.specs.Prelude.{◌≡◌, ◌≢◌, ◌↔◌, ◌⊎◌, Err, ℕ, ◌+◌, ◌*◌, ◌/◌, ◌<◌, ◌≤◌, ◌==◌, ◌&&◌, false, List, [], ◌∷◌, map, length, replicate, Option, None, Some, MatchResult};
+ghost use Rattle.std.specs.Prelude.{IfOk, ◌≡◌, ◌≢◌, ◌↔◌, ◌⊎◌, Err, ℕ, ◌+◌, ◌*◌, ◌/◌, ◌<◌, ◌≤◌, ◌==◌, ◌&&◌, false, List, [], ◌∷◌, map, length, replicate, Option, None, Some};
 ghost use Rattle.std.specs.List.{All};
 ghost use Rattle.qr_layout.specs.declared.level.Level.{Level};
 ghost use Rattle.qr_layout.specs.Format.{format_word_of};
 ghost use Rattle.qr_bits.specs.declared.modes.Rule.{Rule};
-ghost use Rattle.qr_bits.specs.declared.interpretation.Interpretation.{Interpretation};
-ghost use Rattle.qr_bits.specs.Interpretation.{MayWrite};
 ghost use Rattle.qr_bits.specs.Parsing.{Content};
-ghost use Rattle.qr_bits.specs.declared.stream.Header.{Header};
 ghost use Rattle.qr_matrix.specs.Grid.{Grid, IsSquare, light, square};
 ghost use Rattle.qr_symbol.specs.declared.fault.ReadFault.{ReadFault};
-ghost use Rattle.qr_symbol.specs.Distance.{blocks_in};
-ghost use Rattle.qr_symbol.specs.Encoding.{IsSymbolAt};
-ghost use Rattle.qr_symbol.specs.declared.symbol.Symbol.{Symbol};
-ghost use Rattle.qr_symbol.specs.Joining.{IsJoined};
-ghost use Rattle.qr_symbol.specs.Reading.{interpreted_content, IsReading};
-ghost use Rattle.qr_symbol.specs.Series.{squares_of, IsSeries};
+ghost use Rattle.qr_symbol.specs.Interleaving.{blocks_in};
+ghost use Rattle.qr_symbol.specs.Reading.{IsReading};
 ghost use Rattle.qr_matrix.specs.BitRow.{has_bit};
 ghost use Rattle.qr_symbol.specs.Symbol.{grid_of};
 ghost use Rattle.qr_mending.specs.Block.{IsBlock, IsMended};
 ghost use Rattle.qr_mending.specs.declared.erasures.Changes.{Changes};
 ghost use Rattle.qr_mending.specs.Erasures.{changes_of, read_of, IsMendedWithErasures};
-ghost use Rattle.qr_mending.specs.Distance.{SymbolsLieApart};
 ghost use Rattle.qr_mending.specs.declared.format.FormatCopy.{FormatCopy};
 ghost use Rattle.qr_mending.specs.Format.{bit_differences, copy_cost, copy_place, format_cost, IsNearFormat};
 ghost use Rattle.qr_layout.specs.Blocks.{correctable_of, spare_of};
 ghost use Rattle.qr_mending.specs.Message.{no_changes, IsMendedIn};
-ghost use Rattle.qr_mending.specs.Mending.{wrong_format_least, wrong_format_modules, wrong_modules, HasFormat, HasWrongModules, HoldsDamaged, IsMendedReading, IsUnmended};
-ghost use Rattle.qr_mending.specs.Modules.{DifferInFewModules};
-ghost use Rattle.qr_mending.specs.Series.{AreDamagedSquares, IsUnmendedSeries};
+ghost use Rattle.qr_mending.specs.Mending.{wrong_format_least, wrong_format_modules, HasWrongModules, IsMendedReading, IsUnmended};
+ghost use Rattle.qr_mending.specs.Series.{IsUnmendedSeries};
 
+use crate::format::FormatCopy;
 use crate::mending::{Mended, mend_symbol, mend_symbol_with_unknown};
 use crate::series::mend_series;
 use qr_bits::Rule;
 use qr_layout::{Level, Version};
 use qr_matrix::Matrix;
 use qr_symbol::ReadFault;
-use std::alloc::Global;
+use std::alloc::{AllocError, Global};
 
 /// A damaged block of at most 255 codewords is mended to at most one block. This holds if mending corrects at most half
 /// as many misread codewords as the block has error correction codewords.
@@ -208,67 +201,6 @@ pub fn mendings_are_refused_exactly(
     mend_symbol_with_unknown(alloc, damaged, unknown)
 }
 
-/// Take two symbols of one version with different data codewords or levels. They differ in at least seven modules of
-/// each copy of the format information, or they differ in more than 2t codewords of some block, where t is the number
-/// of misread codewords that can be corrected in this block.
-#[tactic(auto, using(crate::proofs::Named::distance_facts))]
-pub fn symbols_lie_apart(version: Version)
-    ensures { SymbolsLieApart version }
-{}
-
-/// There are two cases in which a damaged symbol has to be read with a certain level and mask (`HasFormat`). In the
-/// first case, both copies together cost at most 13 with this pair of level and mask. In the second case, the pair is
-/// near to one copy, whatever the other copy shows, and with no other pair that is near to a copy can all blocks be
-/// mended.
-pub fn formats_are_found()
-    ensures sure { (unknown : Grid) (v : ℕ) (g : Grid) (l : Level) (mask : ℕ) → mask < 8 → format_cost unknown g l mask ≤ 13
-        → HasFormat unknown v g l mask }
-    ensures alone { (unknown : Grid) (v : ℕ) (g : Grid) (l : Level) (mask : ℕ) (copy : FormatCopy)
-        → IsNearFormat unknown copy g l mask
-        → ((other : FormatCopy) (k : Level) (n : ℕ) → IsNearFormat unknown other g k n → (message : List ℕ) (changed : List Changes)
-        → HoldsDamaged unknown v k n g message changed → (k ≡ l) × (n ≡ mask))
-        → HasFormat unknown v g l mask }
-{}
-
-/// Unless memory is refused, a damaged symbol is mended to exactly its input if its blocks can be mended, and if its
-/// level and mask are found. The symbol may be one of a series, with a structured append header. (`formats_are_found` states two cases in which they are found.) Modules that belong
-/// neither to a codeword nor to the format information may have any colour. The counts of misread and erased codewords
-/// and the number of wrong modules are exact.
-pub fn damaged_symbols_are_mended(
-    alloc: Global,
-    damaged: &Matrix,
-    unknown: &Matrix,
-) -> Result<Mended, ReadFault>
-    requires { unknown.now.side ≡ damaged.now.side }
-    ensures { (v : ℕ) (l : Level) (rule : Rule) (i : Interpretation) (x : List ℕ) (h : Option Header) (mask : ℕ) (g : Grid)
-        (changed : List Changes) → 1 ≤ v → v ≤ 40 → MayWrite i x → (s : IsSymbolAt v l rule i x h mask g)
-        → damaged.now.side ≡ g.side → HasFormat unknown.now v damaged.now l mask
-        → HoldsDamaged unknown.now v l mask damaged.now s.message changed
-        → MatchResult result
-        (λ m. (m.version ≡ v) × (m.level ≡ l) × (m.mask ≡ mask)
-        × (m.parsed ≡ interpreted_content i h s.segments x)
-        × (m.changed.items ≡ changed) × (m.wrong_modules ≡ wrong_modules unknown.now damaged.now g)
-        × (m.wrong_format_modules ≡ wrong_format_modules unknown.now damaged.now l mask)
-        × (m.wrong_format_least ≡ wrong_format_least unknown.now damaged.now l mask)) (λ e. e ≡ ReadFault.Memory) }
-{
-    mend_symbol_with_unknown(alloc, damaged, unknown)
-}
-
-/// Unless memory is refused, a symbol is mended to exactly its input if few of its modules are wrong: at most six of
-/// the 30 modules of format information, and in each block at most as many modules as `Version::correctable` returns.
-/// The symbol may be one of a series, with a structured append header.
-/// Modules of function patterns, version information and remainder bits may have any colour.
-pub fn few_wrong_modules_are_mended(alloc: Global, damaged: &Matrix) -> Result<Mended, ReadFault>
-    ensures { (v : ℕ) (l : Level) (rule : Rule) (i : Interpretation) (x : List ℕ) (h : Option Header) (mask : ℕ) (g : Grid)
-        → 1 ≤ v → v ≤ 40 → MayWrite i x → (s : IsSymbolAt v l rule i x h mask g) → damaged.now.side ≡ g.side
-        → DifferInFewModules v l damaged.now g
-        → MatchResult result
-        (λ m. (m.version ≡ v) × (m.level ≡ l) × (m.mask ≡ mask)
-        × (m.parsed ≡ interpreted_content i h s.segments x)) (λ e. e ≡ ReadFault.Memory) }
-{
-    mend_symbol(alloc, damaged)
-}
-
 /// `IsUnmendedSeries` states the reason for each fault. `mend_series` returns a fault other than `Memory` exactly if
 /// the reason for this fault holds and no allocation is refused.
 pub fn series_mendings_are_refused_exactly(
@@ -281,15 +213,9 @@ pub fn series_mendings_are_refused_exactly(
     mend_series(alloc, damaged)
 }
 
-/// If the symbols of a series are damaged, each within what can be mended, mending yields exactly the input, or memory
-/// is refused. The symbols may also be those of another encoder. Then mending yields the bytes that joining the
-/// undamaged symbols would yield, or memory is refused.
-pub fn damaged_series_are_mended(alloc: Global, damaged: &[Matrix]) -> Result<Vec<u8>, ReadFault>
-    ensures series { (v : ℕ) (l : Level) (rule : Rule) (i : Interpretation) (x : List ℕ) (ss : List Symbol) → 1 ≤ v → v ≤ 40
-        → MayWrite i x → IsSeries v l rule i x ss → AreDamagedSquares damaged.now (squares_of ss)
-        → MatchResult result (λ bytes. bytes.items ≡ x) (λ e. e ≡ ReadFault.Memory) }
-    ensures joined { (whole : List Grid) (x : List ℕ) → IsJoined whole x → AreDamagedSquares damaged.now whole
-        → MatchResult result (λ bytes. bytes.items ≡ x) (λ e. e ≡ ReadFault.Memory) }
+/// A clone of a `FormatCopy` is equal to it.
+pub fn format_copy_clones(a: FormatCopy) -> Result<FormatCopy, AllocError>
+    ensures { IfOk result (λ b. b ≡ a) }
 {
-    mend_series(alloc, damaged)
+    a.clone()
 }

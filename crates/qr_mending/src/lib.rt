@@ -36,5 +36,6 @@ mod sums;
 
 pub use block::mend;
 pub use erasures::{Changes, mend_with_erasures};
+pub use format::FormatCopy;
 pub use mending::{Mended, mend_symbol, mend_symbol_with_unknown};
 pub use series::mend_series;

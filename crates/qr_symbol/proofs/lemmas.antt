@@ -12,4 +12,3 @@ pub mod reading
 pub mod series
 pub mod joining
 pub mod fault
-pub mod laws

@@ -32,6 +32,10 @@ codeword_count c = start_of c (block_count c)
 abbrev pub data_sizes : Blocks → BlockSizes
 data_sizes b = record { short = b.short; short_len = b.short_len; long = b.long }
 
+-- The number of blocks of a symbol of version `v` and level `l` (ISO/IEC 18004:2015, 7.5.1, Table 9)
+abbrev pub blocks_in : ℕ → Level → ℕ
+blocks_in v l = block_count (data_sizes (blocks_of v l))
+
 -- The sizes of the blocks `b`, counted in error correction codewords. All blocks have equally many of them, so each
 -- block counts as short (ISO/IEC 18004:2015, 7.5.1)
 abbrev pub correction_sizes : Blocks → BlockSizes

@@ -9,5 +9,4 @@ pub mod Reading
 pub mod Joining
 pub mod Fault
 pub mod Interleaving
-pub mod Distance
 pub mod Steps

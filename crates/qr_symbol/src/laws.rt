@@ -1,16 +1,15 @@
 //! Laws of masks, interleaving, reading and series. The contract of each function is the law. Where a function has
-//! code, the law is about what this code returns.
+//! code, the law is about what this code returns. The theorems that the README claims are in `qr_theorems`. The laws
+//! here are called by code, refuse wrong definitions, or say how definitions of this crate belong together.
 
-ghost use Rattle.std.specs.Prelude.{◌≡◌, ◌<◌, ◌≤◌, ◌+◌, ◌%◌, ◌⊎◌, ℕ, false, List, length, map, Option, [], ◌∷◌, IfOk, IfErr, ◌≢◌, ◌↔◌, Err};
+ghost use Rattle.std.specs.Prelude.{◌≡◌, ◌<◌, ◌≤◌, ◌+◌, ◌%◌, ◌⊎◌, ℕ, List, length, map, [], ◌∷◌, IfOk, IfErr, ◌≢◌, ◌↔◌, Err};
 ghost use Rattle.std.specs.List.{All};
 ghost use Rattle.qr_layout.specs.declared.level.Level.{Level};
 ghost use Rattle.qr_layout.specs.declared.region.Module.{Module};
 ghost use Rattle.qr_layout.specs.declared.role.Role.TheVariants.{FormatBit, VersionBit};
 ghost use Rattle.qr_layout.specs.Order.{IsOrder};
 ghost use Rattle.qr_bits.specs.declared.fault.ParseFault.{ParseFault};
-ghost use Rattle.qr_bits.specs.declared.modes.Mode.{Mode};
 ghost use Rattle.qr_bits.specs.Bits.{bits_of};
-ghost use Rattle.qr_bits.specs.Modes.{may_use};
 ghost use Rattle.qr_bits.specs.Parsing.{Content};
 ghost use Rattle.qr_symbol.specs.declared.fault.EncodeFault.{EncodeFault};
 ghost use Rattle.qr_symbol.specs.declared.fault.ReadFault.{ReadFault};
@@ -20,19 +19,17 @@ ghost use Rattle.qr_symbol.specs.Choice.{mask_penalty, IsMask};
 ghost use Rattle.qr_symbol.specs.Fault.{read_fault_number};
 ghost use Rattle.qr_symbol.specs.Mask.{inverts};
 ghost use Rattle.qr_symbol.specs.Symbol.{colour_by, grid_of};
-ghost use Rattle.qr_symbol.specs.Reading.{read_bits, interpreted_content, IsRead, IsMessage, IsFormat, IsReading, IsUnread};
-ghost use Rattle.qr_symbol.specs.Encoding.{BoostedSymbolsAreOne, IsBoostedSymbol, IsSymbol, IsSymbolAt, SymbolsAreOne};
+ghost use Rattle.qr_symbol.specs.Reading.{read_bits, IsRead, IsMessage, IsFormat, IsReading, IsUnread};
+ghost use Rattle.qr_symbol.specs.Encoding.{BoostedSymbolsAreOne, IsBoostedSymbol, IsSymbol, SymbolsAreOne};
 ghost use Rattle.qr_symbol.specs.VersionChoice.{level_rank, FitsVersion, HasNoVersion, IsVersion};
-ghost use Rattle.qr_symbol.specs.Series.{squares_of, AreParts, FitParts, NeedsParts, IsSeries, HasNoSeries};
+ghost use Rattle.qr_symbol.specs.Series.{squares_of, AreParts, IsSeries, HasNoSeries};
 ghost use Rattle.qr_symbol.specs.Joining.{AreInterpreted, IsJoined, IsUnjoined};
 ghost use Rattle.qr_layout.specs.Version.{side_of, total_codewords_of};
 ghost use Rattle.qr_layout.specs.Blocks.{data_codewords_of, blocks_of};
 ghost use Rattle.qr_bits.specs.declared.modes.Rule.{Rule};
 ghost use Rattle.qr_bits.specs.declared.interpretation.Interpretation.{Interpretation};
-ghost use Rattle.qr_bits.specs.declared.stream.Header.{Header};
 ghost use Rattle.qr_bits.specs.Interpretation.{MayWrite};
 ghost use Rattle.qr_symbol.specs.Interleaving.{block_count, block_len, start_of, codeword_count, data_sizes, IsInterleaved};
-ghost use Rattle.qr_symbol.specs.Distance.{MessagesLieApart, DamagedMessagesAreOne};
 ghost use Rattle.qr_symbol.specs.Laws.{all_masks, bits_down, computed_rows, first_rows};
 
 use crate::fault::{EncodeFault, ReadFault};
@@ -99,21 +96,6 @@ pub fn interleaving_is_one(version: Version, level: Level)
     ensures message { (d e xs : List ℕ) → length d ≡ data_codewords_of version level
         → length e ≡ data_codewords_of version level
         → IsInterleaved version level d xs → IsInterleaved version level e xs → d ≡ e }
-{}
-
-/// If two squares of one version and level contain different data codewords, there is a block in which they differ in
-/// more codewords than the block has error correction codewords.
-#[tactic(auto, using(crate::proofs::Named::laws_of_messages))]
-pub fn messages_lie_apart(version: Version, level: Level)
-    ensures { MessagesLieApart version level }
-{}
-
-/// At a given version and level, the codewords of a damaged symbol belong to at most one list of data codewords, if the
-/// damage is limited. A codeword is misread if its value is wrong, and erased if it is known to be unreadable. In each
-/// block, count an erased codeword once and a misread one twice. The sum has to be at most the number of error
-/// correction codewords of the block.
-pub fn damaged_messages_are_one(version: Version, level: Level)
-    ensures { DamagedMessagesAreOne version level }
 {}
 
 /// Reading the codeword bits of a square yields the bits of the codewords from which the square was drawn.
@@ -215,40 +197,10 @@ pub fn levels_are_ranked()
         → data_codewords_of v k < data_codewords_of v l }
 {}
 
-/// Reading the symbol of an input yields the bytes of the input, the interpretation, the segments of fewest bits, and
-/// the structured append header, if the symbol has one.
-pub fn symbols_are_read(version: Version)
-    ensures { (x : List ℕ) (l : Level) (rule : Rule) (i : Interpretation) (h : Option Header) (mask : ℕ) (g : Grid)
-        → MayWrite i x → (s : IsSymbolAt version l rule i x h mask g)
-        → IsReading g (interpreted_content i h s.segments x) }
-{}
-
-/// Whoever has made a symbol that can be read, it contains at most 7,089 bytes and at most 1,970 ECI headers.
-pub fn readings_are_short()
-    ensures { (g : Grid) (c : Content) → IsReading g c → (length c.bytes ≤ 7089) × (length c.ecis ≤ 1970) }
-{}
-
 /// For a given version, level, rule and interpretation, an input has at most one series.
 pub fn series_are_one()
     ensures { (x : List ℕ) (l : Level) (rule : Rule) (i : Interpretation) (v : ℕ)
         (ss ts : List Symbol) → IsSeries v l rule i x ss → IsSeries v l rule i x ts → ss ≡ ts }
-{}
-
-/// Each part into which `encode_series` cuts an input fits a symbol with a structured append header. The rest of this
-/// law is about rules without kanji mode. With such a rule, no other way to cut the input into parts that fit yields
-/// fewer parts. So the series of a nonempty input has the least possible number of symbols. And an input without a
-/// series cannot be cut into 16 or fewer parts that fit.
-pub fn series_are_shortest()
-    ensures fit { (v : ℕ) (l : Level) (rule : Rule) (i : Interpretation) (x : List ℕ)
-        (parts : List (List ℕ)) → AreParts v l rule i x parts → FitParts v l rule i x parts }
-    ensures parts { (v : ℕ) (l : Level) (rule : Rule) (i : Interpretation) (x : List ℕ)
-        (parts : List (List ℕ)) → MayWrite i x → may_use rule Mode.Kanji ≡ false
-        → AreParts v l rule i x parts → NeedsParts v l rule i x (length parts) }
-    ensures series { (x : List ℕ) (l : Level) (rule : Rule) (i : Interpretation) (v : ℕ) (ss : List Symbol)
-        → MayWrite i x → may_use rule Mode.Kanji ≡ false → 0 < length x
-        → IsSeries v l rule i x ss → NeedsParts v l rule i x (length ss) }
-    ensures none { (x : List ℕ) (l : Level) (rule : Rule) (i : Interpretation) (v : ℕ) → 1 ≤ v → v ≤ 40
-        → MayWrite i x → may_use rule Mode.Kanji ≡ false → HasNoSeries v l rule i x → NeedsParts v l rule i x 17 }
 {}
 
 /// Every input can be cut into parts, because each symbol has room for a structured append header and at least one

@@ -5,16 +5,10 @@ use Rattle.clap.specs.Walk.{Text}
 use Rattle.qr_layout.specs.declared.level.Level.TheVariants.{H, L, M, Q}
 use Rattle.qr_bits.specs.declared.modes.Rule.TheVariants.{Auto, BytesOnly, WithKanji}
 use Rattle.qr_bits.specs.Folding.{folded}
-use Rattle.qr_matrix.specs.Grid.{Grid}
-use Rattle.qr_symbol.specs.Joining.{IsJoined}
-use Rattle.qr_parsing.specs.Parsing.{IsDrawingOf}
-use Rattle.qrencode_cli.specs.Command.{DrawnWhole, HasDrawing, HasSettingsWith, IsRefusal, Runs, RunsTo, held, input_for}
+use Rattle.qrencode_cli.specs.Command.{HasDrawing, IsRefusal, Runs, held}
 use Rattle.qr_devices.specs.Device.{Reader, Writer}
 use Rattle.qrencode_cli.specs.Fault.{fault_line}
-use Rattle.qrencode_cli.specs.Input.{IsInputOf}
 use Rattle.qrencode_cli.specs.Settings.{Reason, SettingsView, needs_version, refused_by_clap, rule_for, settings_for, unknown_level, unknown_type, usage_fault_number}
-use Rattle.qrencode_cli.specs.Symbols.{AreSymbols}
-use Rattle.qr_drawing.specs.declared.drawing.Drawing.{Drawing}
 use Rattle.qr_drawing.specs.declared.drawing.Drawing.TheVariants.{Ascii, AsciiInverse, Svg, Utf8}
 use Rattle.qrencode_cli.specs.declared.fault.Fault.{Fault}
 use Rattle.qrencode_cli.specs.declared.fault.Fault.TheVariants as fault
@@ -118,24 +112,6 @@ AreAlike r q = r ≡ q
 -- Two refusals that are both correct for the same arguments and input are alike (`AreAlike`) [own]
 abbrev pub RefusalsAreOne : Type 0
 RefusalsAreOne = (words : List Text) (given : List ℕ) (r q : Fault) → IsRefusal words given r → IsRefusal words given q → AreAlike r q
-
--- `drawing` is a drawing of the squares that the settings ask for. It is the drawing of no other type, margin or list
--- of squares. If these squares are read and joined, they yield the input [own]
-pub record ShowsInput (s : SettingsView) (input drawing : List ℕ) : Type 0 where
-  pub squares : List Grid
-  pub symbols : AreSymbols s input squares
-  pub joined : IsJoined squares input
-  pub shown : IsDrawingOf s.kind s.margin squares drawing
-  pub only : (kind : Drawing) (margin : ℕ) (others : List Grid) → IsDrawingOf kind margin others drawing
-      → (kind ≡ s.kind) × (margin ≡ s.margin) × (others ≡ squares)
-
--- A run whose status is 0 wrote a drawing that shows its input, folded if `-i` is given: it can be read from this
--- drawing alone [own]
-abbrev pub OutputsReadBack : Type 0
-OutputsReadBack = (words : List Text) (in0 in1 : Reader) (out0 out1 err0 err1 : Writer)
-    → RunsTo words in0 in1 out0 out1 err0 err1 0
-    → (given : List ℕ) × (drawing : List ℕ) × IsInputOf in0.remaining given × DrawnWhole true out0 out1 drawing
-    × HasSettingsWith words (λ s. ShowsInput s (held s (input_for s given)) drawing)
 
 -- The rule for each way to give or leave out the options -8 and -k [own]
 pub record RulesOfModes : Type 0 where

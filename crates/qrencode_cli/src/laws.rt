@@ -1,10 +1,11 @@
-//! Laws of the command. A function here does nothing: its contract is the law.
+//! Laws of the command. A function here does nothing: its contract is the law. The theorems that the README claims are
+//! in `qr_theorems`. The laws here compute examples and refuse wrong definitions.
 
 ghost use Rattle.std.specs.Prelude.{◌≡◌};
 ghost use Rattle.qr_bits.specs.declared.modes.TheConstants.{INPUT_MAX};
 ghost use Rattle.qr_devices.specs.declared.device.TheConstants.{INTERRUPTIONS_MAX};
 ghost use Rattle.qr_drawing.specs.declared.pen.TheConstants.{WRITE_MAX};
-ghost use Rattle.qrencode_cli.specs.Laws.{AnswersAreOne, FoldingFollowsTheRule, LinesOfFaults, NumbersOfUsageFaults, OutputsReadBack, RefusalsAreOne, RefusalsExcludeDrawings, CommandLines, RulesOfModes, StatusesAreTwo};
+ghost use Rattle.qrencode_cli.specs.Laws.{AnswersAreOne, FoldingFollowsTheRule, LinesOfFaults, NumbersOfUsageFaults, RefusalsAreOne, RefusalsExcludeDrawings, CommandLines, RulesOfModes, StatusesAreTwo};
 
 /// `CommandLines` has 45 lists of arguments. It says for each list which settings its arguments mean, or why they are
 /// refused.
@@ -40,14 +41,6 @@ pub fn rules_of_modes()
 #[tactic(auto, unfolding(qr_bits::specs::Folding::folded_around_pairs, qr_bits::specs::Modes::is_kanji_pair))]
 pub fn folding_follows_the_rule()
     ensures { FoldingFollowsTheRule }
-{}
-
-/// A run that returns 0 wrote a drawing, and this drawing alone suffices to read the input. The drawing belongs to one
-/// type, one margin and one list of squares only: the type and the margin of the settings, and the symbols of the
-/// input. Read and joined, these symbols yield the input, folded if `-i` is given. `parse_drawing` of `qr_parsing`
-/// returns the squares of such a drawing.
-pub fn outputs_read_back()
-    ensures { OutputsReadBack }
 {}
 
 /// The exit status is 0 after success, and 1 after any fault.

@@ -3,3 +3,4 @@ pub mod RankLemmas
 pub mod CheckLemmas
 pub mod OrderLemmas
 pub mod MessageLemmas
+pub mod PartLemmas

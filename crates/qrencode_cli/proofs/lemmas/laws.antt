@@ -1,15 +1,16 @@
--- A command line and an input have at most one drawing and at most one reason to be refused, and not both.
-use Rattle.clap.specs.{Walk.{Row, Text}, Words.{first_of, one_of}}
-use Rattle.{qr_bits.{proofs.Facts.empty-fits, specs.declared.interpretation.Interpretation.TheVariants.Default}, qr_devices.specs.Device.{Reader, Writer}}
-use Rattle.{qr_drawing.specs.{Drawing.drawn, declared.drawing.Drawing.Drawing}, qr_layout.specs.declared.level.Level.Level, qr_matrix.specs.Grid.Grid}
-use Rattle.qr_parsing.{proofs.Facts.{one-drawing, series-drawing, symbol-drawing}, specs.Parsing.IsDrawingOf}
+-- A command line and an input have at most one drawing and at most one reason to be refused, and not both. A run whose status
+-- is 0 has written the whole drawing.
+use Rattle.clap.specs.{Walk.{Row, Text}, Words.first_of}
+use Rattle.qr_bits.{proofs.Facts.empty-fits, specs.declared.interpretation.Interpretation.TheVariants.Default}
+use Rattle.qr_devices.specs.Device.{Reader, Writer}
+use Rattle.{qr_drawing.specs.declared.drawing.Drawing.Drawing, qr_layout.specs.declared.level.Level.Level, qr_matrix.specs.Grid.Grid}
 use Rattle.qr_symbol.{proofs.Facts.{series-one, symbol-one}, specs.VersionChoice.FitsVersion}
-use Rattle.qrencode_cli.specs.{Arguments.{faults_for, rows_for}, Command.{HasRefusal, IsDrawing, IsRefusal, held, input_for, DrawnWhole, HasSettingsWith, Runs}}
-use Rattle.qrencode_cli.specs.{Input.IsInputOf, Laws.{AnswersAreOne, RefusalsAreOne, RefusalsExcludeDrawings, OutputsReadBack, ShowsInput}}
-use Rattle.qrencode_cli.specs.Settings.{Reason, SettingsView, checked_series, drawing_named, level_named, needs_version, refused_by_clap, rule_for, settings_for, settings_of, settings_with, unknown_level, unknown_type, number_or}
+use Rattle.qrencode_cli.specs.{Arguments.{faults_for, rows_for}, Command.{DrawnWhole, HasDrawing, HasRefusal, IsDrawing, IsRefusal, Runs, RunsTo, held, input_for}}
+use Rattle.qrencode_cli.specs.{Input.IsInputOf, Laws.{AnswersAreOne, RefusalsAreOne, RefusalsExcludeDrawings}}
+use Rattle.qrencode_cli.specs.Settings.{Reason, SettingsView, checked_series, drawing_named, level_named, needs_version, refused_by_clap, rule_for, settings_for, settings_of, settings_with, unknown_level, unknown_type}
 use Rattle.qrencode_cli.specs.{Symbols.{AreSymbols, IsTooLong, IsTooMany, smallest_of}, declared.{fault.Fault.Fault, settings.UsageFault.UsageFault}}
 use Rattle.std.proofs.Common.{◌≡◌, ◌<◌, ◌≤◌, ◌==◌, inl, inr, ℕ, suc, Bool, true, false, cond, List, [], length, Option, Some, codes, Result, Ok, Err, refl, sym, subst, arith}
-use Rattle.std.{proofs.lemmas.Bool.Decides.nat_tests, specs.{Option.option_map_or, Prelude.option_and_then}}
+use Rattle.std.specs.{Option.option_map_or, Prelude.option_and_then}
 use borrow.Author.Tests.{leb-true}
 use Rattle.qr_layout.specs.declared.level.Level.TheVariants as level
 use Rattle.qr_symbol.specs.declared.fault.EncodeFault.TheVariants as encode
@@ -140,50 +141,16 @@ refusals-one words given (fault.Encode encode.TooLong) (fault.Encode encode.TooM
 refusals-one words given (fault.Encode encode.TooMany) (fault.Encode encode.TooLong) h k = search (arith, because-one, long-not-many)
 refusals-one words given r q h k = search (arith, class-is)
 
--- What the drawing that a run writes shows by itself.
+-- ---- the drawing of a run that succeeds
 
--- a number of an option is at most 255
-number-most : (o : Option Text) → number_or 4 o ≤ 255
-number-most o = grind (arith, nat_tests)
-
--- the margin of settings is at most 255
-margin-most : (words : List Text) (s : SettingsView) → settings_for words ≡ Ok s → s.margin ≤ 255
-margin-most words s e =
-    taken-have (λ s. s.margin ≤ 255) (length (faults_for words) == 0) (rows_for words) (λ l k. number-most (one_of (codes "margin") (rows_for words))) s e
-
--- the smallest version of settings is at least 1
-smallest-least : (words : List Text) (s : SettingsView) → settings_for words ≡ Ok s → 1 ≤ smallest_of s
-smallest-least words s e =
-    taken-have (λ s. 1 ≤ smallest_of s) (length (faults_for words) == 0) (rows_for words) (search arith) s e
-
--- the squares that the settings ask for have a drawing that can be parsed
-asked-drawing : (s : SettingsView) (input : List ℕ) (squares : List Grid) → s.margin ≤ 255 → 1 ≤ smallest_of s → smallest_of s ≤ 40 → AreSymbols s input squares
-    → IsDrawingOf s.kind s.margin squares (drawn s.kind s.margin squares)
-asked-drawing s input squares m least most (inl h) =
-    subst (λ g. IsDrawingOf s.kind s.margin g (drawn s.kind s.margin g)) (sym h.3) (series-drawing s.kind s.margin (smallest_of s) s.level (rule_for s) Default input h.1 m least most h.2)
-asked-drawing s input squares m least most (inr h) =
-    subst (λ g. IsDrawingOf s.kind s.margin g (drawn s.kind s.margin g)) (sym h.5) (symbol-drawing s.kind s.margin (smallest_of s) s.level (rule_for s) Default input h.1 h.2 h.3 m least h.4)
-
--- the drawing that the settings ask for shows the input, and nothing else
-shows-input : (words : List Text) (s : SettingsView) (input drawing : List ℕ) → settings_for words ≡ Ok s → IsDrawing s input drawing → ShowsInput s input drawing
-shows-input words s input drawing taken h =
-    let asked : IsDrawingOf s.kind s.margin h.squares drawing =
-    subst (IsDrawingOf s.kind s.margin h.squares) (sym h.is_drawn) (asked-drawing s input h.squares (margin-most words s taken) (smallest-least words s taken) (smallest-most words s taken) h.symbols) in
-    record {
-      squares = h.squares;
-      symbols = h.symbols;
-      joined = h.joined;
-      shown = asked;
-      only = λ kind margin others other. one-drawing kind s.kind margin s.margin others h.squares drawing other asked;
-    }
-
--- a run whose status is 0 has drawn the whole drawing, and this drawing shows the input
+-- the same, of a run with a certain outcome
 of-outcome : (words : List Text) (in0 in1 : Reader) (out0 out1 err0 err1 : Writer) (outcome : Result (Unit {0}) Fault)
     → Runs words in0 in1 out0 out1 err0 err1 outcome 0
-    → (given : List ℕ) × (drawing : List ℕ) × IsInputOf in0.remaining given × DrawnWhole true out0 out1 drawing
-    × HasSettingsWith words (λ s. ShowsInput s (held s (input_for s given)) drawing)
-of-outcome words in0 in1 out0 out1 err0 err1 (Ok t) run = search (arith, shows-input)
+    → (given : List ℕ) × (drawing : List ℕ) × IsInputOf in0.remaining given × DrawnWhole true out0 out1 drawing × HasDrawing words given drawing
+of-outcome words in0 in1 out0 out1 err0 err1 (Ok t) run = search arith
 of-outcome words in0 in1 out0 out1 err0 err1 (Err f) run = absurd (omega (arith, run.status_is))
 
-pub outputs-read-back : OutputsReadBack
-outputs-read-back words in0 in1 out0 out1 err0 err1 run = search (arith, of-outcome)
+-- a run whose status is 0 has drawn the whole drawing
+pub success-drawn : (words : List Text) (in0 in1 : Reader) (out0 out1 err0 err1 : Writer) → RunsTo words in0 in1 out0 out1 err0 err1 0
+    → (given : List ℕ) × (drawing : List ℕ) × IsInputOf in0.remaining given × DrawnWhole true out0 out1 drawing × HasDrawing words given drawing
+success-drawn words in0 in1 out0 out1 err0 err1 run = of-outcome words in0 in1 out0 out1 err0 err1 run.0 run.1

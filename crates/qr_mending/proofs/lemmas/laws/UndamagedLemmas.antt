@@ -6,7 +6,7 @@ use Rattle.qr_mending.{proofs.lemmas.erasures.unerased, specs.Message.no_changes
 use Rattle.qr_mending.proofs.lemmas.{block.differences-same, format.bits-alike, mending.best, message.LightLemmas.{colour-light, light-mended}}
 use Rattle.qr_mending.specs.{Format.{bit_differences, copy_bit, copy_cost, IsNearFormat}, Mending.{HasFormat, IsMendedReading}}
 use Rattle.qr_mending.specs.{Message.{AreInBlocks, IsMendedIn}, declared.format.FormatCopy.{FormatCopy, TheVariants.{First, Second}}}
-use Rattle.qr_symbol.{proofs.Facts.{start-none, part-at, positions-many, checks-push, map-each, data-sizes-whole}, specs.Distance.blocks_in}
+use Rattle.qr_symbol.{proofs.Facts.{start-none, part-at, positions-many, checks-push, map-each, data-sizes-whole}, specs.Interleaving.blocks_in}
 use Rattle.qr_symbol.specs.Interleaving.{block_count, codeword_count, IsPosition, codeword_at, data_sizes, correction_sizes, block_of, check_at, IsFinalMessage, part_of, IsChecks}
 use Rattle.qr_symbol.specs.Reading.{IsFormat, IsRead, IsReading}
 use Rattle.std.proofs.Common.{◌≡◌, ℕ, zero, suc, ◌+◌, ◌*◌, ◌<◌, ◌≤◌, Bool, false, not, ◌&&◌, List, [], ◌∷◌, ◌++◌, map, length, get_or, refl, sym, ap, ◌∙◌, arith}

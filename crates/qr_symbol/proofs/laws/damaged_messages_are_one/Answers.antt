@@ -1,5 +1,0 @@
-use Rattle.{qr_symbol.proofs.lemmas.laws.damaged-one, std.proofs.Common.rules}
-use Rattle.qr_symbol.proofs.laws.damaged_messages_are_one.Goals as goal
-
-pub returns : goal.returns
-returns c = search (rules, damaged-one)

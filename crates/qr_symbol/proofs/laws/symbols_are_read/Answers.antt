@@ -1,5 +1,0 @@
-use Rattle.{qr_symbol.proofs.lemmas.reading.RoundTripLemmas.symbol-read, std.proofs.Common.arith}
-use Rattle.qr_symbol.proofs.laws.symbols_are_read.Goals as goal
-
-pub returns : goal.returns
-returns c = λ x l rule how h mask g may s. symbol-read c.args.version l rule how x h mask g (omega arith) (omega arith) may s
