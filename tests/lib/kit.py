@@ -17,6 +17,9 @@ class Repository:
 
     def __init__(self, top):
         self.top = os.path.realpath(top)
+        # tools/build proves some crates in the folders out/beside/NAME of a repository
+        above, _, name = self.top.rpartition("/out/beside/")
+        self.begun = f"{above if above and '/' not in name else self.top}/out/proved_by_ci"
         with open(f"{self.top}/crates.txt", encoding="utf-8") as it:
             rows = [line.split(":", 1) for line in it.read().splitlines() if line.strip() and not line.startswith("#")]
         self.uses = {row[0].split()[0]: row[1].split() for row in rows}
@@ -52,10 +55,9 @@ class Repository:
         """Returns whether the library is the one that `rt ci` left in the last run of tests/all, and no file of its
         crate is newer. The file out/proved_by_ci has the time at which that `rt ci` began. (A library that `rt check`
         made has a file `stamp`.)"""
-        begun = f"{self.top}/out/proved_by_ci"
-        if not self.is_built(name) or not os.path.exists(begun) or os.path.exists(f"{self.folder(name)}/out/rlib/stamp"):
+        if not self.is_built(name) or not os.path.exists(self.begun) or os.path.exists(f"{self.folder(name)}/out/rlib/stamp"):
             return False
-        return all(os.path.getmtime(it) <= os.path.getmtime(begun) for it in self.files(name))
+        return all(os.path.getmtime(it) <= os.path.getmtime(self.begun) for it in self.files(name))
 
     @functools.cache
     def words(self, name):
