@@ -1,5 +1,16 @@
-"""What the scripts need when they call the kit's compiler without `rt`: where it is, which crates the repository has,
-and which arguments `rt` passes it for a crate."""
+"""What the scripts need when they call the kit's compiler without `rt`: where it is, which crates the repository has, which
+arguments `rt` passes it for a crate, and whether what was built is old.
+
+These scripts stand in for `rt`. For each it is said what the kit would have to offer so that it could call `rt`:
+
+- tests/after_ci/rt builds the program and the library in the gate, over the libraries that `rt ci` proved. `rt run` and `rt lib`
+  would have to take these libraries: today they prove them again, since `rt ci` leaves no record of what they were made of.
+- ports/wasm/build, which calls tests/after_ci/rt with a toolchain of its own, compiles the library's LLVM module for
+  WebAssembly. `rt lib` would have to write this module, or compile it itself, with attributes for some functions.
+- tests/wrong_bodies checks crates with changed lines. `rt must-fail` would have to take edits from another folder, to begin with what
+  `rt ci` proved, to try several edits in one check, and to say which goals it refused.
+
+With all three, this file would have left only what crates.txt says, and `is_old`."""
 import functools
 import glob
 import os
