@@ -78,17 +78,23 @@ HWCAPS_FOLDER = $(LIBRARIES)/glibc-hwcaps/$(HWCAPS)
 KIT_C = $(shell dirname "$$(rt doc)")/c
 GLUE = $(if $(CROSS),$(wildcard ports/*.c),$(KIT_C)/libos_c.a $(KIT_C)/liblibc_c.a)
 
-# Not empty if a file is missing or a source is newer. Proofs are no sources: another proof makes no other code.
-SOURCES = crates.txt $(wildcard crates/*/src crates/*/specs) $(if $(CROSS),ports)
-is_old = $(shell test -e '$(1)' && find $(SOURCES) \( -type d -o -name '*.rt' -o -name '*.antt' -o -name '*.c' -o -name '*.txt' \) \
-    -newer '$(1)' | head -n 1 || echo missing)
+# Not empty if the first file is missing or older than the sources of the second, a crate, or than one of the files after these.
+is_old = $(shell top=. && . tools/current && is_current '$(1)' $(2) || echo old)$(if $(3),$(shell find $(3) -newer '$(1)' 2>&1))
+library_is_old = $(shell test "$$(cat '$(1)/flags' 2>/dev/null)" = '$(2)' || echo flags)$(call is_old,$(1)/flags,qrproved,$(PORTS))
+PORTS = $(if $(CROSS),$(wildcard ports/*.c))
 
-ifndef CROSS
-all:
-	QRENCODE_CPU=$(CPU) ./qrencode -t ASCII A >/dev/null
-else
-all: $(if $(call is_old,$(PROGRAM)),cross)
-endif
+# What is old of that which the goals want.
+wants = $(filter $(1),$(or $(MAKECMDGOALS),all))
+OLD_PROGRAM := $(if $(call wants,all static install bench),$(call is_old,$(PROGRAM),qrencode,$(PORTS)))
+OLD_LIBRARY := $(if $(call wants,lib prove-lib wasm npm page bench),$(call library_is_old,$(LIBRARY_OUT),$(LIBRARY_FLAGS)))
+OLD_HWCAPS := $(if $(HWCAPS),$(if $(call wants,lib wasm npm page bench),$(call library_is_old,$(HWCAPS_OUT),--cpu $(HWCAPS))))
+
+all: $(if $(OLD_PROGRAM),$(if $(CROSS),cross,prove))
+
+# One call proves the crates of the program and of the library, side by side.
+TO_PROVE = $(if $(OLD_PROGRAM),$(if $(CROSS),,--program $(CPU))) $(if $(OLD_LIBRARY),--library '--target $(TARGET) $(LIBRARY_FLAGS)')
+prove: need-rt
+	$(if $(strip $(TO_PROVE)),tools/build $(TO_PROVE))
 
 help:
 	@sed -n 's/^## //p' '$(firstword $(MAKEFILE_LIST))'
@@ -104,6 +110,7 @@ cross: need-rt
 	mkdir -p $(OUT)
 	rm -f crates/qrencode/out/qrencode.o
 	touch $(OUT)/start
+	tools/build --below qrencode
 	cd crates/qrencode && rt run --target $(TARGET) --cpu $(CPU) -- -h >"$(CURDIR)/$(OUT)/build.log" 2>&1 </dev/null || test -e out/qrencode.o
 	cp crates/qrencode/out/qrencode.o $(OUT)/qrencode.o
 	$(CC) -O2 -o $(OUT)/qrencode.new $(OUT)/qrencode.o $(GLUE)
@@ -150,24 +157,21 @@ clean:
 dist: need-rt
 	tools/dist "$(DIST)"
 
-.PHONY: dist need-rt prove-hwcaps
+.PHONY: dist need-rt prove prove-hwcaps
 
 # Builds the library, unless the last build was by the same flags and no source is newer than it.
-library_is_old = $(shell test "$$(cat '$(1)/flags' 2>/dev/null)" = '$(2)' || echo flags)$(call is_old,$(1)/flags)
-OLD_LIBRARY := $(if $(call library_is_old,$(LIBRARY_OUT),$(LIBRARY_FLAGS)),prove-lib)
-OLD_HWCAPS := $(if $(HWCAPS),$(if $(call library_is_old,$(HWCAPS_OUT),--cpu $(HWCAPS)),prove-hwcaps))
-lib: $(OLD_LIBRARY) $(OLD_HWCAPS)
+lib: $(if $(OLD_LIBRARY),prove-lib) $(if $(OLD_HWCAPS),prove-hwcaps)
 
-prove-hwcaps: $(OLD_LIBRARY)
+prove-hwcaps: $(if $(OLD_LIBRARY),prove-lib)
 	$(MAKE) --no-print-directory prove-lib CPU=$(HWCAPS) LIBRARY_OUT=$(HWCAPS_OUT)
 
-# Proves the crate, and joins it with the glue for malloc, realloc and free. All names but those of the header become local, so
-# that two such libraries do not clash in a program.
-prove-lib: need-rt
+# Joins the proved crate with the glue for malloc, realloc and free. All names but those of the header become local, so that two
+# such libraries do not clash in a program. The flags are as old as the proof's start: a source that was changed since then is newer.
+prove-lib: prove
 	mkdir -p "$(LIBRARY_OUT)"
 	rm -f "$(LIBRARY_OUT)/flags"
 	echo '$(LIBRARY_FLAGS)' >"$(LIBRARY_OUT)/flags.new"
-	cd $(LIBRARY) && rt lib --target $(TARGET) $(LIBRARY_FLAGS)
+	touch -r $(LIBRARY)/out/libqrproved.a "$(LIBRARY_OUT)/flags.new"
 	cp $(LIBRARY)/out/libqrproved.a "$(LIBRARY_OUT)/proved.a"
 ifdef CROSS
 	$(CC) -O2 -fPIC -c -o "$(LIBRARY_OUT)/heap.pic.o" ports/heap.c
@@ -228,7 +232,7 @@ wheel:
 
 # The library as WebAssembly, the package for JavaScript with it inside, and the page with both inside.
 WASM = out/wasm/qrproved.wasm
-wasm: $(if $(call is_old,$(WASM))$(shell test ! -e $(WASM) || find ports/wasm -newer $(WASM)),build-wasm)
+wasm: $(if $(call is_old,$(WASM),qrproved,ports/wasm),build-wasm)
 
 build-wasm: lib
 	ports/wasm/build out/wasm

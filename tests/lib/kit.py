@@ -1,5 +1,16 @@
-"""What the scripts need when they call the kit's compiler without `rt`: where it is, which crates the repository has,
-and which arguments `rt` passes it for a crate."""
+"""What the scripts need when they call the kit's compiler without `rt`: where it is, which crates the repository has, which
+arguments `rt` passes it for a crate, and whether what was built is old.
+
+These scripts stand in for `rt`. For each it is said what the kit would have to offer so that it could call `rt`:
+
+- tests/after_ci/rt builds the program and the library in the gate, over the libraries that `rt ci` proved. `rt run` and `rt lib`
+  would have to take these libraries: today they prove them again, since `rt ci` leaves no record of what they were made of.
+- ports/wasm/build, which calls tests/after_ci/rt with a toolchain of its own, compiles the library's LLVM module for
+  WebAssembly. `rt lib` would have to write this module, or compile it itself, with attributes for some functions.
+- tests/wrong_bodies checks crates with changed lines. `rt must-fail` would have to take edits from another folder, to begin with what
+  `rt ci` proved, to try several edits in one check, and to say which goals it refused.
+
+With all three, this file would have left only what crates.txt says, and `is_old`."""
 import functools
 import glob
 import os
@@ -17,6 +28,9 @@ class Repository:
 
     def __init__(self, top):
         self.top = os.path.realpath(top)
+        # tools/build proves some crates in the folders out/beside/NAME of a repository
+        above, _, name = self.top.rpartition("/out/beside/")
+        self.begun = f"{above if above and '/' not in name else self.top}/out/proved_by_ci"
         with open(f"{self.top}/crates.txt", encoding="utf-8") as it:
             rows = [line.split(":", 1) for line in it.read().splitlines() if line.strip() and not line.startswith("#")]
         self.uses = {row[0].split()[0]: row[1].split() for row in rows}
@@ -52,10 +66,9 @@ class Repository:
         """Returns whether the library is the one that `rt ci` left in the last run of tests/all, and no file of its
         crate is newer. The file out/proved_by_ci has the time at which that `rt ci` began. (A library that `rt check`
         made has a file `stamp`.)"""
-        begun = f"{self.top}/out/proved_by_ci"
-        if not self.is_built(name) or not os.path.exists(begun) or os.path.exists(f"{self.folder(name)}/out/rlib/stamp"):
+        if not self.is_built(name) or not os.path.exists(self.begun) or os.path.exists(f"{self.folder(name)}/out/rlib/stamp"):
             return False
-        return all(os.path.getmtime(it) <= os.path.getmtime(begun) for it in self.files(name))
+        return all(os.path.getmtime(it) <= os.path.getmtime(self.begun) for it in self.files(name))
 
     @functools.cache
     def words(self, name):
