@@ -5,7 +5,7 @@
 //! `format.rt` says what a copy of the format information costs, and when a level and a mask are near to it. A codeword
 //! is erased if it is known to be unreadable, and misread if it was read with a wrong value.
 
-ghost use Rattle.std.specs.Prelude.{IfOk, ◌≡◌, ◌≢◌, ◌↔◌, ◌⊎◌, Err, ℕ, ◌+◌, ◌*◌, ◌/◌, ◌<◌, ◌≤◌, ◌==◌, ◌&&◌, false, List, [], ◌∷◌, map, length, replicate, Option, None, Some};
+ghost use Rattle.std.specs.Prelude.{◌≡◌, ◌≢◌, ◌↔◌, ◌⊎◌, Err, ℕ, ◌+◌, ◌*◌, ◌/◌, ◌<◌, ◌≤◌, ◌==◌, ◌&&◌, false, List, [], ◌∷◌, map, length, replicate, Option, None, Some};
 ghost use Rattle.std.specs.List.{All};
 ghost use Rattle.qr_layout.specs.declared.level.Level.{Level};
 ghost use Rattle.qr_layout.specs.Format.{format_word_of};
@@ -27,14 +27,13 @@ ghost use Rattle.qr_mending.specs.Message.{no_changes, IsMendedIn};
 ghost use Rattle.qr_mending.specs.Mending.{wrong_format_least, wrong_format_modules, HasWrongModules, IsMendedReading, IsUnmended};
 ghost use Rattle.qr_mending.specs.Series.{IsUnmendedSeries};
 
-use crate::format::FormatCopy;
 use crate::mending::{Mended, mend_symbol, mend_symbol_with_unknown};
 use crate::series::mend_series;
 use qr_bits::Rule;
 use qr_layout::{Level, Version};
 use qr_matrix::Matrix;
 use qr_symbol::ReadFault;
-use std::alloc::{AllocError, Global};
+use std::alloc::Global;
 
 /// A damaged block of at most 255 codewords is mended to at most one block. This holds if mending corrects at most half
 /// as many misread codewords as the block has error correction codewords.
@@ -211,11 +210,4 @@ pub fn series_mendings_are_refused_exactly(
         → (result ≡ Err e) ↔ ((result ≢ Err ReadFault.Memory) × IsUnmendedSeries damaged.now e) }
 {
     mend_series(alloc, damaged)
-}
-
-/// A clone of a `FormatCopy` is equal to it.
-pub fn format_copy_clones(a: FormatCopy) -> Result<FormatCopy, AllocError>
-    ensures { IfOk result (λ b. b ≡ a) }
-{
-    a.clone()
 }
