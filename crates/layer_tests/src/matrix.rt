@@ -21,8 +21,8 @@ fn one_place_is_set(rt: HostRuntime) -> Result<(), Fail> {
 #[test]
 fn a_rectangle_is_filled(rt: HostRuntime) -> Result<(), Fail> {
     let mut matrix = Matrix::new(rt.alloc(), 70)?;
-    matrix.fill(2, 5, 62, 67, true);
-    matrix.fill(3, 4, 63, 65, false);
+    matrix.fill(2..5, 62..67, true);
+    matrix.fill(3..4, 63..65, false);
     for row in 0..70u8 {
         for col in 0..70u8 {
             let is_round = row >= 2 && row < 5 && col >= 62 && col < 67;
@@ -47,9 +47,9 @@ fn eight_modules_are_eight_bits(rt: HostRuntime) -> Result<(), Fail> {
 #[test]
 fn a_row_is_masked_within(rt: HostRuntime) -> Result<(), Fail> {
     let mut plain = Matrix::new(rt.alloc(), 70)?;
-    plain.fill(4, 5, 60, 70, true);
+    plain.fill(4..5, 60..70, true);
     let mut within = Matrix::new(rt.alloc(), 70)?;
-    within.fill(4, 5, 0, 66, true);
+    within.fill(4..5, 0..66, true);
     let masked = plain.bit_row(4) ^ within.bit_row(4) & BitRow::repeated(0b000011);
     for col in 0..70u8 {
         let is_dark = match col {
@@ -84,7 +84,7 @@ fn a_square_is_transposed(rt: HostRuntime) -> Result<(), Fail> {
             }
         }
         let mut matrix = Matrix::new(rt.alloc(), side)?;
-        matrix.fill(0, side, 0, side, true);
+        matrix.fill(0..side, 0..side, true);
         check!(rt; plain.side() == matrix.side());
         matrix.set_transposed(&plain);
         for row in 0..side {
@@ -128,9 +128,9 @@ fn bits_are_set(rt: HostRuntime) -> Result<(), Fail> {
 #[test]
 fn runs_over_the_border_of_words(rt: HostRuntime) -> Result<(), Fail> {
     let mut matrix = Matrix::new(rt.alloc(), 132)?;
-    matrix.fill(3, 4, 0, 2, true);
-    matrix.fill(3, 4, 60, 66, true);
-    matrix.fill(3, 4, 67, 128, true);
+    matrix.fill(3..4, 0..2, true);
+    matrix.fill(3..4, 60..66, true);
+    matrix.fill(3..4, 67..128, true);
     matrix.set(3, 131, true);
     let mut runs = matrix.dark_runs(3);
     for (start, end) in [(0, 2), (60, 66), (67, 128), (131, 132)] {

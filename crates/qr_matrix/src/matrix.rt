@@ -20,6 +20,7 @@ use crate::bit_row::BitRow;
 use crate::rows::{Rows, Squares, and_not};
 use std::alloc::{AllocError, Global};
 use std::marker::Model;
+use std::ops::Range;
 
 /// A square of 1 to 177 modules on a side; row 0 and column 0 are at the top left. Contracts see it as a grid.
 #[derive(Drop)]
@@ -153,25 +154,20 @@ impl Matrix {
         self.rows[usize::from(row)] = bits;
     }
 
-    /// Makes a rectangle dark if `dark` is true, and light otherwise. The rectangle has the rows `top..bottom` and the
-    /// columns `left..right`.
-    pub fn fill(&mut self, top: u8, bottom: u8, left: u8, right: u8, dark: bool)
-        requires rows_in_order { top ≤ bottom }
-        requires bottom_in { bottom ≤ self.old.side }
-        requires columns_in_order { left ≤ right }
-        requires right_in { right ≤ self.old.side }
-        ensures { self.new ≡ with_rectangle self.old top bottom left right dark }
+    /// Makes the rectangle of these rows and columns dark if `dark` is true, and light otherwise.
+    pub fn fill(&mut self, rows: Range<u8>, columns: Range<u8>, dark: bool)
+        requires rows_in_order { rows.start ≤ rows.end }
+        requires bottom_in { rows.end ≤ self.old.side }
+        requires columns_in_order { columns.start ≤ columns.end }
+        requires right_in { columns.end ≤ self.old.side }
+        ensures { self.new ≡ with_rectangle self.old rows.start rows.end columns.start columns.end dark }
     {
         // Only for the prover, which needs this bound for a rectangle without rows.
         prove!(self.side <= 177);
-        let columns = BitRow::below(right) & !BitRow::below(left);
-        for row in top..bottom {
+        let inside = BitRow::below(columns.end) & !BitRow::below(columns.start);
+        for row in rows.start..rows.end {
             let bits = self.bit_row(usize::from(row));
-            let filled = if dark {
-                bits | columns
-            } else {
-                bits & !columns
-            };
+            let filled = if dark { bits | inside } else { bits & !inside };
             self.set_bit_row(row, filled);
         }
     }

@@ -287,22 +287,20 @@ impl MatrixPair {
 
     // Copies every twelfth row of `unmasked`, from row `first` on, into both squares. The module in column c is
     // inverted if `within` is dark at its place, and bit `c % 6` of the square's pattern is 1. The rows of the squares
-    // take `words` words. `set_rows_masked` passes this number as a constant, so that the compiler leaves out the words
-    // that are always empty.
+    // take `WORDS` words. Since this number is a constant, the compiler leaves out the words that are always empty.
     #[inline(always)]
-    fn set_rows_masked_in(
+    fn set_rows_masked_in<const WORDS: u8>(
         &mut self,
         first: u8,
         unmasked: &Matrix,
         within: &Matrix,
         patterns: (u8, u8),
-        words: u8,
     )
         requires first_in { first < 12 }
         requires unmasked_side { unmasked.now.side ≡ self.old.first.side }
         requires within_side { within.now.side ≡ self.old.first.side }
         requires patterns_in { (patterns.0 < 64) × (patterns.1 < 64) }
-        requires width { NeedsWords self.old.first.side words }
+        requires width { NeedsWords self.old.first.side WORDS }
         ensures { (second : Bool) → one_of self.new second ≡ square self.old.first.side
             (λ r c. if r % 12 == first then (if colour within.now r c
             && has_bit (if second then patterns.1 else patterns.0) (c % 6)
@@ -314,7 +312,7 @@ impl MatrixPair {
         while row < side {
             let (bits, region) = (unmasked.bit_row(row), within.bit_row(row));
             let inverted = RowPair::of(region, region) & pattern;
-            self.rows[row].put_words(words, RowPair::of(bits, bits) ^ inverted);
+            self.rows[row].put_words(WORDS, RowPair::of(bits, bits) ^ inverted);
             row += 12;
         }
     }
@@ -340,9 +338,9 @@ impl MatrixPair {
             then not (colour unmasked.now r c) else colour unmasked.now r c) else colour (one_of self.old second) r c) }
     {
         match self.side.div_ceil(64) {
-            1 => self.set_rows_masked_in(first, unmasked, within, patterns, 1),
-            2 => self.set_rows_masked_in(first, unmasked, within, patterns, 2),
-            _ => self.set_rows_masked_in(first, unmasked, within, patterns, 3),
+            1 => self.set_rows_masked_in::<1>(first, unmasked, within, patterns),
+            2 => self.set_rows_masked_in::<2>(first, unmasked, within, patterns),
+            _ => self.set_rows_masked_in::<3>(first, unmasked, within, patterns),
         }
     }
 }

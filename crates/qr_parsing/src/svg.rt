@@ -164,19 +164,18 @@ fn box_at(text: &[u8], at: usize) -> Option<(DarkBox, usize)>
     Some((DarkBox { x, y, modules }, after_modules + back))
 }
 
-// Paints a box of `modules` modules, which begins at column `x` of row `y`. `bytes` has `height` rows of `width`
-// modules, a byte for each module. Modules of the box outside these rows and columns are left out.
-fn paint(bytes: &mut [u8], width: usize, height: usize, x: usize, y: usize, modules: usize)
+// Paints a box. `bytes` has `height` rows of `width` modules, a byte for each module. Modules of the box outside these
+// rows and columns are left out.
+fn paint(bytes: &mut [u8], width: usize, height: usize, dark: DarkBox)
     requires area { length bytes.old ≡ width * height }
     requires some { 0 < width }
     requires wide { width ≤ WIDTH_MAX }
     requires high { height ≤ NUMBER_MAX }
-    requires x_in { x < 2 ^ 32 }
-    requires modules_in { modules < 2 ^ 32 }
     ensures { (i : ℕ) → i < length bytes.old → slice_index_or bytes.new i 0
-        ≡ (if i / width == y && (nat_le x (i % width) && nat_lt (i % width) (x + modules)) then 1
+        ≡ (if i / width == dark.y && (nat_le dark.x (i % width) && nat_lt (i % width) (dark.x + dark.modules)) then 1
         else slice_index_or bytes.old i 0) }
 {
+    let (x, y, modules) = (dark.x as usize, dark.y as usize, dark.modules as usize);
     if y < height {
         let end = (x + modules).min(width);
         // Three out of four runs of dark modules have only one or two modules. The first two modules are written before
@@ -206,14 +205,7 @@ fn paint_all(bytes: &mut [u8], width: usize, height: usize, text: &[u8])
 {
     let mut at = position_of(text, b'M');
     'boxes: while let Some((dark, after)) = box_at(text, at) {
-        paint(
-            bytes,
-            width,
-            height,
-            dark.x as usize,
-            dark.y as usize,
-            dark.modules as usize,
-        );
+        paint(bytes, width, height, dark);
         at = after;
     }
 }

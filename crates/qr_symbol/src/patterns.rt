@@ -32,10 +32,8 @@ fn fill_around(matrix: &mut Matrix, centre: Module, distance: u8, dark: bool)
 {
     let Module { row, col } = centre;
     matrix.fill(
-        row - distance,
-        row + distance + 1,
-        col - distance,
-        col + distance + 1,
+        row - distance..row + distance + 1,
+        col - distance..col + distance + 1,
         dark,
     );
 }
@@ -54,7 +52,7 @@ fn paint_finder(matrix: &mut Matrix, version: Version, area: Module, centre: Mod
     ensures { (format : ℕ) → IsOver (side_of version) (is_in_finder_area area.row area.col) (paint_of version format)
         (colour matrix.old) matrix.new }
 {
-    matrix.fill(area.row, area.row + 8, area.col, area.col + 8, false);
+    matrix.fill(area.row..area.row + 8, area.col..area.col + 8, false);
     fill_around(matrix, centre, 3, true);
     fill_around(matrix, centre, 2, false);
     fill_around(matrix, centre, 1, true);
@@ -167,7 +165,7 @@ pub(crate) fn region_of(alloc: Global, version: Version) -> Result<Matrix, Alloc
 {
     let side = version.side();
     let mut region = Matrix::new(alloc, side)?;
-    region.fill(0, side, 0, side, true);
+    region.fill(0..side, 0..side, true);
     let fixed = fixed_rectangles(version);
     for rectangle in fixed.as_slice() {
         let Rectangle {
@@ -176,7 +174,7 @@ pub(crate) fn region_of(alloc: Global, version: Version) -> Result<Matrix, Alloc
             left,
             right,
         } = *rectangle;
-        region.fill(top, bottom, left, right, false);
+        region.fill(top..bottom, left..right, false);
     }
     fill_alignment(
         &mut region,

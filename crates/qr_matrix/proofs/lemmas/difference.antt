@@ -1,6 +1,6 @@
 -- Differences of squares.
 use Rattle.qr_matrix.specs.{Difference.{differs, difference_count}, Grid.{Grid, colour, is_same}, Sums.{places_passing, sum_below, count_below}}
-use Rattle.std.proofs.{Common.{◌≡◌, ℕ, zero, suc, ◌<◌, ◌≤◌, Bool, true, false, not, cond, inl, inr, refl, arith}, lemmas.Bool.{cases_lt, Decides.nat_tests}}
+use Rattle.std.proofs.{Common.{◌≡◌, ℕ, zero, suc, ◌<◌, Bool, true, not, cond, inl, inr, refl, arith}, lemmas.Bool.{cases_lt, Decides.nat_tests}}
 use Rattle.std.specs.Prelude.{◌↔◌}
 
 -- a colour is the same as itself

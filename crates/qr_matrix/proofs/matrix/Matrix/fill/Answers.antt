@@ -7,7 +7,7 @@ pub loop-row-init : goal.loop-row-init
 loop-row-init c = search (rules, nat_tests, square-same, colour-square)
 
 -- bit k of the row that is written
-row-filled : (c : goal.After-set_bit_row-arg-1) (k : ℕ) → has c.if-dark.filled k ≡ cond (leb c.args.left k && ltb k c.args.right) c.args.dark (has c.bit_row-bits.result k)
+row-filled : (c : goal.After-set_bit_row-arg-1) (k : ℕ) → has c.if-dark.filled k ≡ cond (leb c.args.columns.start k && ltb k c.args.columns.end) c.args.dark (has c.bit_row-bits.result k)
 row-filled c k = search (arith, nat_tests)
 
 -- a bit that is outside the square before and after
@@ -23,7 +23,7 @@ loop-row-preserved c =
     let row = c.loop-row.row in
     record {
       so_far =
-          c.set_bit_row.ensures ∙ (with_row-same g row (has c.if-dark.filled) (λ k. cond (leb c.args.left k && ltb k c.args.right) c.args.dark (colour g row k))
-          (λ k l. row-filled (c.before) k ∙ ap (cond (leb c.args.left k && ltb k c.args.right) c.args.dark) (c.bit_row-bits.ensures.colours k ∙ ap (λ r. colour g r k) c.from.ensures))
-          ∙ rectangle-row c.args.self.now g c.args.top row c.args.left c.args.right c.args.dark (omega arith) c.loop-row.invariant.so_far);
+          c.set_bit_row.ensures ∙ (with_row-same g row (has c.if-dark.filled) (λ k. cond (leb c.args.columns.start k && ltb k c.args.columns.end) c.args.dark (colour g row k))
+          (λ k l. row-filled (c.before) k ∙ ap (cond (leb c.args.columns.start k && ltb k c.args.columns.end) c.args.dark) (c.bit_row-bits.ensures.colours k ∙ ap (λ r. colour g r k) c.from.ensures))
+          ∙ rectangle-row c.args.self.now g c.args.rows.start row c.args.columns.start c.args.columns.end c.args.dark (omega arith) c.loop-row.invariant.so_far);
     }

@@ -25,7 +25,7 @@ unset : (k w : ℕ) (z d old : Bool) → z ≡ cond (ltb k w) d old → d ≡ fa
 unset k w z d old e f g = grind (arith, nat_tests)
 
 pub loop-row-preserved : goal.loop-row-preserved
-loop-row-preserved c =
+loop-row-preserved g c =
     let i = c.loop-row.invariant in
     let row = c.loop-row.row in
     let rows = c.loop-row.self-inside.rows.items in
@@ -45,17 +45,17 @@ loop-row-preserved c =
       so_far = λ s r k l.
           let pattern = each s c.of-pattern.result c.repeated.result c.repeated-2.result c.args.patterns.0 c.args.patterns.1 k (c.of-pattern.ensures.first k) (c.of-pattern.ensures.second k) (c.repeated.ensures k (omega (arith, c.self.invariant.1))) (c.repeated-2.ensures k (omega (arith, c.self.invariant.1))) in
           line s r k ∙ (ap (λ z. cond (eqb r row) (has (lane p s) k) z) (i.so_far s r k l) ∙ passed-step c.args.first row r (has (lane p s) k) (f s r k) (dark_in (lanes first s) r k) i.turn (λ t.
-          masked-one n (64 * c.args.words) k (has (lane p s) k) _ (has (lane c.bitxor.result s) k) _ _ _ _ (omega (arith, c.requires.width.most)) l (c.put_words.ensures s k) (c.bitxor.ensures s k) (bits s k ∙ c.bit_row-bits.ensures.colours k)
+          masked-one n (64 * g.row.WORDS) k (has (lane p s) k) _ (has (lane c.bitxor.result s) k) _ _ _ _ (omega (arith, c.requires.width.most)) l (c.put_words.ensures s k) (c.bitxor.ensures s k) (bits s k ∙ c.bit_row-bits.ensures.colours k)
           (c.bitand-inverted.ensures s k ∙ (λ j. (region s k ∙ c.bit_row-region.ensures.colours k) j && pattern j)) ∙ ap (λ z. f s z k) (sym t)));
       past = λ s. line-inside n row (lanes rows s) (lanes (set rows row p) s) (lane p s) (line s)
-          (λ k l. unset k (64 * c.args.words) _ _ _ (c.put_words.ensures s k)
+          (λ k l. unset k (64 * g.row.WORDS) _ _ _ (c.put_words.ensures s k)
           (masked-past _ _ _ _ _ (c.bitxor.ensures s k) (c.bitand-inverted.ensures s k) (bits s k ∙ c.bit_row-bits.ensures.past k (omega (arith, c.requires.unmasked_side))) (region s k ∙ c.bit_row-region.ensures.past k (omega (arith, c.requires.within_side))))
           (row-past n row row (lanes rows s) (lane c.index_mut.result.now s) refl (omega (arith, lanes-long rows s)) (i.past s) (lane-read rows row c.index_mut.result.now s here c.index_mut.ensures.value) k l))
           (i.past s);
     }
 
 pub returns : goal.returns
-returns c = λ s.
+returns g c = λ s.
     let i = c.loop-row.invariant in
     let rows = c.loop-row.self-inside.rows.items in
     let first = c.self.inside.rows.items in

@@ -3,7 +3,7 @@ use Rattle.std.proofs.Common.{◌≡◌, ℕ, ◌<◌, ◌≤◌, ◌-◌, ◌%�
 use Rattle.qr_matrix.proofs.matrix_pair.MatrixPair.set_rows_masked_in.Given as goal
 
 abbrev pub invariant-loop-row : goal.invariant-loop-row
-invariant-loop-row l =
+invariant-loop-row g l =
     let first = l.initial.self-inside in
     let rows = l.self-inside.rows.items in
     record {
@@ -16,4 +16,4 @@ invariant-loop-row l =
     }
 
 abbrev pub decreases-loop-row : goal.decreases-loop-row
-decreases-loop-row l = l.side - l.row
+decreases-loop-row g l = l.side - l.row
