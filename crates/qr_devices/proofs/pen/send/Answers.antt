@@ -1,6 +1,6 @@
-use Rattle.qr_drawing.proofs.lemmas.pen.{writes-none, sends-more, sends-again, refused-zero, refused-failed, refused-interrupted}
+use Rattle.qr_devices.proofs.lemmas.pen.{writes-none, sends-more, sends-again, refused-zero, refused-failed, refused-interrupted}
 use Rattle.std.proofs.{Common.{rules, ◌≡◌, ◌<◌, ◌≤◌, ◌+◌, ◌-◌, ℕ, List, min, length, take, drop, refl, arith}, lemmas.List.{length-drop, length-take}}
-use Rattle.qr_drawing.proofs.pen.send.Goals as goal
+use Rattle.qr_devices.proofs.pen.send.Goals as goal
 
 -- a write offers some bytes, at most 1,200, and no more than are left
 offered : (bytes : List ℕ) (at len : ℕ) → at < length bytes → len ≡ min (length bytes - at) 1200

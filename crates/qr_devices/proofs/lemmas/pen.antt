@@ -1,7 +1,7 @@
 -- How the written parts of a text join.
 use Rattle.qr_devices.specs.Device.{AppendsBeginning, IsWrittenWithin, Writer, counted, is_write_fault, no_writes, write_counted}
 use Rattle.qr_devices.specs.declared.device.{Trouble.{Trouble, TheVariants.{Interrupted, Failed}}, WriteCounts.WriteCounts}
-use Rattle.qr_drawing.specs.{Steps.{Pen.Reserves, Writing.{Stops, Writes, IsWell}}, declared.pen.{DrawFault.DrawFault, Pen.Pen}}
+use Rattle.qr_devices.specs.{Pen.Reserves, Writing.{Stops, Writes, IsWell}, declared.pen.{DrawFault.DrawFault, Pen.Pen}}
 use Rattle.std.proofs.Common.{◌≡◌, ◌++◌, ℕ, List, [], MatchResult, OnErr, OnOk, is_err, max, Result, Ok, Err, append_assoc, append-nil, arith, rules, ◌≤◌, ◌+◌, length, length-append, subst, ◌<◌, ◌^◌, zero, suc, ◌∷◌, true, ap, refl, take, drop}
 use Rattle.std.proofs.{KnownBytes.{Appends-trans, Appends-nil, Appends-kept}, Math.Seq.{take-add, take-append-add}}
 use Rattle.std.{proofs.lemmas.List.{nil_from_length, length-take-le, take-append-drop, take-append-le}, specs.Io.KnownBytes.{Appends, Keeps}}

@@ -7,19 +7,19 @@ ghost use Rattle.std.specs.Prelude.{MatchResult, OnErr, OnOk, [], is_err, length
 ghost use Rattle.std.specs.Io.KnownBytes.{Appends};
 ghost use Rattle.qr_devices.specs.Device.{AppendsBeginning, IsWrittenWithin, counted, is_write_fault, no_writes};
 ghost use Rattle.qr_devices.specs.declared.device.TheConstants.{INTERRUPTIONS_MAX};
-ghost use Rattle.qr_drawing.specs.Steps.Writing.{Stops, Writes};
-ghost use Rattle.qr_drawing.specs.declared.pen.TheConstants.{WRITE_MAX};
+ghost use Rattle.qr_devices.specs.Writing.{Stops, Writes};
+ghost use Rattle.qr_devices.specs.declared.pen.TheConstants.{WRITE_MAX};
 
-use qr_devices::{INTERRUPTIONS_MAX, Sink, Trouble};
+use crate::device::{INTERRUPTIONS_MAX, Sink, Trouble};
 use std::marker::Model;
 use thiserror::Error;
 
 /// A text of at most `CAP` bytes: the first `len` of `bytes`. The bytes after these mean nothing. So a short text may
 /// be appended by copying a fixed number of bytes, even if it has fewer. Such a copy takes one or two instructions.
 #[derive(Drop)]
-pub(crate) struct Piece<const CAP: usize> {
-    pub(crate) bytes: [u8; CAP],
-    pub(crate) len: usize,
+pub struct Piece<const CAP: usize> {
+    pub bytes: [u8; CAP],
+    pub len: usize,
 }
 
 impl<const CAP: usize> Model for Piece<CAP> {
@@ -33,8 +33,35 @@ impl<const CAP: usize> Model for Piece<CAP> {
 }
 
 impl<const CAP: usize> Piece<CAP> {
+    /// Returns how many bytes the text has.
     #[inline(always)]
-    pub(crate) fn push(&mut self, byte: u8)
+    pub fn len(&self) -> usize
+        ensures value { result ≡ length self.now }
+        ensures most { result ≤ CAP }
+    {
+        self.len
+    }
+
+    /// Makes the text empty.
+    #[inline(always)]
+    pub fn clear(&mut self)
+        ensures { self.new ≡ [] }
+    {
+        self.len = 0;
+    }
+
+    /// Returns the bytes of the text.
+    #[inline(always)]
+    pub fn as_slice(&self) -> &[u8]
+        ensures value { result.now ≡ self.now }
+        ensures most { length result.now ≤ CAP }
+    {
+        &self.bytes[..self.len]
+    }
+
+    /// Appends one byte.
+    #[inline(always)]
+    pub fn push(&mut self, byte: u8)
         requires { length self.old < CAP }
         ensures items { self.new ≡ self.old ++ byte ∷ [] }
         ensures len { length self.new ≡ length self.old + 1 }
@@ -43,8 +70,9 @@ impl<const CAP: usize> Piece<CAP> {
         self.len += 1;
     }
 
+    /// Appends all bytes of `bytes`.
     #[inline(always)]
-    pub(crate) fn push_all(&mut self, bytes: &[u8])
+    pub fn push_all(&mut self, bytes: &[u8])
         requires { length self.old + length bytes.now ≤ CAP }
         ensures items { self.new ≡ self.old ++ bytes.now }
         ensures len { length self.new ≡ length self.old + length bytes.now }
@@ -57,7 +85,7 @@ impl<const CAP: usize> Piece<CAP> {
 
     /// Appends the first `count` bytes of `bytes`, by copying all `N` bytes.
     #[inline(always)]
-    pub(crate) fn push_first<const N: usize>(&mut self, bytes: &[u8; N], count: usize)
+    pub fn push_first<const N: usize>(&mut self, bytes: &[u8; N], count: usize)
         requires room { length self.old + N ≤ CAP }
         requires count { count ≤ N }
         ensures items { self.new ≡ self.old ++ take count bytes.now }
@@ -71,7 +99,7 @@ impl<const CAP: usize> Piece<CAP> {
 
     /// Appends `short`, by copying all `N` bytes of its array.
     #[inline(always)]
-    pub(crate) fn push_piece<const N: usize>(&mut self, short: &Piece<N>)
+    pub fn push_piece<const N: usize>(&mut self, short: &Piece<N>)
         requires { length self.old + N ≤ CAP }
         ensures items { self.new ≡ self.old ++ short.now }
         ensures len { length self.new ≤ length self.old + N }
@@ -83,11 +111,11 @@ impl<const CAP: usize> Piece<CAP> {
 /// The greatest number of bytes that one write offers.
 pub const WRITE_MAX: usize = 1200;
 
-// The size of the pen's buffer. It is eight bytes more than the pen may contain, because `Piece::push_first` copies
-// eight bytes even if it appends fewer. Those that it copies but does not append may lie beyond `WRITE_MAX`.
-pub(crate) const PEN_SIZE: usize = WRITE_MAX + 8;
+/// The size of the pen's buffer. It is eight bytes more than the pen may contain, because `Piece::push_first` may copy
+/// up to eight bytes more than it appends. Those that it copies but does not append may lie beyond `WRITE_MAX`.
+pub const PEN_SIZE: usize = WRITE_MAX + 8;
 
-/// Why a drawing was not written to its end.
+/// Why a drawing or an image was not written to its end.
 #[derive(Clone, Copy, Debug, Error)]
 pub enum DrawFault {
     /// The writer failed, accepted no byte of a write, or was interrupted for the 1,000th time.
@@ -98,9 +126,9 @@ pub enum DrawFault {
 /// A buffer for bytes that are not written yet, which are those of `piece`. `interrupted` is the number of writes that
 /// were interrupted so far.
 #[derive(Drop)]
-pub(crate) struct Pen {
-    pub(crate) piece: Piece<PEN_SIZE>,
-    pub(crate) interrupted: u16,
+pub struct Pen {
+    pub piece: Piece<PEN_SIZE>,
+    pub interrupted: u16,
     ghost full: { length piece ≤ WRITE_MAX },
     ghost few: { interrupted ≤ INTERRUPTIONS_MAX },
 }
@@ -142,12 +170,32 @@ fn send<W: Sink>(out: &mut W, bytes: &[u8], interrupted: u16) -> Result<u16, Dra
 
 impl Pen {
     ghost use Rattle.std.specs.Prelude.{◌≡◌, ◌≤◌, ◌+◌, [], OnOk, length};
-    ghost use Rattle.qr_drawing.specs.Steps.Pen.{Reserves};
+    ghost use Rattle.qr_devices.specs.Pen.{Reserves};
 
-    /// Makes room for `room` bytes. If the pen has less room, all its bytes are written. So the pen is empty after a
-    /// call with `WRITE_MAX`.
+    /// Returns a pen without bytes, before the first write.
+    pub fn new() -> Pen
+        ensures piece { result.piece ≡ [] }
+        ensures interrupted { result.interrupted ≡ 0 }
+    {
+        Pen {
+            piece: Piece {
+                bytes: [0; PEN_SIZE],
+                len: 0,
+            },
+            interrupted: 0,
+        }
+    }
+
+    /// Makes room for `room` bytes, of the `WRITE_MAX` that the pen may contain. If the pen has less room, all its bytes
+    /// are written. So the pen is empty after a call with `WRITE_MAX`. Interrupted writes (EINTR) are tried again, at
+    /// most 999 times in all calls with one pen. Does not flush `out`.
+    ///
+    /// # Errors
+    ///
+    /// `Write`, only if a write fails or accepts no byte, or if 1,000 writes are interrupted; `out` has then accepted a
+    /// prefix of the pen's bytes.
     #[inline(always)]
-    pub(crate) fn reserve<W: Sink>(&mut self, out: &mut W, room: usize) -> Result<(), DrawFault>
+    pub fn reserve<W: Sink>(&mut self, out: &mut W, room: usize) -> Result<(), DrawFault>
         requires { room ≤ WRITE_MAX }
         ensures writes { Reserves (W.device out.old) (W.device out.new)
             self.old self.new result }

@@ -1,5 +1,5 @@
-use Rattle.{qr_drawing.specs.Steps.Writing.Writes, std.proofs.Common.{◌+◌, ◌-◌, ◌<◌, ◌≤◌, [], length, take}}
-use Rattle.qr_drawing.proofs.pen.send.Given as goal
+use Rattle.{qr_devices.specs.Writing.Writes, std.proofs.Common.{◌+◌, ◌-◌, ◌<◌, ◌≤◌, [], length, take}}
+use Rattle.qr_devices.proofs.pen.send.Given as goal
 
 abbrev pub invariant-offers : goal.invariant-offers
 invariant-offers g l = record {
