@@ -71,6 +71,13 @@ static FIVEFOLD: [u8; 161] = [
     0x82,
 ];
 
+// The same as a bitmap, with a margin of one module, and three pixels for a module.
+static BITMAP: [u8; 39] = [
+    0x50, 0x34, 0x0A, 0x31, 0x35, 0x20, 0x31, 0x35, 0x0A, 0x00, 0x00, 0x00, 0x00, 0x00, 0x00, 0x1C,
+    0x00, 0x1C, 0x00, 0x1C, 0x00, 0x00, 0x70, 0x00, 0x70, 0x00, 0x70, 0x1F, 0x80, 0x1F, 0x80, 0x1F,
+    0x80, 0x00, 0x00, 0x00, 0x00, 0x00, 0x00,
+];
+
 // Three by three modules: #.. ..# ##.
 fn pattern(alloc: Global) -> Result<Matrix, Fail> {
     let mut square = Matrix::new(alloc, 3)?;
@@ -187,5 +194,20 @@ fn a_device_that_is_full_stops_the_image(rt: HostRuntime) -> Result<(), Fail> {
     let result = write_image(&square, &settings, &mut out);
     check_eq!(rt; result.is_err(), true);
     check_eq!(rt; out.bytes(), &FOURFOLD[..100]);
+    Ok(())
+}
+
+#[test]
+fn a_bitmap_is_not_compressed(rt: HostRuntime) -> Result<(), Fail> {
+    let square = pattern(rt.alloc())?;
+    let settings = ImageSettings {
+        format: Format::Pbm,
+        scale: 3,
+        margin: 1,
+        pixels_a_metre: 0,
+    };
+    let mut out = Trial::writer(rt.alloc(), 1000, Faults::NONE)?;
+    write_image(&square, &settings, &mut out)?;
+    check_eq!(rt; out.bytes(), BITMAP.as_slice());
     Ok(())
 }

@@ -7,4 +7,5 @@ pub mod stream
 pub mod lines
 pub mod sums
 pub mod png
+pub mod pbm
 pub mod laws

@@ -6,6 +6,7 @@ ghost use Rattle.qr_devices.specs.Device.{AppendsBeginning, IsWrittenWithin, cou
 ghost use Rattle.qr_devices.specs.declared.pen.TheConstants.{WRITE_MAX};
 ghost use Rattle.qr_images.specs.Writing.{image_file};
 
+use crate::pbm::write_pbm;
 use crate::png::write_png;
 use qr_devices::{DrawFault, Sink};
 use qr_matrix::Matrix;
@@ -15,6 +16,8 @@ use qr_matrix::Matrix;
 pub enum Format {
     /// Portable Network Graphics (ISO/IEC 15948), in grey with one bit a pixel.
     Png,
+    /// A raw bitmap of netpbm (P4). It cannot say how many pixels a metre has.
+    Pbm,
 }
 
 /// How an image is written.
@@ -26,7 +29,8 @@ pub struct ImageSettings {
     pub scale: u8,
     /// The width of the light margin on each side in modules, 0 to 100.
     pub margin: u8,
-    /// How many pixels of the printed image a metre has, below 2^31, or 0 if the file is not to say it.
+    /// How many pixels of the printed image a metre has, below 2^31, or 0 if the file is not to say it. Formats that
+    /// cannot say it leave it out.
     pub pixels_a_metre: u32,
 }
 
@@ -64,5 +68,6 @@ pub fn write_image<W: Sink>(
 {
     match settings.format {
         Format::Png => write_png(square, settings, out),
+        Format::Pbm => write_pbm(square, settings, out),
     }
 }

@@ -8,3 +8,4 @@ pub mod PackLemmas
 pub mod FileLemmas
 pub mod PixelLemmas
 pub mod LawLemmas
+pub mod BitmapLemmas

@@ -82,3 +82,42 @@ byte-is false = refl
 pub byte-low : (b : Bool) → bool_byte b ≤ 1
 byte-low true = omega arith
 byte-low false = omega arith
+
+-- ---- bits inverted
+
+bit-not : (b : Bool) → bit (not b) ≡ 1 - bit b
+unfolding bit
+bit-not true = refl
+bit-not false = refl
+
+bit-low : (b : Bool) → bit b ≤ 1
+unfolding bit
+bit-low true = omega arith
+bit-low false = omega arith
+
+turned : (a b c d e f g h a2 b2 c2 d2 e2 f2 g2 h2 : ℕ) → a2 + a ≡ 1 → b2 + b ≡ 1 → c2 + c ≡ 1 → d2 + d ≡ 1 → e2 + e ≡ 1 → f2 + f ≡ 1 → g2 + g ≡ 1 → h2 + h ≡ 1
+    → 255 - (((((((a2 * 2 + b2) * 2 + c2) * 2 + d2) * 2 + e2) * 2 + f2) * 2 + g2) * 2 + h2)
+    ≡ ((((((a * 2 + b) * 2 + c) * 2 + d) * 2 + e) * 2 + f) * 2 + g) * 2 + h
+turned a b c d e f g h a2 b2 c2 d2 e2 f2 g2 h2 la lb lc ld le lf lg lh = omega arith
+
+eight : (a b c d e f g h : ℕ) → a ≤ 1 → b ≤ 1 → c ≤ 1 → d ≤ 1 → e ≤ 1 → f ≤ 1 → g ≤ 1 → h ≤ 1
+    → 255 - ((((((((1 - a) * 2 + (1 - b)) * 2 + (1 - c)) * 2 + (1 - d)) * 2 + (1 - e)) * 2 + (1 - f)) * 2 + (1 - g)) * 2 + (1 - h))
+    ≡ ((((((a * 2 + b) * 2 + c) * 2 + d) * 2 + e) * 2 + f) * 2 + g) * 2 + h
+eight a b c d e f g h la lb lc ld le lf lg lh =
+    let a1 : 1 - a + a ≡ 1 = omega arith in
+    let b1 : 1 - b + b ≡ 1 = omega arith in
+    let c1 : 1 - c + c ≡ 1 = omega arith in
+    let d1 : 1 - d + d ≡ 1 = omega arith in
+    let e1 : 1 - e + e ≡ 1 = omega arith in
+    let f1 : 1 - f + f ≡ 1 = omega arith in
+    let g1 : 1 - g + g ≡ 1 = omega arith in
+    let h1 : 1 - h + h ≡ 1 = omega arith in
+    turned a b c d e f g h (1 - a) (1 - b) (1 - c) (1 - d) (1 - e) (1 - f) (1 - g) (1 - h) a1 b1 c1 d1 e1 f1 g1 h1
+
+-- a byte with all its bits inverted
+pub byte-not : (p : ℕ → Bool) → 255 - byte_of (λ j. not (p j)) ≡ byte_of p
+unfolding byte_of
+byte-not p =
+    rw (bit-not (p 0), bit-not (p 1), bit-not (p 2), bit-not (p 3), bit-not (p 4), bit-not (p 5), bit-not (p 6), bit-not (p 7))
+    (eight (bit (p 0)) (bit (p 1)) (bit (p 2)) (bit (p 3)) (bit (p 4)) (bit (p 5)) (bit (p 6)) (bit (p 7))
+    (bit-low (p 0)) (bit-low (p 1)) (bit-low (p 2)) (bit-low (p 3)) (bit-low (p 4)) (bit-low (p 5)) (bit-low (p 6)) (bit-low (p 7)))
