@@ -1,5 +1,5 @@
-//! Tests of the public functions of `qr_layout`, `qr_field`, `qr_matrix` and `qr_bits`. 1-M stands for version 1 and
-//! level M.
+//! Tests of the public functions of `qr_layout`, `qr_field`, `qr_matrix`, `qr_bits` and `qr_images`. 1-M stands for
+//! version 1 and level M.
 //!
 //! The files of `src`:
 //!
@@ -7,6 +7,7 @@
 //! - `codewords`: data codewords, made and parsed
 //! - `field`: the field, and error correction codewords
 //! - `gs1`: GS1 data and ECIs
+//! - `images`: images
 //! - `layout`: versions, blocks, format and version information, roles
 //! - `matrix`: the square of modules
 //! - `penalty`: the penalty of squares
@@ -22,6 +23,8 @@ mod codewords;
 mod field;
 #[cfg(test)]
 mod gs1;
+#[cfg(test)]
+mod images;
 #[cfg(test)]
 mod layout;
 #[cfg(test)]

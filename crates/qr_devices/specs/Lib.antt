@@ -1,2 +1,4 @@
 pub mod Device
 pub mod Trial
+pub mod Writing
+pub mod Pen

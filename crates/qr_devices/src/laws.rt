@@ -1,5 +1,5 @@
-//! Laws of devices and of their counts. The contract of each function is a law, and a function with an empty body does
-//! nothing.
+//! Laws of devices, of their counts and of the pen. The contract of each function is a law, and a function with an
+//! empty body does nothing.
 
 ghost use Rattle.std.specs.Prelude.{◌≡◌, ◌-◌, ◌^◌, false, Ok, Err};
 ghost use Rattle.qr_devices.specs.Device.{no_reads, no_writes, read_counted, write_counted, flush_counted};
@@ -8,8 +8,10 @@ ghost use Rattle.qr_devices.specs.declared.device.Trouble.{Trouble};
 ghost use Rattle.qr_devices.specs.declared.trial.Faults.{Faults};
 ghost use Rattle.qr_devices.specs.declared.trial.Trial.{Trial};
 ghost use Rattle.qr_devices.specs.declared.device.TheConstants.{INTERRUPTIONS_MAX};
+ghost use Rattle.qr_devices.specs.declared.pen.TheConstants.{WRITE_MAX};
 
 use crate::device::Trouble;
+use crate::pen::DrawFault;
 use crate::trial::Faults;
 
 /// Returns the `Faults` of a device that is never interrupted, never fails, and always moves as many bytes as it can.
@@ -39,3 +41,19 @@ pub fn counts_compute()
         → moved m 0 5 ≡ Err Trouble.Interrupted × moved m 1 5 ≡ Ok 1 × moved m 2 5 ≡ Err Trouble.Failed }
     ensures stops { (t : Trial) → t.faults.stops_from ≡ t.writes.calls → free_of t ≡ 0 }
 {}
+
+/// `WRITE_MAX`, the greatest number of bytes that one write offers, is 1,200.
+pub fn pieces_are_limited()
+    ensures { WRITE_MAX ≡ 1200 }
+{}
+
+/// Returns the discriminant of `fault`, which is 1.
+///
+/// # Notes
+///
+/// The discriminants of `DrawFault` stay the same in later versions of this crate.
+pub fn draw_fault_numbers(fault: DrawFault) -> u8
+    ensures { result ≡ 1 }
+{
+    fault as u8
+}

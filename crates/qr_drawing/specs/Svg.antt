@@ -4,7 +4,8 @@
 use Rattle.std.specs.Prelude.{ℕ, ◌+◌, ◌-◌, ◌*◌, ◌==◌, Bool, not, ◌&&◌, ◌||◌, if◌then◌else◌, List, [], ◌++◌, length, slice_index_or, codes, decimal}
 use Rattle.std.specs.List.{prefix_len, range_with_len}
 use Rattle.qr_matrix.specs.Grid.{Grid, light}
-use Rattle.qr_drawing.specs.Raster.{is_dark_at, raster_width, texts_below}
+use Rattle.qr_matrix.specs.Raster.{is_dark_at, raster_width}
+use Rattle.qr_drawing.specs.Raster.{texts_below}
 
 -- The characters `text`, followed by the decimal digits of `number` [own]
 unfoldable pub numbered : List ℕ → ℕ → List ℕ

@@ -1,7 +1,8 @@
 -- The drawing of the square `g` with the margin `margin` as lines of text, which consist of cells.
 use Rattle.std.specs.Prelude.{ℕ, ◌+◌, ◌*◌, ◌/◌, Bool, not, if◌then◌else◌, List, [], ◌∷◌, ◌++◌}
 use Rattle.qr_matrix.specs.Grid.{Grid}
-use Rattle.qr_drawing.specs.Raster.{is_dark_at, raster_width, texts_below}
+use Rattle.qr_matrix.specs.Raster.{is_dark_at, raster_width}
+use Rattle.qr_drawing.specs.Raster.{texts_below}
 use Rattle.qr_drawing.specs.declared.text.TextStyle.{TextStyle}
 use Rattle.qr_drawing.specs.declared.text.TextStyle.TheVariants.{Plain, Inverse, HalfBlocks}
 

@@ -6,12 +6,11 @@ ghost use Rattle.std.specs.Prelude.{◌≡◌, ◌≤◌, ◌<◌, ◌+◌, max,
 ghost use Rattle.std.specs.Io.KnownBytes.{Appends};
 ghost use Rattle.qr_devices.specs.Device.{AppendsBeginning, IsWrittenWithin, counted, is_write_fault, no_writes};
 ghost use Rattle.qr_drawing.specs.Drawing.{HaveOneSide, drawn};
-ghost use Rattle.qr_drawing.specs.Raster.{raster_width};
+ghost use Rattle.qr_matrix.specs.Raster.{raster_width};
 
-use crate::pen::{DrawFault, PEN_SIZE, Pen, Piece, WRITE_MAX};
 use crate::svg::put_document;
 use crate::text::{TextStyle, put_texts};
-use qr_devices::Sink;
+use qr_devices::{DrawFault, Pen, Sink, WRITE_MAX};
 use qr_symbol::{Matrix, Symbol};
 
 /// How symbols are drawn: as a text or as an SVG document.
@@ -106,13 +105,7 @@ pub fn draw<S: HasSquare, W: Sink>(
     ensures offered { (W.device out.new).counts.offered ≤ max (W.device out.old).counts.offered WRITE_MAX }
     ensures flushes { (W.device out.new).counts.flushes ≡ (W.device out.old).counts.flushes }
 {
-    let mut pen = Pen {
-        piece: Piece {
-            bytes: [0; PEN_SIZE],
-            len: 0,
-        },
-        interrupted: 0,
-    };
+    let mut pen = Pen::new();
     // When the calls of this `match` are done, the pen may still contain the last bytes of the drawing.
     let put = match kind {
         Drawing::Ascii => put_texts(&mut pen, out, TextStyle::Plain, symbols, margin),

@@ -1,15 +1,12 @@
-//! Laws of drawings: which characters show modules, what small squares look like, which texts make an SVG document, how
-//! many bytes one write offers, and the number of a fault. The contract of a function with an empty body is the law.
+//! Laws of drawings: which characters show modules, what small squares look like, and which texts make an SVG document.
+//! The contract of a function with an empty body is the law.
 
 ghost use Rattle.std.specs.Prelude.{◌≡◌, ◌==◌, ◌+◌, ◌*◌, ◌++◌, ◌∷◌, [], ℕ, codes, decimal};
 ghost use Rattle.qr_matrix.specs.Grid.{Grid, square};
 ghost use Rattle.qr_drawing.specs.Svg.{background, box_path, closing, declaration, foreground, opening, stack_path, svg_document};
 ghost use Rattle.qr_drawing.specs.Drawing.{drawn};
 ghost use Rattle.qr_drawing.specs.declared.drawing.Drawing.TheVariants.{Ascii, AsciiInverse, Utf8};
-ghost use Rattle.qr_drawing.specs.declared.pen.TheConstants.{WRITE_MAX};
 ghost use Rattle.qr_drawing.specs.Laws.{CharactersOfModules};
-
-use crate::pen::DrawFault;
 
 /// `CharactersOfModules` lists the characters that show modules. In the style `Plain` two characters show one module.
 /// In the style `HalfBlocks` one character shows two modules, one above the other, so 29 rows of modules need 15 lines.
@@ -17,14 +14,9 @@ pub fn characters_of_modules()
     ensures { CharactersOfModules }
 {}
 
-/// `WRITE_MAX`, the greatest number of bytes that one write offers, is 1,200.
-pub fn pieces_are_limited()
-    ensures { WRITE_MAX ≡ 1200 }
-{}
-
 /// Drawings of squares of two by two modules, of which only the first row is dark, with a margin of one module or none.
 /// The clause `document` lists the parts of an SVG document that shows a square of any size twice.
-#[tactic(auto, unfolding(crate::specs::Raster::texts_below, crate::specs::Raster::is_dark_at, crate::specs::Svg::begins_run, crate::specs::Svg::run_length, crate::specs::Svg::run_path, crate::specs::Svg::row_path, crate::specs::Svg::symbol_path, crate::specs::Svg::stack_path, crate::specs::Svg::declaration, crate::specs::Svg::foreground, crate::specs::Svg::closing, crate::specs::Svg::svg_document, qr_matrix::specs::Grid::rows_of, qr_matrix::specs::Grid::colour))]
+#[tactic(auto, unfolding(crate::specs::Raster::texts_below, qr_matrix::specs::Raster::is_dark_at, crate::specs::Svg::begins_run, crate::specs::Svg::run_length, crate::specs::Svg::run_path, crate::specs::Svg::row_path, crate::specs::Svg::symbol_path, crate::specs::Svg::stack_path, crate::specs::Svg::declaration, crate::specs::Svg::foreground, crate::specs::Svg::closing, crate::specs::Svg::svg_document, qr_matrix::specs::Grid::rows_of, qr_matrix::specs::Grid::colour))]
 pub fn drawings_compute()
     ensures ascii { drawn Ascii 1 (square 2 (λ r c. r == 0) ∷ []) ≡ codes "        \n  ####  \n        \n        \n" }
     ensures inverse { drawn AsciiInverse 1 (square 2 (λ r c. r == 0) ∷ []) ≡ codes "########\n##    ##\n########\n########\n" }
@@ -42,14 +34,3 @@ pub fn svg_texts()
     ensures opened { (w h : ℕ) → opening w h ≡ (codes "<svg xmlns=\"http://www.w3.org/2000/svg\" version=\"1.1\" viewBox=\"0 0 " ++ decimal w) ++ (codes " " ++ decimal h) ++ codes "\" shape-rendering=\"crispEdges\">\n" }
     ensures white { (w h : ℕ) → background w h ≡ (codes "<rect x=\"0\" y=\"0\" width=\"" ++ decimal w) ++ (codes "\" height=\"" ++ decimal h) ++ codes "\" fill=\"#ffffff\"/>\n" }
 {}
-
-/// Returns the discriminant of `fault`, which is 1.
-///
-/// # Notes
-///
-/// The discriminants of `DrawFault` stay the same in later versions of this crate.
-pub fn draw_fault_numbers(fault: DrawFault) -> u8
-    ensures { result ≡ 1 }
-{
-    fault as u8
-}

@@ -5,16 +5,14 @@
 //!
 //! - `drawing`: the types of drawing, and rasters
 //! - `laws`: laws of drawings
-//! - `pen`: the buffer through which a drawing is written
 //! - `svg`: draws an SVG document
 //! - `text`: draws lines of text
 #![tactic(auto)]
 
 mod drawing;
 pub mod laws;
-mod pen;
 mod svg;
 mod text;
 
 pub use drawing::{Drawing, HasSquare, draw};
-pub use pen::{DrawFault, WRITE_MAX, write_text};
+pub use qr_devices::{DrawFault, WRITE_MAX, write_text};

@@ -5,14 +5,13 @@
 
 ghost use Rattle.std.specs.Prelude.{◌≡◌, ◌≤◌, ◌<◌, ◌+◌, ◌*◌, ◌++◌, ◌∷◌, [], ℕ, ◌/◌, ◌%◌, codes, decimal, length, map};
 ghost use Rattle.qr_drawing.specs.Drawing.{HaveOneSide};
-ghost use Rattle.qr_drawing.specs.Steps.Pen.{Puts};
+ghost use Rattle.qr_devices.specs.Pen.{Puts};
 ghost use Rattle.qr_drawing.specs.Steps.Svg.{head, tail, width_path};
 ghost use Rattle.qr_drawing.specs.Svg.{background, box_path, numbered, opening, row_path, stack_path, svg_document, symbol_path};
 
 use crate::drawing::{HasSquare, Raster};
-use crate::pen::{DrawFault, PEN_SIZE, Pen, Piece, WRITE_MAX};
 use itoa::Buffer;
-use qr_devices::Sink;
+use qr_devices::{DrawFault, PEN_SIZE, Pen, Piece, Sink, WRITE_MAX};
 
 // How many bytes of room the pen has to have before a box is appended. A box has at most 22 bytes. With another number
 // than 32 the writes would have other sizes, and the test `sizes_of_single_writes` in `command_tests` would fail.

@@ -14,12 +14,11 @@ ghost use Rattle.std.specs.List.{flat_map};
 ghost use Rattle.qr_drawing.specs.Raster.{texts_below};
 ghost use Rattle.qr_drawing.specs.Text.{half_blocks, cells_of_line, text_drawing};
 ghost use Rattle.qr_drawing.specs.Steps.Text.{AreDark, bits_text, cell_room, cell_text, pair_text};
-ghost use Rattle.qr_drawing.specs.Steps.Pen.{Puts};
+ghost use Rattle.qr_devices.specs.Pen.{Puts};
 ghost use Rattle.qr_drawing.specs.declared.text.TextStyle.TheVariants.{HalfBlocks, Plain};
 
 use crate::drawing::{HasSquare, Raster};
-use crate::pen::{DrawFault, PEN_SIZE, Pen, Piece, WRITE_MAX};
-use qr_devices::Sink;
+use qr_devices::{DrawFault, PEN_SIZE, Pen, Piece, Sink, WRITE_MAX};
 
 /// How a text shows modules.
 #[derive(Clone, Copy)]

@@ -11,7 +11,7 @@ use Rattle.qr_bits.specs.declared.modes.TheConstants.{INPUT_MAX}
 use Rattle.qr_bits.specs.Folding.{folded}
 use Rattle.qr_matrix.specs.Grid.{Grid}
 use Rattle.qr_symbol.specs.Joining.{IsJoined}
-use Rattle.qr_drawing.specs.declared.pen.TheConstants.{WRITE_MAX}
+use Rattle.qr_devices.specs.declared.pen.TheConstants.{WRITE_MAX}
 use Rattle.qr_devices.specs.Device.{AppendsBeginning, IsWrittenWithin, Reader, Writer, counted, is_read_fault, is_write_fault, no_reads, no_writes}
 use Rattle.qr_drawing.specs.Drawing.{drawn}
 use Rattle.qrencode_cli.specs.Fault.{fault_line}

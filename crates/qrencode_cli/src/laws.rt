@@ -4,7 +4,7 @@
 ghost use Rattle.std.specs.Prelude.{◌≡◌};
 ghost use Rattle.qr_bits.specs.declared.modes.TheConstants.{INPUT_MAX};
 ghost use Rattle.qr_devices.specs.declared.device.TheConstants.{INTERRUPTIONS_MAX};
-ghost use Rattle.qr_drawing.specs.declared.pen.TheConstants.{WRITE_MAX};
+ghost use Rattle.qr_devices.specs.declared.pen.TheConstants.{WRITE_MAX};
 ghost use Rattle.qrencode_cli.specs.Laws.{AnswersAreOne, FoldingFollowsTheRule, LinesOfFaults, NumbersOfUsageFaults, RefusalsAreOne, RefusalsExcludeDrawings, CommandLines, RulesOfModes, StatusesAreTwo};
 
 /// `CommandLines` has 45 lists of arguments. It says for each list which settings its arguments mean, or why they are

@@ -3,7 +3,8 @@
 use Rattle.std.specs.Prelude.{◌≡◌, ℕ, ◌+◌, ◌*◌, ◌<◌, Bool, false, not, List}
 use Rattle.qr_matrix.specs.Grid.{Grid}
 use Rattle.qr_matrix.specs.BitRow.{has_bit}
-use Rattle.qr_drawing.specs.Raster.{is_dark_at, texts_below}
+use Rattle.qr_matrix.specs.Raster.{is_dark_at}
+use Rattle.qr_drawing.specs.Raster.{texts_below}
 use Rattle.qr_drawing.specs.Text.{ascii_module, half_blocks}
 use Rattle.qr_drawing.specs.declared.text.TextStyle.{TextStyle}
 use Rattle.qr_drawing.specs.declared.text.TextStyle.TheVariants.{Plain, Inverse, HalfBlocks}

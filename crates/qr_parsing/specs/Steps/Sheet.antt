@@ -3,7 +3,7 @@
 -- and a column of this raster, all counted from 0.
 use Rattle.std.specs.Prelude.{◌≡◌, ℕ, ◌+◌, ◌*◌, ◌/◌, ◌%◌, ◌<◌, ◌==◌, ◌⊎◌, Bool, ◌||◌, if◌then◌else◌, List, drop, length, slice_index_or}
 use Rattle.qr_matrix.specs.Grid.{Grid}
-use Rattle.qr_drawing.specs.Raster.{is_dark_at, raster_width}
+use Rattle.qr_matrix.specs.Raster.{is_dark_at, raster_width}
 use Rattle.qr_drawing.specs.Svg.{square_at}
 use Rattle.qr_drawing.specs.declared.drawing.Drawing.{Drawing}
 use Rattle.qr_drawing.specs.declared.drawing.Drawing.TheVariants.{Ascii, AsciiInverse, Utf8, Svg}

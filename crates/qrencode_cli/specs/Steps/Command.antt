@@ -11,7 +11,7 @@ use Rattle.qr_symbol.specs.declared.symbol.Symbol.{Symbol}
 use Rattle.qr_symbol.specs.Joining.{IsJoined}
 use Rattle.qr_symbol.specs.Series.{squares_of}
 use Rattle.qr_drawing.specs.Drawing.{HaveOneSide, drawn}
-use Rattle.qr_drawing.specs.declared.pen.TheConstants.{WRITE_MAX}
+use Rattle.qr_devices.specs.declared.pen.TheConstants.{WRITE_MAX}
 use Rattle.qrencode_cli.specs.Input.{IsInputOf, IsReadWithin}
 use Rattle.qrencode_cli.specs.Settings.{SettingsView}
 use Rattle.qrencode_cli.specs.Symbols.{AreSymbols, IsTooLong, IsTooMany}

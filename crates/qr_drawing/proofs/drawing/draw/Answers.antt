@@ -1,5 +1,6 @@
-use Rattle.qr_drawing.proofs.{drawing.draw.{Given.Over, Goals.{Joined-kind, in-Ascii, in-AsciiInverse, in-Svg, in-Utf8}}, lemmas.pen.{emptied, written}}
-use Rattle.{qr_drawing.specs.{Drawing.drawn, Steps.Writing.{Stops, Writes}}, std.proofs.{Common.{MatchResult, map, rules}, lemmas.Result.err_from_is_err_and}}
+use Rattle.qr_drawing.proofs.{drawing.draw.{Given.Over, Goals.{Joined-kind, in-Ascii, in-AsciiInverse, in-Svg, in-Utf8}}}
+use Rattle.qr_devices.proofs.Facts.{emptied, written}
+use Rattle.{qr_drawing.specs.Drawing.drawn, qr_devices.specs.Writing.{Stops, Writes}, std.proofs.{Common.{MatchResult, map, rules}, lemmas.Result.err_from_is_err_and}}
 use Rattle.qr_drawing.proofs.drawing.draw.Goals as goal
 
 -- what is written before the pen is emptied

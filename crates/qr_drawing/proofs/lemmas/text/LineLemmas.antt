@@ -1,6 +1,7 @@
 -- How the texts of places join while they are added and written.
 use Rattle.qr_devices.specs.Device.{Writer}
-use Rattle.qr_drawing.{proofs.lemmas.pen.{stops-first, writes-none, writes-on, writes-stop}, specs.{Raster.texts_below, Steps.Writing.{Stops, Writes}}}
+use Rattle.qr_devices.{proofs.Facts.{stops-first, writes-none, writes-on, writes-stop}, specs.Writing.{Stops, Writes}}
+use Rattle.qr_drawing.specs.Raster.{texts_below}
 use Rattle.std.proofs.Common.{◌≡◌, ◌++◌, ◌∙◌, ◌<◌, ◌≤◌, ◌+◌, ◌-◌, ◌*◌, ℕ, zero, suc, List, [], ◌∷◌, refl, sym, ap, arith, append_assoc, append-nil, take, length, length-append, get_or}
 use Rattle.std.{proofs.{Math.Nat.suc-mul, lemmas.{Grind.flat_map-append, List.{take_all, take_more}}}, specs.List.{flat_map, range_with_len}}
 

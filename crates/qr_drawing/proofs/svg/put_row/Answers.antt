@@ -1,4 +1,5 @@
-use Rattle.qr_drawing.proofs.lemmas.{pen.{formed, stops-between, writes-none, writes-on}, svg.{box-is, box_of, row-boxes}}
+use Rattle.qr_devices.proofs.Facts.{formed, stops-between, writes-none, writes-on}
+use Rattle.qr_drawing.proofs.lemmas.svg.{box-is, box_of, row-boxes}
 use Rattle.std.proofs.{Common.{rules, ◌<◌, ◌≤◌, ◌+◌, [], ◌∷◌, append_assoc, append-nil, arith}, lemmas.Grind.flat_map-append}
 use Rattle.std.{proofs.lemmas.{List.Elements.{All-head, All-rest}, Result.err_from_is_err_and}, specs.List.flat_map}
 use Rattle.qr_drawing.proofs.svg.put_row.Goals as goal

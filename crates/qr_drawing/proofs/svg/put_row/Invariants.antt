@@ -1,5 +1,6 @@
 use Rattle.std.{proofs.Common.{◌≡◌, ◌≤◌, ◌<◌, ◌+◌, ◌++◌}, specs.List.{All, flat_map}}
-use Rattle.qr_drawing.{specs.{Svg.row_path, Steps.Writing.Writes}, proofs.lemmas.svg.box_of}
+use Rattle.qr_devices.specs.Writing.{Writes}
+use Rattle.qr_drawing.{specs.Svg.row_path, proofs.lemmas.svg.box_of}
 use Rattle.qr_drawing.proofs.svg.put_row.Given as goal
 
 abbrev pub invariant-loop-run : goal.invariant-loop-run

@@ -1,5 +1,6 @@
 use Rattle.std.proofs.Common.{◌≡◌, ◌≤◌, ◌*◌, ◌++◌, map}
-use Rattle.qr_drawing.specs.{Raster.{raster_width, texts_below}, Svg.{square_at, symbol_path}, Steps.Writing.Writes}
+use Rattle.qr_drawing.specs.{Raster.{raster_width, texts_below}, Svg.{square_at, symbol_path}}
+use Rattle.qr_devices.specs.Writing.{Writes}
 use Rattle.qr_drawing.proofs.svg.put_stack.Given as goal
 
 abbrev pub invariant-loop-symbol : goal.invariant-loop-symbol

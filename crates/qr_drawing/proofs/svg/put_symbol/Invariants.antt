@@ -1,4 +1,4 @@
-use Rattle.{qr_drawing.specs.{Raster.texts_below, Steps.Writing.Writes, Svg.row_path}, std.proofs.Common.{◌+◌, ◌++◌}}
+use Rattle.{qr_devices.specs.Writing.Writes, qr_drawing.specs.{Raster.texts_below, Svg.row_path}, std.proofs.Common.{◌+◌, ◌++◌}}
 use Rattle.qr_drawing.proofs.svg.put_symbol.Given as goal
 
 abbrev pub invariant-loop-row : goal.invariant-loop-row

@@ -1,7 +1,8 @@
 use Rattle.std.proofs.{Math.Nat.add-mul, Common.{◌≡◌, ◌≤◌, ◌+◌, ◌-◌, ◌++◌, List, ℕ, append_assoc, ap, length, refl, arith, rules}, lemmas.{List.length-take, Result.err_from_is_err_and}}
 use Rattle.qr_matrix.specs.BitRow.{has_bit}
 use Rattle.qr_drawing.specs.{Raster.texts_below, Steps.Text.{bits_text, cell_at, cell_room, cell_text, top_row}}
-use Rattle.qr_drawing.proofs.lemmas.{pen.{formed, stops-before, stops-between, stops-first, writes-on}, text.LineLemmas.{added-next, added-none}}
+use Rattle.qr_devices.proofs.Facts.{formed, stops-before, stops-between, stops-first, writes-on}
+use Rattle.qr_drawing.proofs.lemmas.{text.LineLemmas.{added-next, added-none}}
 use Rattle.qr_drawing.proofs.lemmas.text.CellLemmas.{added-cells, cell-length, cells-length, eight-quads, later-cells, line-parts, room-cells, room-left, room-quad}
 use Rattle.qr_drawing.proofs.text.put_line.{Given.Over, Goals.{Joined-left-ge4, Joined-style, else-left-ge4, in-HalfBlocks, in-Plain, then-left-ge4}}
 use Rattle.qr_drawing.proofs.text.put_line.Goals as goal

@@ -1,5 +1,6 @@
 use Rattle.std.proofs.Common.{◌++◌, ◌∷◌, [], map}
-use Rattle.qr_drawing.specs.{Raster.texts_below, Svg.square_at, Text.cells_of_line, Text.text_drawing, Steps.Writing.Writes}
+use Rattle.qr_drawing.specs.{Raster.texts_below, Svg.square_at, Text.cells_of_line, Text.text_drawing}
+use Rattle.qr_devices.specs.Writing.{Writes}
 use Rattle.qr_drawing.proofs.text.put_texts.Given as goal
 
 abbrev pub invariant-loop-symbol : goal.invariant-loop-symbol

@@ -1,7 +1,7 @@
 -- The parts of a run make a correct run.
 use Rattle.clap.specs.Walk.{Text}
 use Rattle.qr_devices.specs.Device.{AppendsBeginning, IsWrittenWithin, Reader, Writer, counted, flush_counted, is_write_fault, no_writes}
-use Rattle.{qr_devices.specs.declared.device.Trouble.Trouble, qr_drawing.specs.declared.pen.{DrawFault.DrawFault, TheConstants.WRITE_MAX}}
+use Rattle.{qr_devices.specs.declared.{device.Trouble.Trouble, pen.{DrawFault.DrawFault, TheConstants.WRITE_MAX}}}
 use Rattle.qrencode_cli.{proofs.lemmas.command.AskingLemmas.same-fault, specs.Command.{DrawnWhole, ErrorHolds, HasDrawing, IsFault, OutputHolds, Runs}}
 use Rattle.qrencode_cli.specs.{Fault.fault_line, Steps.Command.{Attempts, Draws, IsEarly, drawing_of_job}, declared.fault.Fault.Fault}
 use Rattle.std.proofs.Common.{◌≤◌, arith, ◌≡◌, ℕ, List, [], Option, Result, Ok, Err, OnOk, OnErr, IfErr, MatchResult, if◌then◌else◌, inl, is_err, is_ok, max, true, false, inr, refl, append-nil, length}

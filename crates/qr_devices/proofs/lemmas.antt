@@ -1,0 +1,2 @@
+-- Lemmas, in files with the name of the file of src that they serve.
+pub mod pen

@@ -1,0 +1,3 @@
+-- The two checksums.
+pub mod CrcLemmas
+pub mod AdlerLemmas

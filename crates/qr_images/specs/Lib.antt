@@ -1,0 +1,10 @@
+pub mod Checksums
+pub mod Bits
+pub mod Deflate
+pub mod Png
+pub mod Pbm
+pub mod Image
+pub mod Codes
+pub mod Writing
+pub mod Laws
+pub mod Steps

@@ -1,0 +1,5 @@
+-- What the code does step by step. Only private contracts use these definitions.
+pub mod Checksums
+pub mod Codes
+pub mod Lines
+pub mod Stream
