@@ -89,13 +89,25 @@ const COUNTS = ['level', 'mask', 'wrongFormatModules', 'wrongFormatLeast', 'chan
   'worstUnknownWrong'];
 const COUNTS_AT = 28;
 const MODULE_LIKELY = 8; // more bytes than most drawings have for each module
-const TOO_LONG = 2, TOO_MANY = 3, ROOM = 6, NO_DRAWING = 11; // statuses
+const TOO_LONG = 2, TOO_MANY = 3, SETTINGS = 5, ROOM = 6, NO_DRAWING = 11; // statuses
 export const DEFAULT = 1000000, GS1 = 1000001; // interpretations; a smaller number is that of an ECI
 
-/** Returns the bits by which a symbol says an interpretation (ISO/IEC 18004:2015, 7.4.2 and 7.4.8). */
-function headerOf(interpretation) {
-  if (interpretation >= DEFAULT) return interpretation === GS1 ? 4 : 0;
-  return interpretation < 1 << 7 ? 12 : interpretation < 1 << 14 ? 20 : 28;
+const BYTE = 2, ALPHANUMERIC = 1, NUMERIC = 0, KANJI = 3; // modes
+// The modes with the names of their characters, and how many of them each rule allows.
+const MODES = [['bytes', BYTE], ['alphanumeric characters', ALPHANUMERIC], ['digits', NUMERIC], ['kanji', KANJI]];
+const MODES_OF_RULE = [3, 1, 4];
+
+/** Asks how many characters of a mode fit a symbol of version 40; returns the status and the number. */
+function room(level, mode, interpretation) {
+  return run(() => {
+    const told = take(4), status = call('qrproved_room', 40, level, mode, interpretation, 0, BigInt(told));
+    return [status, struct(told, 4).getUint32(0, true)];
+  });
+}
+
+/** Returns whether kanji mode is allowed beside an ECI. */
+export function mayHaveKanji(eci) {
+  return room(0, KANJI, eci)[0] !== SETTINGS;
 }
 
 /** Encodes an input, of bytes and their interpretation. */
@@ -104,7 +116,10 @@ export function encoded({ data, interpretation }, version, level, rule, boost) {
     const from = put(data), to = take(SYMBOL_MAX), told = take(4);
     const status = call('qrproved_encode', BigInt(from), BigInt(data.length), version, level, rule, interpretation, boost ? 1 : 0, BigInt(to),
       BigInt(SYMBOL_MAX), BigInt(told));
-    if (status === TOO_LONG) throw tooLong(data.length, level, rule, headerOf(interpretation));
+    if (status === TOO_LONG) {
+      const modes = MODES.slice(0, MODES_OF_RULE[rule]);
+      throw tooLong(data.length, level, modes.map(([name, mode]) => [name, room(level, mode, interpretation)[1]]));
+    }
     throwFor(status);
     const [chosen, side, used, mask] = bytesAt(told, 4);
     return { version: chosen, side, level: used, mask, modules: copied(to, side * side) };

@@ -100,33 +100,17 @@ export class Gs1Error extends Error {
   }
 }
 
-// The data bits of a symbol of version 40 at each level, from L to H (ISO/IEC 18004:2015, Table 7).
-const DATA_BITS = [23648, 18672, 13328, 10208];
-const MODE_BITS = 4; // of a mode indicator, before the character count
-
-/** Returns how many bytes, alphanumeric characters, digits and kanji fit into so many bits at version 40 (ISO/IEC 18004:2015, 7.4.3 to 7.4.6). */
-function mostIn(room) {
-  const [data, alphanumeric, digits, kanji] = [16, 13, 14, 12].map((count) => room - MODE_BITS - count);
-  return [
-    Math.floor(data / 8),
-    2 * Math.floor(alphanumeric / 11) + (alphanumeric % 11 >= 6 ? 1 : 0),
-    3 * Math.floor(digits / 10) + (digits % 10 >= 7 ? 2 : digits % 10 >= 4 ? 1 : 0),
-    Math.floor(kanji / 13),
-  ];
-}
-
 /** Returns a number with commas between thousands. */
 function counted(number) {
   return String(number).replace(/\B(?=(\d{3})+$)/g, ',');
 }
 
 /**
- * Returns the refusal of `count` bytes, which says how many would fit beside a header of so many bits. The rule, 0, 1 or 2, decides which
- * modes there are.
+ * Returns the refusal of `count` bytes. `most` has the name of the characters of each mode, and how many of them the largest symbol of
+ * this level holds.
  */
-export function tooLong(count, level, rule, header) {
-  const names = ['bytes', 'alphanumeric characters', 'digits', 'kanji'].slice(0, [3, 1, 4][rule]), fits = mostIn(DATA_BITS[level] - header);
-  const [last, ...first] = names.map((name, k) => `${counted(fits[k])} ${name}`).reverse();
+export function tooLong(count, level, most) {
+  const [last, ...first] = most.map(([name, number]) => `${counted(number)} ${name}`).reverse();
   const holds = first.length ? `${first.reverse().join(', ')} or ${last}` : last;
   return new TooLongError(`the input has ${counted(count)} bytes and does not fit a symbol: version 40-${'LMQH'[level]} holds ${holds}`);
 }

@@ -2,7 +2,7 @@
  * QR Code symbols (ISO/IEC 18004:2015, QR Code Model 2) by the library libqrproved as WebAssembly, whose calls are proved to meet
  * their contracts. README.md shows the calls; qrproved.d.ts describes each.
  */
-import { DEFAULT, GS1, drawn, encoded, encodedSeries, mendedOf, parsedOf, readOf } from './calls.js';
+import { DEFAULT, GS1, drawn, encoded, encodedSeries, mayHaveKanji, mendedOf, parsedOf, readOf } from './calls.js';
 import { Gs1Error, NoDrawingError, SettingsError, SideError } from './errors.js';
 import { dataOf, fieldsOf } from './gs1.js';
 import { SHIFT_JIS, UTF_8, decodedText, encodedText } from './interpretation.js';
@@ -94,7 +94,7 @@ function inputOf(input, eci, rule) {
     const data = checked(input.gs1);
     return { data: typeof data === 'string' ? dataOf(data) : data, interpretation: GS1 };
   }
-  if (isKanji && number !== null && number !== SHIFT_JIS) {
+  if (isKanji && number !== null && !mayHaveKanji(number)) {
     throw new SettingsError(`kanji mode is for Shift JIS: beside the rule 'with_kanji' eci is ${SHIFT_JIS} or false, and not ${number}`);
   }
   const data = checked(input);

@@ -1,7 +1,10 @@
 """The refusals of the library, an exception for each status."""
 from __future__ import annotations
 
-from typing import ClassVar
+from typing import TYPE_CHECKING, ClassVar
+
+if TYPE_CHECKING:
+    from collections.abc import Sequence
 
 
 class Error(Exception):
@@ -99,25 +102,9 @@ class FieldsError(Error, ValueError):
     text = "a separator of GS1 data, the byte 1D, comes directly before another or before %"
 
 
-# The data bits of a symbol of version 40 at each level, from L to H (ISO/IEC 18004:2015, Table 7).
-DATA_BITS = [23648, 18672, 13328, 10208]
-MODE_BITS = 4  # of a mode indicator, before the character count
-
-
-def _most(room: int) -> list[str]:
-    """Returns what fits into so many bits at version 40, by mode (ISO/IEC 18004:2015, 7.4.3 to 7.4.6)."""
-    data, kanji = (room - MODE_BITS - 16) // 8, (room - MODE_BITS - 12) // 13
-    pairs, rest = divmod(room - MODE_BITS - 13, 11)
-    triples, more = divmod(room - MODE_BITS - 14, 10)
-    digits = 3 * triples + (2 if more >= 7 else 1 if more >= 4 else 0)
-    return [f"{data:,} bytes", f"{2 * pairs + (rest >= 6):,} alphanumeric characters", f"{digits:,} digits", f"{kanji:,} kanji"]
-
-
-def too_long(count: int, level: int, rule: int, header: int) -> TooLongError:
-    """Returns the refusal of `count` bytes, which says how many would fit beside a header of so many bits. The rule, 0, 1 or 2, decides
-    which modes there are."""
-    modes = _most(DATA_BITS[level] - header)
-    *first, last = modes[:(3, 1, 4)[rule]]
+def too_long(count: int, level: int, most: Sequence[str]) -> TooLongError:
+    """Returns the refusal of `count` bytes. `most` says how many characters of each mode the largest symbol of this level holds."""
+    *first, last = most
     holds = f"{', '.join(first)} or {last}" if first else last
     return TooLongError(f"the input has {count:,} bytes and does not fit a symbol: version 40-{'LMQH'[level]} holds {holds}")
 

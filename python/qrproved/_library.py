@@ -21,6 +21,7 @@ ECIS_MAX = 1970
 MARGIN_MAX = 100
 
 DEFAULT, GS1 = 1_000_000, 1_000_001  # interpretations; a smaller number is that of an ECI
+NUMERIC, ALPHANUMERIC, BYTE, KANJI = range(4)  # modes
 
 
 class Symbol(ctypes.Structure):
@@ -63,6 +64,7 @@ PARAMETERS = {
     "qrproved_mend": [*BYTES, SETTING, *BUFFER, *BUFFER, ctypes.POINTER(Mended)],
     "qrproved_draw": [*BYTES, SETTING, SETTING, SETTING, SETTING, *BUFFER, ctypes.POINTER(c_size_t)],
     "qrproved_parse_drawing": [*BYTES, *BUFFER, ctypes.POINTER(Drawn)],
+    "qrproved_room": [SETTING, SETTING, SETTING, SETTING, SETTING, ctypes.POINTER(c_uint32)],
 }
 
 

@@ -1,11 +1,13 @@
 """Builds the library for C by LLVM and by Rattle's own compiler, and calls it from Python. Also counts the checks of a
 script."""
 import ctypes
+import itertools
 import os
 import re
 import shutil
 import subprocess
 
+import squares
 from growths import TOP
 
 STRICT = ["-std=c11", "-O1", "-Wall", "-Wextra", "-pedantic", "-Werror", f"-I{TOP}/include"]
@@ -113,6 +115,7 @@ PARAMETERS = {
     "qrproved_mend": BUFFER + NUMBER + BUFFER * 2 + POINTER,
     "qrproved_draw": BUFFER + NUMBER * 4 + BUFFER + POINTER,
     "qrproved_parse_drawing": INPUT + BUFFER + POINTER,
+    "qrproved_room": NUMBER * 5 + POINTER,
 }
 
 
@@ -178,6 +181,12 @@ class Library:
         modules = bytes(memoryview(self.modules)[:drawn.count * area])
         return [modules[k * area:(k + 1) * area] for k in range(drawn.count)], drawn.side, drawn.drawing, drawn.margin
 
+    def room(self, version, level, mode, interpretation, header):
+        """Returns how many characters fit, or the name of a status other than 0."""
+        count = ctypes.c_uint32(MARK)
+        status = self.library.qrproved_room(version, level, mode, interpretation, header, ctypes.byref(count))
+        return count.value if not status else STATUSES[status] + ("" if count.value == MARK else ", number changed")
+
     def told_ecis(self, count):
         """Returns the ECI headers that a call wrote, each as the number of bytes before it and its own number. If the
         call wrote past them, returns a text that says so."""
@@ -207,6 +216,34 @@ class Library:
             return STATUSES[status] + others + ("" if is_unchanged else ", structs changed")
         fields = {"ecis": self.told_ecis(mended.eci_count), **{name: getattr(mended, name) for name, _ in Mended._fields_}}
         return {"bytes": bytes(self.bytes[:used]), **fields} if not others else f"DONE{others}"
+
+
+# Interpretations, each with the bits by which a symbol says it.
+SAID = {DEFAULT: 0, GS1: 4, 0: 12, 20: 12, 127: 12, 128: 20, 16_383: 20, 16_384: 28, 999_999: 28}
+
+
+def wrong_rooms(library):
+    """Returns the rooms that are not those of the model, of all versions, levels, modes and interpretations."""
+    wrong = []
+    for version, level, mode, interpretation, header in itertools.product(range(1, 41), range(4), range(4), SAID, range(2)):
+        got, is_kanji = library.room(version, level, mode, interpretation, header), mode == 3
+        if is_kanji and interpretation < DEFAULT and interpretation != 20:
+            wanted = "SETTINGS"
+        else:
+            wanted = squares.most_characters(version, LEVELS[level], 1 << mode, SAID[interpretation] + 20 * header)
+        if got != wanted:
+            wrong.append((version, level, mode, interpretation, header, got, wanted))
+    return wrong
+
+
+def edges_of_room(library):
+    """Returns what the call says of numbers that are out of range, and of the greatest that are not."""
+    rows = [(0, 0, 0, DEFAULT, 0), (41, 0, 0, DEFAULT, 0), (257, 0, 0, DEFAULT, 0), (1, 4, 0, DEFAULT, 0), (1, 0, 4, DEFAULT, 0),
+            (1, 0, 0, GS1 + 1, 0), (1, 0, 0, DEFAULT, 2), (1, 0, 3, 26, 0), (40, 3, 3, GS1, 1)]
+    return [library.room(*row) for row in rows]
+
+
+EDGES_OF_ROOM = ["SETTINGS"] * 8 + [(10208 - 20 - 4 - 4 - 12) // 13]
 
 
 def no_drawings(library):

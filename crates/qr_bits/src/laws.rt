@@ -17,6 +17,7 @@ ghost use Rattle.qr_bits.specs.Interpretation.{are_fields, characters_in, design
 ghost use Rattle.qr_bits.specs.Bits.{bits_of, field};
 ghost use Rattle.qr_bits.specs.Header.{header_bits, header_stream, parity_of};
 ghost use Rattle.qr_bits.specs.Padding.{capacity_of, padded, room_of};
+ghost use Rattle.qr_bits.specs.Room.{IsMostCharacters};
 ghost use Rattle.qr_bits.specs.Folding.{folded};
 ghost use Rattle.qr_bits.specs.Segmentation.{IsLeastSegmentation, least_bits, runs_of};
 ghost use Rattle.qr_bits.specs.Modes.{count_width, is_kanji_pair, character_value, kanji_value, may_use};
@@ -220,6 +221,17 @@ pub fn interpretations_compute()
 pub fn headers_take_room()
     ensures { (v : ℕ) (l : Level) (h : Header) (i : Interpretation)
         → room_of v l i ≡ capacity_of v l - header_bits (Some h) - interpretation_bits i }
+{}
+
+/// How many characters fit: of each mode in version 40 at level L, and kanji in GS1 data of a series in version 1 at level
+/// H (ISO/IEC 18004:2015, 7.4.10, Table 7).
+#[tactic(auto, using(crate::proofs::lemmas::room::digits_up, crate::proofs::lemmas::room::characters_up, crate::proofs::lemmas::room::kanji_up), unfolding(qr_layout::specs::Blocks::data_codewords_of, qr_layout::specs::Blocks::block_count_of, qr_layout::specs::Blocks::correction_len_of, qr_layout::specs::Version::total_codewords_of))]
+pub fn rooms_compute()
+    ensures digits { IsMostCharacters 40 Level.L Numeric Interpretation.Default false 7089 }
+    ensures characters { IsMostCharacters 40 Level.L Alphanumeric Interpretation.Default false 4296 }
+    ensures bytes { IsMostCharacters 40 Level.L Byte Interpretation.Default false 2953 }
+    ensures kanji { IsMostCharacters 40 Level.L Kanji Interpretation.Default false 1817 }
+    ensures least { IsMostCharacters 1 Level.H Kanji Interpretation.Gs1 true 2 }
 {}
 
 /// The parity data of `ABCDEFGH`, of no byte, and of three bytes of which two are equal (ISO/IEC 18004:2015, 8.3).

@@ -166,4 +166,13 @@ extern "C" {
         modules_len: usize,
         drawn: *mut Drawn,
     ) -> u8;
+
+    pub fn qrproved_room(
+        version: Setting,
+        level: Setting,
+        mode: Setting,
+        interpretation: Setting,
+        header: Setting,
+        count: *mut u32,
+    ) -> u8;
 }

@@ -151,6 +151,19 @@ pub enum Rule {
     WithKanji,
 }
 
+/// How the characters of a segment are written.
+#[derive(Clone, Copy, Debug, PartialEq, Eq, Hash)]
+pub enum Mode {
+    /// Digits.
+    Numeric,
+    /// Digits, capital letters, space and `$%*+-./:`.
+    Alphanumeric,
+    /// Any bytes.
+    Byte,
+    /// Shift JIS characters, of two bytes each.
+    Kanji,
+}
+
 /// How an input is encoded, beside its version and level. `Options::default()` asks for `boost`, and for no more.
 #[derive(Clone, Copy, Debug, PartialEq, Eq, Hash)]
 pub struct Options {
@@ -462,6 +475,43 @@ pub fn encode_series(
             modules: it.to_vec(),
         })
         .collect())
+}
+
+/// Returns how many characters of a mode fit a symbol if all of them are in one segment. Each has one byte, and in kanji mode two.
+/// Before the segment the symbol says the interpretation and, if `in_series` is true, has a structured append header.
+///
+/// ```
+/// use qrproved::{room, Interpretation, Level, Mode, Version};
+///
+/// assert_eq!(room(Version::MAX, Level::L, Mode::Byte, Interpretation::Default, false), Ok(2953));
+/// assert_eq!(room(Version::MAX, Level::L, Mode::Byte, Interpretation::Eci(26), false), Ok(2952));
+/// ```
+///
+/// # Errors
+///
+/// [`Error::Settings`] for an ECI above 999,999, and for one other than 20 beside [`Mode::Kanji`].
+pub fn room(
+    version: Version,
+    level: Level,
+    mode: Mode,
+    interpretation: Interpretation,
+    in_series: bool,
+) -> Result<u32, Error> {
+    let interpretation = interpretation.number()?;
+    check_library();
+    let mut count = 0;
+    // SAFETY: the version was checked, and only the call has the number to which it writes.
+    let status = unsafe {
+        c::qrproved_room(
+            c::Setting::from(version.0),
+            level as c::Setting,
+            mode as c::Setting,
+            interpretation,
+            c::Setting::from(in_series),
+            &mut count,
+        )
+    };
+    Error::of_status(status).map_or(Ok(count), Err)
 }
 
 /// Reads a symbol that is as it was drawn: no errors are corrected. Each byte but 0 is a dark module, and bytes past the last
