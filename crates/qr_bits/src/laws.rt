@@ -13,7 +13,7 @@ ghost use Rattle.qr_bits.specs.declared.stream.Header.{Header};
 ghost use Rattle.qr_bits.specs.declared.interpretation.Fnc1.{Fnc1};
 ghost use Rattle.qr_bits.specs.declared.interpretation.Interpretation.{Interpretation};
 ghost use Rattle.qr_bits.specs.declared.interpretation.Item.{Item};
-ghost use Rattle.qr_bits.specs.Interpretation.{are_fields, characters_in, designator_codewords, doubled, escaped, fnc1_of, interpretation_bits, is_application_indicator, items_in, meant_bytes};
+ghost use Rattle.qr_bits.specs.Interpretation.{are_fields, characters_in, designator_codewords, doubled, escaped, fnc1_of, interpretation_bits, is_application_indicator, items_in, MayAllowKanji, meant_bytes};
 ghost use Rattle.qr_bits.specs.Bits.{bits_of, field};
 ghost use Rattle.qr_bits.specs.Header.{header_bits, header_stream, parity_of};
 ghost use Rattle.qr_bits.specs.Padding.{capacity_of, padded, room_of};
@@ -204,8 +204,9 @@ pub fn fields_compute()
 {}
 
 /// Examples of what says how bytes are meant: which numbers are application indicators, how many codewords the shortest
-/// designator of an ECI has, and that FNC1 may come after an ECI header. The last clause says that after FNC1 in second
-/// position `%` stands for the separator, as it does after FNC1 in first position (ISO/IEC 18004:2015, 7.4.2, 7.4.8).
+/// designator of an ECI has, that FNC1 may come after an ECI header, that after FNC1 in second position `%` stands for the
+/// separator, as it does after FNC1 in first position (ISO/IEC 18004:2015, 7.4.2, 7.4.8), and that kanji mode may be allowed
+/// with ECI 20, and not with ECI 26.
 #[tactic(auto, unfolding(crate::specs::Interpretation::fnc1_of, crate::specs::Interpretation::meant_bytes, crate::specs::Interpretation::separated))]
 pub fn interpretations_compute()
     ensures indicators { map is_application_indicator (0 ∷ 99 ∷ 100 ∷ 164 ∷ 165 ∷ 190 ∷ 191 ∷ 196 ∷ 197 ∷ 222 ∷ 223 ∷ 255 ∷ [])
@@ -214,6 +215,8 @@ pub fn interpretations_compute()
     ensures position { fnc1_of (Item.Eci (record { number = 3; codewords = 1 }) ∷ Item.Fnc1First ∷ []) ≡ Some Fnc1.First }
     ensures second { meant_bytes false (Item.Fnc1Second 37 ∷ Item.Data (record { mode = Alphanumeric; len = 3 }) ∷ []) (codes "A%B")
         ≡ 0x41 ∷ 0x1D ∷ 0x42 ∷ [] }
+    ensures shift_jis { MayAllowKanji (Interpretation.Eci 20) }
+    ensures utf8 { MayAllowKanji (Interpretation.Eci 26) → ⊥ }
 {}
 
 /// The room that a structured append header leaves is the capacity, less the bits of the header and of the ECI header

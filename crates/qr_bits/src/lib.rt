@@ -40,7 +40,8 @@ mod stream;
 pub use fault::{BitFault, ParseFault};
 pub use folding::fold;
 pub use interpretation::{
-    Designator, EciChange, Fnc1, Interpretation, Item, interpretation_bits, may_write,
+    Designator, EciChange, Fnc1, Interpretation, Item, interpretation_bits, may_allow_kanji,
+    may_write,
 };
 pub use longest_prefix::longest_fit;
 pub use lower_bound::least_bits;

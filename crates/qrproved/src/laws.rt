@@ -7,6 +7,7 @@ ghost use Rattle.qr_bits.specs.declared.modes.Rule.{Rule};
 ghost use Rattle.qr_bits.specs.declared.interpretation.Fnc1.{Fnc1};
 ghost use Rattle.qr_bits.specs.declared.interpretation.Interpretation.{Interpretation};
 ghost use Rattle.qr_bits.specs.declared.interpretation.Item.{Item};
+ghost use Rattle.qr_bits.specs.Interpretation.{MayAllowKanji};
 ghost use Rattle.qr_bits.specs.declared.modes.Mode.{Mode};
 ghost use Rattle.qrproved.specs.Modules.{byte_of};
 ghost use Rattle.qrproved.specs.Drawing.{drawing_of, AreDrawingSettings};
@@ -15,7 +16,7 @@ ghost use Rattle.qr_matrix.specs.Grid.{colour};
 ghost use Rattle.qr_drawing.specs.declared.drawing.Drawing.{Drawing};
 ghost use Rattle.qrproved.specs.Interpretation.{TellsFnc1, TellsKanji};
 ghost use Rattle.qrproved.specs.Room.{mode_of};
-ghost use Rattle.qrproved.specs.Settings.{AreSymbolSettings, MayAllowKanji, interpretation_of, level_of, rule_of};
+ghost use Rattle.qrproved.specs.Settings.{AreSymbolSettings, interpretation_of, level_of, rule_of};
 
 use crate::status::{
     CHECK, DONE, EMPTY, FIELDS, FORMAT, MEMORY, NO_DRAWING, ROOM, SEGMENTS, SETTINGS, SIDE,
