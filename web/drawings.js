@@ -1,8 +1,8 @@
 /** Drawings as text that are damaged, drawn by another program or copied by hand: the squares of symbols, found by their look. */
+import { LIMITS } from '../out/npm/package/common.js';
 
 const HALVES = { ' ': [1, 1], '\u2580': [0, 1], '\u2584': [1, 0], '\u2588': [0, 0] };
 const UNKNOWN = 2;
-const COUNT_LIMIT = 16; // symbols of a series
 const PLACES_LIMIT = 5000000; // characters of all lines: 16 of the largest symbols, each with as much around it
 
 /** Returns the rows of a drawing in half blocks, two for each line. A filled half is light. */
@@ -26,8 +26,8 @@ function boxOf(rows) {
 /** Returns each way to cut a rectangle into squares that are as wide as it, with gaps of one height between them. */
 function cutsOf(box) {
   const side = box.length ? box[0].length : 0, ways = [];
-  if (side < 21 || side > 177 || side % 4 !== 1) return ways;
-  for (let count = 1; count <= COUNT_LIMIT; count++) {
+  if (side < 21 || side > LIMITS.SIDE_MAX || side % 4 !== 1) return ways;
+  for (let count = 1; count <= LIMITS.COUNT_MAX; count++) {
     const rest = box.length - count * side, gap = count === 1 ? 0 : rest / (count - 1);
     if (rest < 0 || (count === 1 && rest > 0) || !Number.isInteger(gap)) continue;
     const square = (_, k) => ({ side, modules: Uint8Array.from(box.slice(k * (side + gap), k * (side + gap) + side).flat()) });

@@ -22,6 +22,7 @@ from enum import IntEnum
 from typing import TYPE_CHECKING, BinaryIO, List, NamedTuple, NoReturn, Optional, Tuple, Union
 
 from . import _library, _png
+from ._common import DATA, LIMITS
 from ._drawings import found_by_look, undone
 from ._gs1 import Gs1Error, data_of, fields_of
 from ._interpretation import SHIFT_JIS, UTF_8, Eci, EciError, encoded, text_of
@@ -46,13 +47,12 @@ __all__ = ["BYTES_MAX", "COUNT_MAX", "ECI_MAX", "MARGIN_MAX", "SCALE_MAX", "SERI
 __version__ = "0.2.0"
 _calls = _library.load()
 FNC1_FIRST, FNC1_SECOND = 1, 2
-VERSION_MAX = 40
-SCALE_MAX = 100
-SIZE_MAX = 100_000  # of mm and dpi
-ECI_MAX = 999_999
+VERSION_MAX, ECI_MAX = LIMITS["VERSION_MAX"], LIMITS["ECI_MAX"]
+SCALE_MAX = LIMITS["SCALE_MAX"]
+SIZE_MAX = LIMITS["SIZE_MAX"]  # of mm and dpi
 MM_OF_INCH = 25.4
-MARGIN_WANTED, MODULE_MIN = 4, 0.25  # modules, and millimetres
-WRONG_FORMAT_MAX = 3  # wrong modules of a copy of the format information that can be read (ISO/IEC 18004:2015, Annex C)
+MARGIN_WANTED, MODULE_MIN = LIMITS["MARGIN_WANTED"], LIMITS["MODULE_MIN"]  # modules, and millimetres
+WRONG_FORMAT_MAX = LIMITS["WRONG_FORMAT_MAX"]  # wrong modules of a copy of the format information that can be read (ISO/IEC 18004:2015, Annex C)
 
 
 class PrintWarning(UserWarning):
@@ -477,14 +477,9 @@ def _room(level: int, mode: int, interpretation: int) -> int:
 
 def _may_have_kanji(eci: int) -> bool:
     try:
-        return _room(Level.L, _library.KANJI, eci) > 0
+        return _room(Level.L, DATA["modes"]["kanji"], eci) > 0
     except SettingsError:
         return False
-
-
-# The modes with the names of their characters, and how many of them each rule allows.
-MODES = (_library.BYTE, "bytes"), (_library.ALPHANUMERIC, "alphanumeric characters"), (_library.NUMERIC, "digits"), (_library.KANJI, "kanji")
-MODES_OF_RULE = {Rule.AUTO: 3, Rule.BYTES_ONLY: 1, Rule.WITH_KANJI: 4}
 
 
 def _given(data: Optional[Input], gs1: Optional[Input], eci: Optional[int], rule: int) -> _Given:
@@ -565,8 +560,8 @@ def encode(data: Optional[Input] = None, *wrong: NoReturn, version: int = 1, lev
     status = _calls.qrproved_encode(given.data, len(given.data), *settings, given.interpretation, is_boosted, modules, SYMBOL_MAX,
                                     ctypes.byref(symbol))
     if status == TooLongError.status:
-        modes = MODES[:MODES_OF_RULE[Rule(settings[2])]]
-        raise too_long(len(given.data), settings[1], [f"{_room(settings[1], mode, given.interpretation):,} {name}" for mode, name in modes])
+        modes = [*DATA["modes"].items()][:DATA["modes_of_rules"][settings[2]]]
+        raise too_long(len(given.data), settings[1], [f"{_room(settings[1], mode, given.interpretation):,} {name}" for name, mode in modes])
     raise_for(status)
     return Symbol(symbol.version, symbol.side, symbol.mask, _first(modules, symbol.side ** 2), Level(symbol.level))
 

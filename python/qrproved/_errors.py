@@ -3,6 +3,8 @@ from __future__ import annotations
 
 from typing import TYPE_CHECKING, ClassVar
 
+from ._common import STATUSES
+
 if TYPE_CHECKING:
     from collections.abc import Sequence
 
@@ -20,86 +22,74 @@ class Error(Exception):
 class EmptyError(Error, ValueError):
     """The input has no byte."""
 
-    status = 1
-    text = "the input is empty"
+    status, text = STATUSES["EMPTY"]
 
 
 class TooLongError(Error, ValueError):
     """No version from the smallest one on holds the input."""
 
-    status = 2
-    text = "the input does not fit a symbol"
+    status, text = STATUSES["TOO_LONG"]
 
 
 class TooManyError(Error, ValueError):
     """The input takes more than 16 symbols of the version."""
 
-    status = 3
-    text = "the input takes more than 16 symbols"
+    status, text = STATUSES["TOO_MANY"]
 
 
 class OutOfMemoryError(Error, MemoryError):
     """The library was refused memory."""
 
-    status = 4
-    text = "out of memory"
+    status, text = STATUSES["MEMORY"]
 
 
 class SettingsError(Error, ValueError):
     """A number is out of range, a name is not known, settings exclude each other, symbols to draw have several sides, or a module to
     mend is more than 2."""
 
-    status = 5
-    text = "a module is more than 2"
+    status, text = STATUSES["SETTINGS"]
 
 
 class RoomError(Error, ValueError):
     """There are fewer modules than the side times itself."""
 
-    status = 6
-    text = "there are fewer modules than the side times itself"
+    status, text = STATUSES["ROOM"]
 
 
 class SideError(Error, ValueError):
     """No version has this side."""
 
-    status = 7
-    text = "no version has this side"
+    status, text = STATUSES["SIDE"]
 
 
 class FormatError(Error, ValueError):
     """The format information is that of no level and mask, or is too damaged."""
 
-    status = 8
-    text = "the format information cannot be read"
+    status, text = STATUSES["FORMAT"]
 
 
 class CheckError(Error, ValueError):
     """A block does not match its error correction codewords, or is too damaged to be mended."""
 
-    status = 9
-    text = "a block has wrong codewords that are not mended"
+    status, text = STATUSES["CHECK"]
 
 
 class SegmentsError(Error, ValueError):
     """The data codewords cannot be parsed."""
 
-    status = 10
-    text = "the data codewords cannot be parsed"
+    status, text = STATUSES["SEGMENTS"]
 
 
 class NoDrawingError(Error, ValueError):
     """The text is no drawing of symbols."""
 
-    status = 11
-    text = "the text is no drawing of symbols"
+    status, text = STATUSES["NO_DRAWING"]
 
 
 class FieldsError(Error, ValueError):
     """The bytes are no GS1 data: a separator comes directly before another or before %."""
 
-    status = 12
-    text = "a separator of GS1 data, the byte 1D, comes directly before another or before %"
+    status, text = STATUSES["FIELDS"]
 
 
 def too_long(count: int, level: int, most: Sequence[str]) -> TooLongError:

@@ -2,6 +2,7 @@
 script."""
 import ctypes
 import itertools
+import json
 import os
 import re
 import shutil
@@ -16,9 +17,10 @@ BUILDS = {"LLVM": [], "Rattle's own compiler": ["LIBRARY_FLAGS=--cpu x86-64 --ba
 LONG = 7200  # seconds: what stands below the library is proved again if no earlier run kept it
 MARGIN = 4
 LEVELS = "LMQH"
-STATUSES = ["DONE", "EMPTY", "TOO_LONG", "TOO_MANY", "MEMORY", "SETTINGS", "ROOM", "SIDE", "FORMAT", "CHECK", "SEGMENTS",
-            "NO_DRAWING", "FIELDS"]
-ECI_UTF8, DEFAULT, GS1 = 26, 1_000_000, 1_000_001  # interpretations
+with open(f"{TOP}/python/qrproved/common.json", encoding="utf-8") as it:
+    COMMON = json.load(it)  # what tests/library compares with the header
+LIMITS, STATUSES = COMMON["limits"], [*COMMON["statuses"]]
+ECI_UTF8, DEFAULT, GS1 = (COMMON["interpretations"][name] for name in ("UTF_8", "DEFAULT", "GS1"))
 ECI_ROOM = 8  # ECI headers: more than any symbol here has
 MARK = 7  # what a buffer or a struct contains before a call
 
@@ -123,11 +125,16 @@ class Library:
     """The shared library, called as C calls it. A case is an input, a version, a level and the number of a rule."""
 
     def __init__(self, path):
-        self.library = ctypes.CDLL(path)
-        self.modules, self.bytes, self.ecis = (ctypes.c_uint8 * 501264)(), (ctypes.c_uint8 * 7089)(), (Eci * ECI_ROOM)()
+        self.take(ctypes.CDLL(path))
         for name, listed in PARAMETERS.items():
             call = getattr(self.library, name)
             call.restype, call.argtypes = ctypes.c_uint8, listed
+
+    def take(self, library):
+        """Takes a library, with buffers for what its calls write."""
+        self.library = library
+        self.modules, self.bytes = (ctypes.c_uint8 * LIMITS["SERIES_MAX"])(), (ctypes.c_uint8 * LIMITS["BYTES_MAX"])()
+        self.ecis = (Eci * ECI_ROOM)()
 
     def symbol(self, case, interpretation=DEFAULT, boost=0):
         """Returns the symbol's modules and what the struct says of it, or a status."""
@@ -201,7 +208,7 @@ class Library:
                                             ctypes.byref(content))
         return status or (bytes(self.bytes[:content.len]), content, self.told_ecis(content.eci_count))
 
-    def mended(self, modules, side, room=7089):
+    def mended(self, modules, side, room=LIMITS["BYTES_MAX"]):
         """Returns the fields of the struct and the bytes. If the status is not 0, returns its name, and says so if the
         call changed a buffer or the struct."""
         mended = Mended()
