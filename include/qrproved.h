@@ -41,6 +41,7 @@ extern "C" {
 #define QRPROVED_ECIS_MAX 1970     /* structs that suffice for the ECI headers of any symbol: version 40, level L has 23,648
                                     * bits of data, and each header takes at least 12 of them */
 #define QRPROVED_MARGIN_MAX 100    /* the widest light margin on each side of a drawing, in modules */
+#define QRPROVED_WRONG_FORMAT_MAX 3 /* wrong modules of a copy of the format information that a scanner can correct */
 
 /* The levels of error correction, by which about 7, 15, 25 or 30 % of a symbol's codewords can be restored. */
 #define QRPROVED_LEVEL_L 0
@@ -156,7 +157,8 @@ struct qrproved_mended {
 	uint8_t mask;                 /* from 0 to 7 */
 	uint8_t wrong_format_modules; /* number of the 30 modules of format information that are wrong or not known */
 	uint8_t wrong_format_least;   /* number of modules that are wrong or not known, of the 15 modules of the copy of the format
-	                               * information that has fewer of them; scanners read the copy if there are at most 3 */
+	                               * information that has fewer of them; scanners read the copy if there are at most
+	                               * QRPROVED_WRONG_FORMAT_MAX */
 	uint8_t changed_most;         /* number of wrong codewords in the block with the most wrong codewords; codewords with a
 	                               * module that is not known do not count */
 	uint8_t changed_allowed;      /* number of codewords that may be wrong in each block, from 2 to 15 */

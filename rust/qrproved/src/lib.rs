@@ -375,7 +375,7 @@ impl Mended {
     #[must_use]
     pub fn is_scannable(&self) -> bool {
         self.wrong_for_a_scanner() <= u16::from(self.changed_allowed)
-            && self.wrong_format_least <= FORMAT_MOST
+            && self.wrong_format_least <= c::WRONG_FORMAT_MAX
     }
 
     /// Returns the codewords of the worst block that a scanner takes for wrong.
@@ -383,9 +383,6 @@ impl Mended {
         u16::from(self.worst_misread) + u16::from(self.worst_unknown)
     }
 }
-
-/// How many wrong modules of a copy of the format information a scanner corrects (ISO/IEC 18004:2015, 7.9).
-const FORMAT_MOST: u8 = 3;
 
 /// Encodes an input as the symbol of the least version from `smallest` on that holds it.
 ///
