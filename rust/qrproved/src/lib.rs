@@ -183,6 +183,22 @@ impl Options {
             ..Options::default()
         }
     }
+
+    /// Returns the options of GS1 data: byte mode if they have a `%`, and else the default rule. In alphanumeric mode a `%` of GS1
+    /// data is written as `%%`, after which the reader zxing-cpp 1.4 loses bytes.
+    #[must_use]
+    pub fn of_gs1(data: &[u8]) -> Options {
+        let rule = if data.contains(&b'%') {
+            Rule::BytesOnly
+        } else {
+            Rule::Auto
+        };
+        Options {
+            rule,
+            interpretation: Interpretation::Gs1,
+            ..Options::default()
+        }
+    }
 }
 
 impl Default for Options {

@@ -467,6 +467,15 @@ fn interpretations_are_written() {
         (content.data.as_slice(), content.fnc1),
         (b"10A%B\x1D2112".as_slice(), Some(Fnc1::Gs1))
     );
+    for (data, rule) in [(b"10A%B", Rule::BytesOnly), (b"10A-B", Rule::Auto)] {
+        let options = Options::of_gs1(data);
+        assert_eq!((options.rule, options.boost), (rule, true));
+        let content = content_of(data, &options);
+        assert_eq!(
+            (content.data.as_slice(), content.fnc1),
+            (data.as_slice(), Some(Fnc1::Gs1))
+        );
+    }
     let shift_jis = Options {
         interpretation: Interpretation::Eci(20),
         ..WITH_KANJI
