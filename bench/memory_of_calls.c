@@ -1,10 +1,10 @@
 /* Measures what a call of the library takes of the stack and of the heap, for bench/memory:
  * memory_of_calls CALL NUMBER LEVEL RULE INTERPRETATION BOOST
  *
- * CALL is encode, encode_series, read, mend, draw or parse_drawing. Standard input is the input, the modules or the drawing.
- * NUMBER is a version for the calls that encode, and a side for the others; parse_drawing does not use it. LEVEL is the level,
- * and for draw the type of the drawing. Prints the bytes of stack, the most bytes of the heap at a time, the number of calls of
- * malloc and realloc, and the call's status. */
+ * CALL is encode, encode_series, read, mend, draw, parse_drawing or room. Standard input is the input, the modules or the drawing.
+ * NUMBER is a version for room and for the calls that encode, and a side for the others; parse_drawing does not use it. LEVEL is
+ * the level, and for draw the type of the drawing. For room RULE is the mode, and BOOST says whether there is a header. Prints the
+ * bytes of stack, the most bytes of the heap at a time, the number of calls of malloc and realloc, and the call's status. */
 #define _GNU_SOURCE
 #include "qrproved.h"
 #include <malloc.h>
@@ -69,6 +69,7 @@ static __attribute__((noinline)) void make(void)
 	struct qrproved_mended mended;
 	struct qrproved_drawn drawn;
 	size_t written;
+	uint32_t count;
 	if (!strcmp(call, "encode"))
 		status = qrproved_encode(input, input_len, number, level, rule, interpretation, boost, out, sizeof out, &symbol);
 	else if (!strcmp(call, "encode_series"))
@@ -79,6 +80,8 @@ static __attribute__((noinline)) void make(void)
 		status = qrproved_draw(input, input_len, number, (uint32_t)(input_len / number / number), level, 4, out, sizeof out, &written);
 	else if (!strcmp(call, "parse_drawing"))
 		status = qrproved_parse_drawing(input, input_len, out, sizeof out, &drawn);
+	else if (!strcmp(call, "room"))
+		status = qrproved_room(number, level, rule, interpretation, boost, &count);
 	else
 		status = qrproved_mend(input, input_len, number, out, sizeof out, NULL, 0, &mended);
 }

@@ -23,7 +23,6 @@
 #include <string.h>
 
 enum { SOUND, READABLE, NO_SCANNER, NOT_READABLE };
-enum { WRONG_FORMAT_MAX = 3 }; /* wrong modules of a copy of the format information that can be read (Annex C) */
 enum { LIGHT, DARK, UNKNOWN };
 enum empty_lines { KEPT, IN_SQUARES, LEFT_OUT };
 enum { LINES_MAX = 512, TEXT_MAX = 10000000 };
@@ -194,7 +193,7 @@ static int tell_damage(const struct qrproved_mended *mended)
 		printf("read here, but scanners will not: %d %% of its correction spent\n", share);
 		return NO_SCANNER;
 	}
-	if (mended->wrong_format_least > WRONG_FORMAT_MAX) {
+	if (mended->wrong_format_least > QRPROVED_WRONG_FORMAT_MAX) {
 		puts("read here, but scanners will not: its format information is damaged too much");
 		return NO_SCANNER;
 	}

@@ -1,7 +1,7 @@
 /* QR Code symbols (ISO/IEC 18004:2015, QR Code Model 2): calls that encode an input as a symbol or as a series of symbols,
- * draw symbols as text or as SVG, parse such drawings, read symbols, and mend damaged ones. The calls are proved to meet
- * their contracts, which are in crates/qrproved; docs/LIBRARY.md says what the contracts mean for a caller. tests/library
- * compares this file with the exports of the library.
+ * draw symbols as text or as SVG, parse such drawings, read symbols, mend damaged ones, and say how much fits a symbol. The
+ * calls are proved to meet their contracts, which are in crates/qrproved; docs/LIBRARY.md says what the contracts mean for a
+ * caller. tests/library compares this file with the exports of the library.
  *
  * A module is a byte in a buffer of the caller, in which the modules are row by row, from the top left. The buffer does not
  * contain the quiet zone, which is the four light modules that a drawing needs on each side; qrproved_draw adds a margin,
@@ -41,6 +41,7 @@ extern "C" {
 #define QRPROVED_ECIS_MAX 1970     /* structs that suffice for the ECI headers of any symbol: version 40, level L has 23,648
                                     * bits of data, and each header takes at least 12 of them */
 #define QRPROVED_MARGIN_MAX 100    /* the widest light margin on each side of a drawing, in modules */
+#define QRPROVED_WRONG_FORMAT_MAX 3 /* wrong modules of a copy of the format information that a scanner can correct */
 
 /* The levels of error correction, by which about 7, 15, 25 or 30 % of a symbol's codewords can be restored. */
 #define QRPROVED_LEVEL_L 0
@@ -52,6 +53,12 @@ extern "C" {
 #define QRPROVED_RULE_AUTO 0       /* numeric, alphanumeric and byte mode, mixed so that the number of bits is least */
 #define QRPROVED_RULE_BYTES_ONLY 1 /* the whole input in byte mode */
 #define QRPROVED_RULE_WITH_KANJI 2 /* the modes of AUTO, and kanji mode for pairs of bytes that are Shift JIS characters */
+
+/* The modes of segments. */
+#define QRPROVED_MODE_NUMERIC 0      /* digits */
+#define QRPROVED_MODE_ALPHANUMERIC 1 /* digits, capital letters, space and $%*+-./: */
+#define QRPROVED_MODE_BYTE 2         /* any bytes */
+#define QRPROVED_MODE_KANJI 3        /* pairs of bytes that are Shift JIS characters */
 
 /* The interpretation: what the symbol says of its input. It is the number of an ECI (Extended Channel Interpretation), from 0
  * to 999,999, or one of the two numbers that follow 999,999. If a symbol says nothing, readers take its bytes for ISO/IEC
@@ -83,8 +90,9 @@ extern "C" {
 #define QRPROVED_TOO_LONG 2 /* the input fits no version from the smallest allowed version on */
 #define QRPROVED_TOO_MANY 3 /* the input takes more than 16 symbols of the version */
 #define QRPROVED_MEMORY 4   /* malloc or realloc refused memory */
-#define QRPROVED_SETTINGS 5 /* a number is out of its range; or the rule allows kanji mode, but the interpretation is an ECI
-                             * other than Shift JIS; or, in qrproved_mend, the byte of a module is more than 2 */
+#define QRPROVED_SETTINGS 5 /* a number is out of its range; or the rule allows kanji mode, or in qrproved_room the mode is
+                             * kanji mode, but the interpretation is an ECI other than Shift JIS; or, in qrproved_mend, the
+                             * byte of a module is more than 2 */
 #define QRPROVED_ROOM 6     /* a buffer other than that of the ECI headers is too short */
 #define QRPROVED_SIDE 7     /* no version has so many modules on a side */
 #define QRPROVED_FORMAT 8   /* the format information belongs to no level and mask, or in qrproved_mend is too damaged */
@@ -149,7 +157,8 @@ struct qrproved_mended {
 	uint8_t mask;                 /* from 0 to 7 */
 	uint8_t wrong_format_modules; /* number of the 30 modules of format information that are wrong or not known */
 	uint8_t wrong_format_least;   /* number of modules that are wrong or not known, of the 15 modules of the copy of the format
-	                               * information that has fewer of them; scanners read the copy if there are at most 3 */
+	                               * information that has fewer of them; scanners read the copy if there are at most
+	                               * QRPROVED_WRONG_FORMAT_MAX */
 	uint8_t changed_most;         /* number of wrong codewords in the block with the most wrong codewords; codewords with a
 	                               * module that is not known do not count */
 	uint8_t changed_allowed;      /* number of codewords that may be wrong in each block, from 2 to 15 */
@@ -435,6 +444,29 @@ uint8_t qrproved_draw(const uint8_t *modules, size_t modules_len, uint32_t side,
 QRPROVED_CALL(5)
 uint8_t qrproved_parse_drawing(const uint8_t *text, size_t text_len, uint8_t *modules, size_t modules_len,
                                struct qrproved_drawn *drawn);
+
+/* Says how many characters fit a symbol if all of them are in one segment, that is, in one mode.
+ *
+ * version  the version of the symbol, from 1 to 40
+ * level    QRPROVED_LEVEL_L to QRPROVED_LEVEL_H
+ * mode     QRPROVED_MODE_NUMERIC to QRPROVED_MODE_KANJI. In kanji mode a character has two bytes, and in the other modes one
+ * interpretation  what the symbol says of its data, as in qrproved_encode
+ * header   1: the symbol has a structured append header, as each symbol of a series of several symbols has; 0: it has none
+ * count    on DONE, the call sets it to the greatest number of characters that one segment can have, from 0 to
+ *          QRPROVED_BYTES_MAX; on every other status it is unchanged
+ *
+ * In GS1 data alphanumeric mode writes % as two characters, so there fewer bytes may fit than characters. An input in several
+ * modes takes further segments, and of such an input this call does not say whether it fits.
+ *
+ * Returns the first of these statuses whose cause applies:
+ *   SETTINGS  version, level, mode, interpretation or header is out of its range; or mode is KANJI, and interpretation is an
+ *             ECI other than 20
+ *   DONE      the call succeeded
+ * The call allocates no memory.
+ */
+QRPROVED_CALL(6)
+uint8_t qrproved_room(uint32_t version, uint32_t level, uint32_t mode, uint32_t interpretation, uint32_t header,
+                      uint32_t *count);
 
 #undef QRPROVED_CALL
 

@@ -2,7 +2,8 @@
  * The calls of the module, as include/qrproved.h states them. A pointer, a length and a size is a BigInt there, and a struct lies
  * in memory as in C. Before each call the heap is given back, so no block of an earlier call may be used.
  */
-import { OutOfMemoryError, throwFor, tooLong, tooMany } from './errors.js';
+import { INTERPRETATIONS, LIMITS, MODES, MODES_OF_RULES } from './common.js';
+import { OutOfMemoryError, nameOf, throwFor, tooLong, tooMany } from './errors.js';
 import { base64 } from './module.js';
 
 let library; // what the module exports, from the first call on
@@ -79,32 +80,37 @@ function run(calls) {
   }
 }
 
-const SYMBOL_MAX = 31329;
-const SERIES_MAX = 501264;
-const BYTES_MAX = 7089;
-const ECIS_MAX = 1970, ECI_SIZE = 16;
+const ECI_SIZE = 16;
 const FNC1_FIRST = 1, FNC1_SECOND = 2;
 // The last fields of the struct of mending, a byte each, and the offset of the first.
 const COUNTS = ['level', 'mask', 'wrongFormatModules', 'wrongFormatLeast', 'changedMost', 'changedAllowed', 'spentMost', 'worstMisread', 'worstUnknown',
   'worstUnknownWrong'];
 const COUNTS_AT = 28;
 const MODULE_LIKELY = 8; // more bytes than most drawings have for each module
-const TOO_LONG = 2, TOO_MANY = 3, ROOM = 6, NO_DRAWING = 11; // statuses
-export const DEFAULT = 1000000, GS1 = 1000001; // interpretations; a smaller number is that of an ECI
 
-/** Returns the bits by which a symbol says an interpretation (ISO/IEC 18004:2015, 7.4.2 and 7.4.8). */
-function headerOf(interpretation) {
-  if (interpretation >= DEFAULT) return interpretation === GS1 ? 4 : 0;
-  return interpretation < 1 << 7 ? 12 : interpretation < 1 << 14 ? 20 : 28;
+/** Asks how many characters of a mode fit a symbol of version 40; returns the status and the number. */
+function room(level, mode, interpretation) {
+  return run(() => {
+    const told = take(4), status = call('qrproved_room', LIMITS.VERSION_MAX, level, mode, interpretation, 0, BigInt(told));
+    return [status, struct(told, 4).getUint32(0, true)];
+  });
+}
+
+/** Returns whether kanji mode is allowed beside an ECI. */
+export function mayHaveKanji(eci) {
+  return nameOf(room(0, MODES.kanji, eci)[0]) !== 'SETTINGS';
 }
 
 /** Encodes an input, of bytes and their interpretation. */
 export function encoded({ data, interpretation }, version, level, rule, boost) {
   return run(() => {
-    const from = put(data), to = take(SYMBOL_MAX), told = take(4);
+    const from = put(data), to = take(LIMITS.SYMBOL_MAX), told = take(4);
     const status = call('qrproved_encode', BigInt(from), BigInt(data.length), version, level, rule, interpretation, boost ? 1 : 0, BigInt(to),
-      BigInt(SYMBOL_MAX), BigInt(told));
-    if (status === TOO_LONG) throw tooLong(data.length, level, rule, headerOf(interpretation));
+      BigInt(LIMITS.SYMBOL_MAX), BigInt(told));
+    if (nameOf(status) === 'TOO_LONG') {
+      const modes = Object.entries(MODES).slice(0, MODES_OF_RULES[rule]);
+      throw tooLong(data.length, level, modes.map(([name, mode]) => [name, room(level, mode, interpretation)[1]]));
+    }
     throwFor(status);
     const [chosen, side, used, mask] = bytesAt(told, 4);
     return { version: chosen, side, level: used, mask, modules: copied(to, side * side) };
@@ -113,10 +119,10 @@ export function encoded({ data, interpretation }, version, level, rule, boost) {
 
 export function encodedSeries({ data, interpretation }, version, level, rule) {
   return run(() => {
-    const from = put(data), to = take(SERIES_MAX), told = take(2);
+    const from = put(data), to = take(LIMITS.SERIES_MAX), told = take(2);
     const status = call('qrproved_encode_series', BigInt(from), BigInt(data.length), version, level, rule, interpretation, BigInt(to),
-      BigInt(SERIES_MAX), BigInt(told));
-    if (status === TOO_MANY) throw tooMany(data.length, version, level);
+      BigInt(LIMITS.SERIES_MAX), BigInt(told));
+    if (nameOf(status) === 'TOO_MANY') throw tooMany(data.length, version, level);
     throwFor(status);
     const [count, side] = bytesAt(told, 2);
     return { side, squares: Array.from({ length: count }, (_, k) => copied(to + k * side * side, side * side)) };
@@ -149,8 +155,8 @@ function content(at, bytes, headers, version) {
 
 /** Calls `name` with the modules and with buffers for the bytes, the ECI headers and a struct; returns the last three. */
 function readBy(name, modules, side, size) {
-  const from = put(modules), to = take(BYTES_MAX), headers = take(ECIS_MAX * ECI_SIZE), told = take(size);
-  throwFor(call(name, BigInt(from), BigInt(modules.length), side, BigInt(to), BigInt(BYTES_MAX), BigInt(headers), BigInt(ECIS_MAX),
+  const from = put(modules), to = take(LIMITS.BYTES_MAX), headers = take(LIMITS.ECIS_MAX * ECI_SIZE), told = take(size);
+  throwFor(call(name, BigInt(from), BigInt(modules.length), side, BigInt(to), BigInt(LIMITS.BYTES_MAX), BigInt(headers), BigInt(LIMITS.ECIS_MAX),
     BigInt(told)));
   return [struct(told, size), to, headers];
 }
@@ -170,9 +176,9 @@ export function mendedOf(modules, side) {
 /** Returns what a text is the drawing of; or null. */
 export function parsedOf(text) {
   return run(() => {
-    const from = put(text), to = take(SERIES_MAX), told = take(4);
-    const status = call('qrproved_parse_drawing', BigInt(from), BigInt(text.length), BigInt(to), BigInt(SERIES_MAX), BigInt(told));
-    if (status === NO_DRAWING) return null;
+    const from = put(text), to = take(LIMITS.SERIES_MAX), told = take(4);
+    const status = call('qrproved_parse_drawing', BigInt(from), BigInt(text.length), BigInt(to), BigInt(LIMITS.SERIES_MAX), BigInt(told));
+    if (nameOf(status) === 'NO_DRAWING') return null;
     throwFor(status);
     const [drawing, margin, count, side] = bytesAt(told, 4);
     return { drawing, margin, squares: Array.from({ length: count }, (_, k) => copied(to + k * side * side, side * side)) };
@@ -186,7 +192,7 @@ export function drawn(modules, side, count, drawing, margin) {
       BigInt(room), BigInt(written));
     const length = () => Number(struct(written, 8).getBigUint64(0, true));
     let room = MODULE_LIKELY * modules.length, text = take(room), status = draw(text, room);
-    if (status === ROOM) {
+    if (nameOf(status) === 'ROOM') {
       // The call has said how much room the drawing needs.
       room = length();
       text = take(room);

@@ -1,33 +1,36 @@
 /** The refusals of the library: a class for each status of a call (include/qrproved.h). */
+import { STATUSES } from './common.js';
+
+const NAMES = Object.keys(STATUSES); // by their numbers
 
 /** A refusal of the library. `status` is its number and `code` its name in C. */
 export class QRError extends Error {
-  constructor(message, status, code) {
+  constructor(message, code) {
     super(message);
     this.name = new.target.name;
-    this.status = status;
+    this.status = NAMES.indexOf(code);
     this.code = code;
   }
 }
 
 /** The input has no byte. */
 export class EmptyError extends QRError {
-  constructor(message = 'the input is empty') { super(message, 1, 'EMPTY'); }
+  constructor(message = STATUSES.EMPTY) { super(message, 'EMPTY'); }
 }
 
 /** The input fits no version from the smallest allowed version on. */
 export class TooLongError extends QRError {
-  constructor(message = 'the input does not fit a symbol') { super(message, 2, 'TOO_LONG'); }
+  constructor(message = STATUSES.TOO_LONG) { super(message, 'TOO_LONG'); }
 }
 
 /** The input takes more than 16 symbols of the version. */
 export class TooManyError extends QRError {
-  constructor(message = 'the input takes more than 16 symbols of the version') { super(message, 3, 'TOO_MANY'); }
+  constructor(message = STATUSES.TOO_MANY) { super(message, 'TOO_MANY'); }
 }
 
 /** The engine refused memory. */
 export class OutOfMemoryError extends QRError {
-  constructor(message = 'out of memory') { super(message, 4, 'MEMORY'); }
+  constructor(message = STATUSES.MEMORY) { super(message, 'MEMORY'); }
 }
 
 /**
@@ -35,42 +38,42 @@ export class OutOfMemoryError extends QRError {
  * mend is more than 2.
  */
 export class SettingsError extends QRError {
-  constructor(message = 'a module is more than 2') { super(message, 5, 'SETTINGS'); }
+  constructor(message = STATUSES.SETTINGS) { super(message, 'SETTINGS'); }
 }
 
 /** A buffer is too short. */
 export class RoomError extends QRError {
-  constructor(message = 'there are too few modules') { super(message, 6, 'ROOM'); }
+  constructor(message = STATUSES.ROOM) { super(message, 'ROOM'); }
 }
 
 /** No version has this side. */
 export class SideError extends QRError {
-  constructor(message = 'no version has this side') { super(message, 7, 'SIDE'); }
+  constructor(message = STATUSES.SIDE) { super(message, 'SIDE'); }
 }
 
 /** The format information belongs to no level and mask, or is too damaged. */
 export class FormatError extends QRError {
-  constructor(message = 'the format information cannot be read') { super(message, 8, 'FORMAT'); }
+  constructor(message = STATUSES.FORMAT) { super(message, 'FORMAT'); }
 }
 
 /** A block does not match its error correction codewords, or is too damaged to be mended. */
 export class CheckError extends QRError {
-  constructor(message = 'a block has wrong codewords that are not mended') { super(message, 9, 'CHECK'); }
+  constructor(message = STATUSES.CHECK) { super(message, 'CHECK'); }
 }
 
 /** The data codewords cannot be parsed. */
 export class SegmentsError extends QRError {
-  constructor(message = 'the data codewords cannot be parsed') { super(message, 10, 'SEGMENTS'); }
+  constructor(message = STATUSES.SEGMENTS) { super(message, 'SEGMENTS'); }
 }
 
 /** The text is no drawing of symbols. */
 export class NoDrawingError extends QRError {
-  constructor(message = 'the text is no drawing of symbols') { super(message, 11, 'NO_DRAWING'); }
+  constructor(message = STATUSES.NO_DRAWING) { super(message, 'NO_DRAWING'); }
 }
 
 /** The bytes are no GS1 data: a separator comes directly before another or before %. */
 export class FieldsError extends QRError {
-  constructor(message = 'a separator of GS1 data, the byte 1D, comes directly before another or before %') { super(message, 12, 'FIELDS'); }
+  constructor(message = STATUSES.FIELDS) { super(message, 'FIELDS'); }
 }
 
 /** No upright symbol is found in a picture. It is no refusal of the library, which reads modules alone. */
@@ -100,33 +103,17 @@ export class Gs1Error extends Error {
   }
 }
 
-// The data bits of a symbol of version 40 at each level, from L to H (ISO/IEC 18004:2015, Table 7).
-const DATA_BITS = [23648, 18672, 13328, 10208];
-const MODE_BITS = 4; // of a mode indicator, before the character count
-
-/** Returns how many bytes, alphanumeric characters, digits and kanji fit into so many bits at version 40 (ISO/IEC 18004:2015, 7.4.3 to 7.4.6). */
-function mostIn(room) {
-  const [data, alphanumeric, digits, kanji] = [16, 13, 14, 12].map((count) => room - MODE_BITS - count);
-  return [
-    Math.floor(data / 8),
-    2 * Math.floor(alphanumeric / 11) + (alphanumeric % 11 >= 6 ? 1 : 0),
-    3 * Math.floor(digits / 10) + (digits % 10 >= 7 ? 2 : digits % 10 >= 4 ? 1 : 0),
-    Math.floor(kanji / 13),
-  ];
-}
-
 /** Returns a number with commas between thousands. */
 function counted(number) {
   return String(number).replace(/\B(?=(\d{3})+$)/g, ',');
 }
 
 /**
- * Returns the refusal of `count` bytes, which says how many would fit beside a header of so many bits. The rule, 0, 1 or 2, decides which
- * modes there are.
+ * Returns the refusal of `count` bytes. `most` has the name of the characters of each mode, and how many of them the largest symbol of
+ * this level holds.
  */
-export function tooLong(count, level, rule, header) {
-  const names = ['bytes', 'alphanumeric characters', 'digits', 'kanji'].slice(0, [3, 1, 4][rule]), fits = mostIn(DATA_BITS[level] - header);
-  const [last, ...first] = names.map((name, k) => `${counted(fits[k])} ${name}`).reverse();
+export function tooLong(count, level, most) {
+  const [last, ...first] = most.map(([name, number]) => `${counted(number)} ${name}`).reverse();
   const holds = first.length ? `${first.reverse().join(', ')} or ${last}` : last;
   return new TooLongError(`the input has ${counted(count)} bytes and does not fit a symbol: version 40-${'LMQH'[level]} holds ${holds}`);
 }
@@ -136,10 +123,17 @@ export function tooMany(count, version, level) {
   return new TooManyError(`the input has ${counted(count)} bytes and takes more than 16 symbols of version ${version}-${'LMQH'[level]}`);
 }
 
-const CLASSES = [undefined, EmptyError, TooLongError, TooManyError, OutOfMemoryError, SettingsError, RoomError, SideError, FormatError,
-  CheckError, SegmentsError, NoDrawingError, FieldsError];
+const CLASSES = {
+  EMPTY: EmptyError, TOO_LONG: TooLongError, TOO_MANY: TooManyError, MEMORY: OutOfMemoryError, SETTINGS: SettingsError, ROOM: RoomError,
+  SIDE: SideError, FORMAT: FormatError, CHECK: CheckError, SEGMENTS: SegmentsError, NO_DRAWING: NoDrawingError, FIELDS: FieldsError,
+};
+
+/** Returns the name of a status in C. */
+export function nameOf(status) {
+  return NAMES[status];
+}
 
 /** Throws the error of a status, and returns for 0. */
 export function throwFor(status) {
-  if (status) throw new CLASSES[status]();
+  if (status) throw new CLASSES[NAMES[status]]();
 }

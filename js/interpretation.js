@@ -2,6 +2,7 @@
  * What the bytes of a symbol mean as characters, and the bytes of a string: ECI headers (Extended Channel Interpretation; ISO/IEC
  * 18004:2015, 7.4.2).
  */
+import { ECIS, INTERPRETATIONS, SHIFT_JIS_PAIRS } from './common.js';
 import { EciError } from './errors.js';
 import { quoted } from './gs1.js';
 
@@ -65,18 +66,15 @@ const big5 = decodedBeyond('big5', '[\\x81-\\xfe][\\x40-\\xfe]', decodedBut('big
 const gb18030 = decodedBeyond('gb18030', '[\\x81-\\xfe](?:[\\x40-\\xfe]|[0-9][\\x81-\\xfe][0-9])');
 const korean = decodedBeyond('euc-kr', '[\\x81-\\xfe][\\x41-\\xfe]', decodedBut('euc-kr', CONTROLS_AND_PRIVATE));
 
-// The character sets of ECIs, as python/qrproved/_interpretation.py has them by Python's names. Of Big5 and of Korean some engines have
-// more characters than others: Node has those of KS X 1001, and browsers all Hangul.
-const CODECS = {
-  0: cp437, 1: latin1, 2: cp437, 3: latin1, 11: latin5, 13: thai, 18: latin10, 20: shiftJis, 21: decodedBut('windows-1250', CONTROLS),
-  22: decodedBut('windows-1251', CONTROLS), 23: cp1252, 27: ascii, 28: big5, 29: gb18030, 30: korean, 32: gb18030,
-  ...Object.fromEntries(Object.entries({
-    4: 'iso-8859-2', 5: 'iso-8859-3', 6: 'iso-8859-4', 7: 'iso-8859-5', 8: 'iso-8859-6', 9: 'iso-8859-7', 10: 'iso-8859-8',
-    12: 'iso-8859-10', 15: 'iso-8859-13', 16: 'iso-8859-14', 17: 'iso-8859-15', 24: 'windows-1256', 25: 'utf-16be', 26: 'utf-8',
-  }).map(([number, label]) => [number, decoded(label)])),
+// The sets that engines do not decode by themselves as their standards have them. Of Big5 and of Korean some engines have more characters
+// than others: Node has those of KS X 1001, and browsers all Hangul.
+const OWN = {
+  cp437, latin1, latin5, thai, cp1252, latin10, ascii, big5, gb18030, shift_jis: shiftJis, 'euc-kr': korean,
+  'windows-1250': decodedBut('windows-1250', CONTROLS), 'windows-1251': decodedBut('windows-1251', CONTROLS),
 };
-const BYTES = 899, UTF_16 = 25;
-export const UTF_8 = 26, SHIFT_JIS = 20;
+const CODECS = Object.fromEntries(Object.entries(ECIS).map(([number, [, name]]) => [number, OWN[name] ?? decoded(name)]));
+const { BYTES, UTF_16 } = INTERPRETATIONS;
+export const { UTF_8, SHIFT_JIS } = INTERPRETATIONS;
 const PAIRS = [28, 29, 30, 32]; // sets of characters of several bytes, which are read and not written
 
 function codecOf(number) {
@@ -123,9 +121,6 @@ function singleBytes(number) {
 // First bytes of the characters of JIS X 0208 in Shift JIS; between them are characters of one system or another.
 const LEADS = [...range(0x81, 0x84), ...range(0x88, 0x9f), ...range(0xe0, 0xea)];
 const TRAILS = [...range(0x40, 0x7e), ...range(0x80, 0xfc)];
-// Characters of JIS X 0208 that engines and systems have by one code point or by another.
-const ALSO = ['〜～', '‖∥', '−－', '¢￠', '£￡', '¬￢', '―—'];
-
 /**
  * Returns the bytes of each character that every reader of Shift JIS has: ASCII, katakana of half width and the characters of JIS X
  * 0208. The engine decodes all pairs at once, with a line end after each.
@@ -137,7 +132,7 @@ function shiftJisBytes() {
   const characters = new TextDecoder('shift_jis').decode(Uint8Array.from(pairs.flatMap((pair) => [...pair, 0x0a]))).split('\n');
   const double = characters.map((character, k) => [character, pairs[k]]).filter(([it]) => /^[^\ufffd\ue000-\uf8ff]$/.test(it));
   const table = new Map([...single, ...katakana, ...double]);
-  for (const both of ALSO) {
+  for (const both of SHIFT_JIS_PAIRS) {
     const bytes = table.get(both[0]) ?? table.get(both[1]);
     for (const character of both) table.set(character, bytes);
   }

@@ -1,7 +1,8 @@
 /** Drawings that were pasted: what pasting changes is undone, so that the module can parse the text. */
+import { LIMITS } from './common.js';
 
-const WIDTH_MAX = 2 * (177 + 2 * 255); // of lines: 177 modules and the widest margin that is parsed
-const LINES_MAX = 16 * WIDTH_MAX; // an empty line may follow each
+const WIDTH_MAX = 2 * (LIMITS.SIDE_MAX + 2 * LIMITS.PARSED_MARGIN_MAX);
+const LINES_MAX = LIMITS.COUNT_MAX * WIDTH_MAX; // an empty line may follow each
 
 function widthOf(lines) {
   return lines.reduce((most, line) => Math.max(most, line.length), 0);

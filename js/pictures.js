@@ -11,7 +11,7 @@ const LIKE_MIN = 38; // of the 49 modules of a finder pattern, to be taken for o
 const SURE = 44; // of them, to be one for certain
 const SHARE_MIN = 0.75; // of the modules of finder and timing patterns that have to be right
 const KNOWN = 0.375; // the share of the difference of dark and light by which a known module may be off
-const UNKNOWN_MODULE = 2;
+export const UNKNOWN_MODULE = 2;
 const PIXELS_MIN = 2.1; // of a module, if it has no whole number of pixels
 /**
  * How much work the search in a picture may take. A unit is one comparison: of five runs of a row with five runs of a column, of two finder
@@ -171,8 +171,8 @@ const cornersOf = (side) => [[0, 0], [0, side - 7], [side - 7, 0]];
 
 const patterns = new Map(); // those of the sides that were needed before
 
-/** Returns the places of the finder and timing patterns, and whether each is dark. */
-function patternsOf(side) {
+/** Returns the places of the finder and timing patterns, and whether each is dark; the first 147 are those of finder patterns. */
+export function patternsOf(side) {
   const places = patterns.get(side) ?? [];
   if (places.length) return places;
   patterns.set(side, places);

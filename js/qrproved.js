@@ -2,7 +2,8 @@
  * QR Code symbols (ISO/IEC 18004:2015, QR Code Model 2) by the library libqrproved as WebAssembly, whose calls are proved to meet
  * their contracts. README.md shows the calls; qrproved.d.ts describes each.
  */
-import { DEFAULT, GS1, drawn, encoded, encodedSeries, mendedOf, parsedOf, readOf } from './calls.js';
+import { drawn, encoded, encodedSeries, mayHaveKanji, mendedOf, parsedOf, readOf } from './calls.js';
+import { INTERPRETATIONS, LIMITS } from './common.js';
 import { Gs1Error, NoDrawingError, SettingsError, SideError } from './errors.js';
 import { dataOf, fieldsOf } from './gs1.js';
 import { SHIFT_JIS, UTF_8, decodedText, encodedText } from './interpretation.js';
@@ -19,15 +20,9 @@ export {
 const LEVELS = ['L', 'M', 'Q', 'H'];
 const RULES = ['auto', 'bytes_only', 'with_kanji'];
 const DRAWINGS = ['ASCII', 'ASCIIi', 'UTF8', 'SVG'];
-const SIDE_MAX = 177;
-const COUNT_MAX = 16;
-const SCALE_MAX = 100;
-const SIZE_MAX = 100000; // of mm and dpi
-const ECI_MAX = 999999;
+const { MARGIN_WANTED, MODULE_MIN } = LIMITS; // modules, and millimetres
 const MM_OF_INCH = 25.4;
 const DENSITY_MAX = 2 ** 31 - 1; // pixels a metre: a number in a PNG image has 31 bits
-const MODULE_MIN = 0.25; // mm
-const FORMAT_MOST = 3; // wrong modules of a copy of the format information, which a scanner corrects (ISO/IEC 18004:2015, 7.9)
 
 /** Returns each option as it is given, or its default. An option of another name would do nothing, and so is refused. */
 function chosen(given, defaults) {
@@ -51,7 +46,7 @@ function whole(name, value, least, most) {
 /** Returns a length or a resolution. */
 function length(name, value) {
   if (typeof value !== 'number') throw new TypeError(`${name} is a number, and not of type ${typeof value}`);
-  if (!(value > 0 && value <= SIZE_MAX)) throw new SettingsError(`${name} is more than 0 and at most ${SIZE_MAX}, and not ${value}`);
+  if (!(value > 0 && value <= LIMITS.SIZE_MAX)) throw new SettingsError(`${name} is more than 0 and at most ${LIMITS.SIZE_MAX}, and not ${value}`);
   return value;
 }
 
@@ -61,7 +56,7 @@ const warned = new Set(); // each is said once
 function warn(quiet, margin, module) {
   if (quiet) return;
   const faults = [
-    ...(margin < 4 ? [`a margin of ${margin} ${margin === 1 ? 'module' : 'modules'}: scanners need 4`] : []),
+    ...(margin < MARGIN_WANTED ? [`a margin of ${margin} ${margin === 1 ? 'module' : 'modules'}: scanners need ${MARGIN_WANTED}`] : []),
     ...(module < MODULE_MIN ? [`modules of ${module.toPrecision(3)} mm: under ${MODULE_MIN} mm few scanners read them`] : []),
   ];
   for (const fault of faults.filter((it) => !warned.has(it))) {
@@ -88,19 +83,19 @@ function checked(input) {
 
 /** Returns the bytes of an input, and their interpretation. */
 function inputOf(input, eci, rule) {
-  const isKanji = RULES[rule] === 'with_kanji', number = eci === undefined || eci === false ? null : whole('eci', eci, 0, ECI_MAX);
+  const isKanji = RULES[rule] === 'with_kanji', number = eci === undefined || eci === false ? null : whole('eci', eci, 0, LIMITS.ECI_MAX);
   if (input !== null && typeof input === 'object' && Object.hasOwn(input, 'gs1')) {
     if (number !== null) throw new TypeError('GS1 data have no ECI header');
     const data = checked(input.gs1);
-    return { data: typeof data === 'string' ? dataOf(data) : data, interpretation: GS1 };
+    return { data: typeof data === 'string' ? dataOf(data) : data, interpretation: INTERPRETATIONS.GS1 };
   }
-  if (isKanji && number !== null && number !== SHIFT_JIS) {
+  if (isKanji && number !== null && !mayHaveKanji(number)) {
     throw new SettingsError(`kanji mode is for Shift JIS: beside the rule 'with_kanji' eci is ${SHIFT_JIS} or false, and not ${number}`);
   }
   const data = checked(input);
-  if (typeof data !== 'string') return { data, interpretation: number ?? DEFAULT };
+  if (typeof data !== 'string') return { data, interpretation: number ?? INTERPRETATIONS.DEFAULT };
   const isMarked = eci === undefined && !isKanji && /[^\0-\x7f]/.test(data);
-  return { data: encodedText(data, number ?? (isKanji ? SHIFT_JIS : UTF_8)), interpretation: number ?? (isMarked ? UTF_8 : DEFAULT) };
+  return { data: encodedText(data, number ?? (isKanji ? SHIFT_JIS : UTF_8)), interpretation: number ?? (isMarked ? UTF_8 : INTERPRETATIONS.DEFAULT) };
 }
 
 // The options of a series and of a symbol, with their defaults.
@@ -108,7 +103,7 @@ const OF_SERIES = { level: 'L', version: undefined, rule: undefined, eci: undefi
 const OF_SYMBOL = { ...OF_SERIES, version: 1, boost: true };
 
 function settings({ level, version, rule = 'auto' }) {
-  return [whole('version', version, 1, 40), named('level', level, LEVELS), named('rule', rule, RULES)];
+  return [whole('version', version, 1, LIMITS.VERSION_MAX), named('level', level, LEVELS), named('rule', rule, RULES)];
 }
 
 /**
@@ -117,7 +112,7 @@ function settings({ level, version, rule = 'auto' }) {
  */
 function inputAsked(input, asked) {
   const [version, level, rule] = settings(asked), { data, interpretation } = inputOf(input, asked.eci, rule);
-  const isBytes = asked.rule === undefined && interpretation === GS1 && data.includes('%'.charCodeAt(0));
+  const isBytes = asked.rule === undefined && interpretation === INTERPRETATIONS.GS1 && data.includes('%'.charCodeAt(0));
   return [{ data, interpretation }, version, level, isBytes ? RULES.indexOf('bytes_only') : rule];
 }
 
@@ -151,7 +146,7 @@ export class QRSymbol {
 
   png(options = {}) {
     const { scale, margin, mm, dpi, quiet } = chosen(options, { scale: 8, margin: 4, mm: undefined, dpi: undefined, quiet: false });
-    const modules = this.side + 2 * whole('margin', margin, 0, 100), pixels = modules * whole('scale', scale, 1, SCALE_MAX);
+    const modules = this.side + 2 * whole('margin', margin, 0, LIMITS.MARGIN_MAX), pixels = modules * whole('scale', scale, 1, LIMITS.SCALE_MAX);
     if (mm !== undefined && dpi !== undefined) throw new TypeError('mm and dpi both say how large the image is: one of them is given');
     const size = mm !== undefined ? length('mm', mm) : dpi !== undefined ? MM_OF_INCH * pixels / length('dpi', dpi) : null;
     const density = size === null ? 0 : 1000 * pixels / size;
@@ -235,7 +230,7 @@ export class Mended {
   }
 
   get scannable() {
-    return this.worstMisread + this.worstUnknown <= this.changedAllowed && this.wrongFormatLeast <= FORMAT_MOST;
+    return this.worstMisread + this.worstUnknown <= this.changedAllowed && this.wrongFormatLeast <= LIMITS.WRONG_FORMAT_MAX;
   }
 }
 
@@ -260,7 +255,7 @@ function squareOf(square) {
   const modules = square instanceof QRSymbol ? square.modules : square;
   if (!(modules instanceof Uint8Array)) throw new TypeError(`a square is a QRSymbol, or a Uint8Array of its modules, row by row; ${OTHER_CALLS}`);
   const side = Math.sqrt(modules.length);
-  if (!(side >= 21 && side <= SIDE_MAX && side % 4 === 1)) {
+  if (!(side >= 21 && side <= LIMITS.SIDE_MAX && side % 4 === 1)) {
     throw new SideError('a square has 21 times 21 modules, 25 times 25, and so on to 177 times 177,'
       + ` and not ${modules.length} in all; ${OTHER_CALLS}`);
   }
@@ -298,8 +293,8 @@ export function draw(symbols, options = {}) {
   const { type, margin } = chosen(options, { type: 'UTF8', margin: 4 });
   const list = Array.isArray(symbols) ? symbols : [symbols], drawing = named('type', type, DRAWINGS);
   if (!list.every((it) => it instanceof QRSymbol)) throw new TypeError('what is drawn is a QRSymbol, or an array of them');
-  whole('margin', margin, 0, 100);
-  whole('the number of symbols', list.length, 1, COUNT_MAX);
+  whole('margin', margin, 0, LIMITS.MARGIN_MAX);
+  whole('the number of symbols', list.length, 1, LIMITS.COUNT_MAX);
   const { side } = list[0], modules = new Uint8Array(list.length * side * side);
   if (list.some((it) => it.side !== side)) throw new SettingsError('the symbols have one side');
   list.forEach((it, k) => modules.set(it.modules, k * side * side));

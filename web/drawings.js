@@ -1,18 +1,18 @@
 /** Drawings as text that are damaged, drawn by another program or copied by hand: the squares of symbols, found by their look. */
+import { LIMITS } from '../out/npm/package/common.js';
+import { UNKNOWN_MODULE, patternsOf } from '../out/npm/package/pictures.js';
 
 const HALVES = { ' ': [1, 1], '\u2580': [0, 1], '\u2584': [1, 0], '\u2588': [0, 0] };
-const UNKNOWN = 2;
-const COUNT_LIMIT = 16; // symbols of a series
 const PLACES_LIMIT = 5000000; // characters of all lines: 16 of the largest symbols, each with as much around it
 
 /** Returns the rows of a drawing in half blocks, two for each line. A filled half is light. */
 function rowsOfBlocks(texts) {
-  return texts.flatMap((text) => [0, 1].map((half) => [...text].map((letter) => (HALVES[letter] ?? [UNKNOWN, UNKNOWN])[half])));
+  return texts.flatMap((text) => [0, 1].map((half) => [...text].map((letter) => (HALVES[letter] ?? [UNKNOWN_MODULE, UNKNOWN_MODULE])[half])));
 }
 
 /** Returns the rows of a drawing in pairs of signs. */
 function rowsOfPairs(texts) {
-  return texts.map((text) => text.match(/../gsu).map((pair) => ({ '##': 1, '  ': 0 })[pair] ?? UNKNOWN));
+  return texts.map((text) => text.match(/../gsu).map((pair) => ({ '##': 1, '  ': 0 })[pair] ?? UNKNOWN_MODULE));
 }
 
 /** Returns the rows of the least rectangle with all modules that are not light. */
@@ -26,8 +26,8 @@ function boxOf(rows) {
 /** Returns each way to cut a rectangle into squares that are as wide as it, with gaps of one height between them. */
 function cutsOf(box) {
   const side = box.length ? box[0].length : 0, ways = [];
-  if (side < 21 || side > 177 || side % 4 !== 1) return ways;
-  for (let count = 1; count <= COUNT_LIMIT; count++) {
+  if (side < 21 || side > LIMITS.SIDE_MAX || side % 4 !== 1) return ways;
+  for (let count = 1; count <= LIMITS.COUNT_MAX; count++) {
     const rest = box.length - count * side, gap = count === 1 ? 0 : rest / (count - 1);
     if (rest < 0 || (count === 1 && rest > 0) || !Number.isInteger(gap)) continue;
     const square = (_, k) => ({ side, modules: Uint8Array.from(box.slice(k * (side + gap), k * (side + gap) + side).flat()) });
@@ -38,14 +38,7 @@ function cutsOf(box) {
 
 /** Returns how many modules of the three finder patterns are right. */
 function likeness({ side, modules }) {
-  let right = 0;
-  for (const [top, left] of [[0, 0], [0, side - 7], [side - 7, 0]]) {
-    for (let place = 0; place < 49; place++) {
-      const ring = Math.max(Math.abs(Math.floor(place / 7) - 3), Math.abs(place % 7 - 3));
-      right += modules[(top + Math.floor(place / 7)) * side + left + place % 7] === (ring === 2 ? 0 : 1) ? 1 : 0;
-    }
-  }
-  return right;
+  return patternsOf(side).slice(0, 147).filter(([row, column, dark]) => modules[row * side + column] === Number(dark)).length;
 }
 
 /** Returns the mean likeness of squares. */
@@ -63,7 +56,7 @@ export function squaresInText(drawing) {
   // Spaces at the ends of lines are often lost.
   const full = texts.map((text) => text + ' '.repeat(width + (isBlocks ? 0 : width % 2) - [...text].length));
   const rows = width === 0 ? [] : isBlocks ? rowsOfBlocks(full) : rowsOfPairs(full);
-  const inverse = rows.map((row) => row.map((module) => (module === UNKNOWN ? UNKNOWN : 1 - module)));
+  const inverse = rows.map((row) => row.map((module) => (module === UNKNOWN_MODULE ? UNKNOWN_MODULE : 1 - module)));
   // Of several ways with the same likeness, the one with the most squares is taken: in a way with fewer squares,
   // another symbol may be in a gap.
   const ways = [rows, inverse].flatMap((it) => cutsOf(boxOf(it)));

@@ -22,6 +22,7 @@ from enum import IntEnum
 from typing import TYPE_CHECKING, BinaryIO, List, NamedTuple, NoReturn, Optional, Tuple, Union
 
 from . import _library, _png
+from ._common import DATA, LIMITS
 from ._drawings import found_by_look, undone
 from ._gs1 import Gs1Error, data_of, fields_of
 from ._interpretation import SHIFT_JIS, UTF_8, Eci, EciError, encoded, text_of
@@ -46,12 +47,12 @@ __all__ = ["BYTES_MAX", "COUNT_MAX", "ECI_MAX", "MARGIN_MAX", "SCALE_MAX", "SERI
 __version__ = "0.2.0"
 _calls = _library.load()
 FNC1_FIRST, FNC1_SECOND = 1, 2
-SCALE_MAX = 100
-SIZE_MAX = 100_000  # of mm and dpi
-ECI_MAX = 999_999
+VERSION_MAX, ECI_MAX = LIMITS["VERSION_MAX"], LIMITS["ECI_MAX"]
+SCALE_MAX = LIMITS["SCALE_MAX"]
+SIZE_MAX = LIMITS["SIZE_MAX"]  # of mm and dpi
 MM_OF_INCH = 25.4
-MARGIN_WANTED, MODULE_MIN = 4, 0.25  # modules, and millimetres
-WRONG_FORMAT_MAX = 3  # wrong modules of a copy of the format information that can be read (ISO/IEC 18004:2015, Annex C)
+MARGIN_WANTED, MODULE_MIN = LIMITS["MARGIN_WANTED"], LIMITS["MODULE_MIN"]  # modules, and millimetres
+WRONG_FORMAT_MAX = LIMITS["WRONG_FORMAT_MAX"]  # wrong modules of a copy of the format information that can be read (ISO/IEC 18004:2015, Annex C)
 
 
 class PrintWarning(UserWarning):
@@ -414,7 +415,7 @@ def _named(name: str, kind: type[IntEnum], value: Name) -> int:
 
 
 def _settings(version: int, level: Name, rule: Optional[Name]) -> tuple[int, int, int]:
-    return _setting("version", version, 1, 40), _named("level", Level, level), _named("rule", Rule, Rule.AUTO if rule is None else rule)
+    return _setting("version", version, 1, VERSION_MAX), _named("level", Level, level), _named("rule", Rule, Rule.AUTO if rule is None else rule)
 
 
 # What segno, python-qrcode and other packages call the options.
@@ -462,15 +463,23 @@ class _Given(NamedTuple):
     data: bytes
     interpretation: int
 
-    def header(self) -> int:
-        """Returns the bits by which a symbol says the interpretation (ISO/IEC 18004:2015, 7.4.2 and 7.4.8)."""
-        if self.interpretation >= _library.DEFAULT:
-            return 4 if self.interpretation == _library.GS1 else 0
-        return 12 if self.interpretation < 1 << 7 else 20 if self.interpretation < 1 << 14 else 28
-
     def rule(self) -> Rule:
         """Returns the rule unless one is given. In GS1 data alphanumeric mode writes a % as %%, after which zxing-cpp 1.4 loses bytes."""
         return Rule.BYTES_ONLY if self.interpretation == _library.GS1 and b"%" in self.data else Rule.AUTO
+
+
+def _room(level: int, mode: int, interpretation: int) -> int:
+    """Returns how many characters of a mode fit a symbol of version 40. Raises SettingsError if this interpretation forbids the mode."""
+    count = ctypes.c_uint32()
+    raise_for(_calls.qrproved_room(VERSION_MAX, level, mode, interpretation, 0, ctypes.byref(count)))
+    return count.value
+
+
+def _may_have_kanji(eci: int) -> bool:
+    try:
+        return _room(Level.L, DATA["modes"]["kanji"], eci) > 0
+    except SettingsError:
+        return False
 
 
 def _given(data: Optional[Input], gs1: Optional[Input], eci: Optional[int], rule: int) -> _Given:
@@ -480,7 +489,7 @@ def _given(data: Optional[Input], gs1: Optional[Input], eci: Optional[int], rule
         if data is not None or number is not None:
             raise TypeError("GS1 data are given alone: data and eci are not given beside gs1")
         return _Given(data_of(gs1) if isinstance(gs1, str) else _bytes("gs1", gs1), _library.GS1)
-    if rule == Rule.WITH_KANJI and number not in (None, SHIFT_JIS):
+    if rule == Rule.WITH_KANJI and number is not None and not _may_have_kanji(number):
         raise SettingsError(f"kanji mode is for Shift JIS: beside the rule 'with_kanji' eci is {SHIFT_JIS} or False, and not {number}")
     if isinstance(data, str):
         if eci is None and rule != Rule.WITH_KANJI and not data.isascii():
@@ -551,7 +560,8 @@ def encode(data: Optional[Input] = None, *wrong: NoReturn, version: int = 1, lev
     status = _calls.qrproved_encode(given.data, len(given.data), *settings, given.interpretation, is_boosted, modules, SYMBOL_MAX,
                                     ctypes.byref(symbol))
     if status == TooLongError.status:
-        raise too_long(len(given.data), *settings[1:], given.header())
+        modes = [*DATA["modes"].items()][:DATA["modes_of_rules"][settings[2]]]
+        raise too_long(len(given.data), settings[1], [f"{_room(settings[1], mode, given.interpretation):,} {name}" for name, mode in modes])
     raise_for(status)
     return Symbol(symbol.version, symbol.side, symbol.mask, _first(modules, symbol.side ** 2), Level(symbol.level))
 

@@ -7,6 +7,7 @@ import re
 import textwrap
 from collections.abc import Iterator
 
+from ._common import LIMITS
 from ._errors import NoDrawingError
 
 NO_INK, INK, UNKNOWN = range(3)
@@ -14,10 +15,8 @@ NO_INK, INK, UNKNOWN = range(3)
 CHARACTERS = {" ": NO_INK, "#": INK, "?": UNKNOWN}
 HALVES = {" ": (NO_INK, NO_INK), "\u2580": (INK, NO_INK), "\u2584": (NO_INK, INK), "\u2588": (INK, INK)}
 FINDER = ["1111111", "1000001", "1011101", "1011101", "1011101", "1000001", "1111111"]
-SIDES = range(21, 178, 4)
-COUNT_MAX = 16
-MARGIN_MAX = 255  # of a drawing that is parsed
-WIDTH_MAX = 2 * (SIDES[-1] + 2 * MARGIN_MAX)
+SIDES, COUNT_MAX = range(21, LIMITS["SIDE_MAX"] + 1, 4), LIMITS["COUNT_MAX"]
+WIDTH_MAX = 2 * (LIMITS["SIDE_MAX"] + 2 * LIMITS["PARSED_MARGIN_MAX"])
 LINES_MAX = COUNT_MAX * WIDTH_MAX  # an empty line may follow each
 
 SIZE = re.compile(r'<svg width="[^"]*" height="[^"]*" ')

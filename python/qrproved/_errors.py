@@ -1,7 +1,12 @@
 """The refusals of the library, an exception for each status."""
 from __future__ import annotations
 
-from typing import ClassVar
+from typing import TYPE_CHECKING, ClassVar
+
+from ._common import STATUSES
+
+if TYPE_CHECKING:
+    from collections.abc import Sequence
 
 
 class Error(Exception):
@@ -17,107 +22,79 @@ class Error(Exception):
 class EmptyError(Error, ValueError):
     """The input has no byte."""
 
-    status = 1
-    text = "the input is empty"
+    status, text = STATUSES["EMPTY"]
 
 
 class TooLongError(Error, ValueError):
     """No version from the smallest one on holds the input."""
 
-    status = 2
-    text = "the input does not fit a symbol"
+    status, text = STATUSES["TOO_LONG"]
 
 
 class TooManyError(Error, ValueError):
     """The input takes more than 16 symbols of the version."""
 
-    status = 3
-    text = "the input takes more than 16 symbols"
+    status, text = STATUSES["TOO_MANY"]
 
 
 class OutOfMemoryError(Error, MemoryError):
     """The library was refused memory."""
 
-    status = 4
-    text = "out of memory"
+    status, text = STATUSES["MEMORY"]
 
 
 class SettingsError(Error, ValueError):
     """A number is out of range, a name is not known, settings exclude each other, symbols to draw have several sides, or a module to
     mend is more than 2."""
 
-    status = 5
-    text = "a module is more than 2"
+    status, text = STATUSES["SETTINGS"]
 
 
 class RoomError(Error, ValueError):
     """There are fewer modules than the side times itself."""
 
-    status = 6
-    text = "there are fewer modules than the side times itself"
+    status, text = STATUSES["ROOM"]
 
 
 class SideError(Error, ValueError):
     """No version has this side."""
 
-    status = 7
-    text = "no version has this side"
+    status, text = STATUSES["SIDE"]
 
 
 class FormatError(Error, ValueError):
     """The format information is that of no level and mask, or is too damaged."""
 
-    status = 8
-    text = "the format information cannot be read"
+    status, text = STATUSES["FORMAT"]
 
 
 class CheckError(Error, ValueError):
     """A block does not match its error correction codewords, or is too damaged to be mended."""
 
-    status = 9
-    text = "a block has wrong codewords that are not mended"
+    status, text = STATUSES["CHECK"]
 
 
 class SegmentsError(Error, ValueError):
     """The data codewords cannot be parsed."""
 
-    status = 10
-    text = "the data codewords cannot be parsed"
+    status, text = STATUSES["SEGMENTS"]
 
 
 class NoDrawingError(Error, ValueError):
     """The text is no drawing of symbols."""
 
-    status = 11
-    text = "the text is no drawing of symbols"
+    status, text = STATUSES["NO_DRAWING"]
 
 
 class FieldsError(Error, ValueError):
     """The bytes are no GS1 data: a separator comes directly before another or before %."""
 
-    status = 12
-    text = "a separator of GS1 data, the byte 1D, comes directly before another or before %"
+    status, text = STATUSES["FIELDS"]
 
 
-# The data bits of a symbol of version 40 at each level, from L to H (ISO/IEC 18004:2015, Table 7).
-DATA_BITS = [23648, 18672, 13328, 10208]
-MODE_BITS = 4  # of a mode indicator, before the character count
-
-
-def _most(room: int) -> list[str]:
-    """Returns what fits into so many bits at version 40, by mode (ISO/IEC 18004:2015, 7.4.3 to 7.4.6)."""
-    data, kanji = (room - MODE_BITS - 16) // 8, (room - MODE_BITS - 12) // 13
-    pairs, rest = divmod(room - MODE_BITS - 13, 11)
-    triples, more = divmod(room - MODE_BITS - 14, 10)
-    digits = 3 * triples + (2 if more >= 7 else 1 if more >= 4 else 0)
-    return [f"{data:,} bytes", f"{2 * pairs + (rest >= 6):,} alphanumeric characters", f"{digits:,} digits", f"{kanji:,} kanji"]
-
-
-def too_long(count: int, level: int, rule: int, header: int) -> TooLongError:
-    """Returns the refusal of `count` bytes, which says how many would fit beside a header of so many bits. The rule, 0, 1 or 2, decides
-    which modes there are."""
-    modes = _most(DATA_BITS[level] - header)
-    *first, last = modes[:(3, 1, 4)[rule]]
+def too_long(count: int, level: int, most: Sequence[str]) -> TooLongError:
+    """Returns the refusal of `count` bytes. `most` says how many characters of each mode the largest symbol of this level holds."""
+    *first, last = most
     holds = f"{', '.join(first)} or {last}" if first else last
     return TooLongError(f"the input has {count:,} bytes and does not fit a symbol: version 40-{'LMQH'[level]} holds {holds}")
 

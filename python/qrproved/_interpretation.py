@@ -5,6 +5,8 @@ from __future__ import annotations
 import re
 from typing import TYPE_CHECKING, NamedTuple
 
+from ._common import DATA, INTERPRETATIONS
+
 if TYPE_CHECKING:
     from collections.abc import Iterator, Sequence
 
@@ -22,21 +24,13 @@ class EciError(ValueError):
     """The bytes of an ECI are not read as characters, or a character of a text is not in its character set."""
 
 
-# The character sets of ECIs by Python's names, as js/interpretation.js has them by those of browsers. For 20, 29, 30 and 32 these are
-# the larger sets that browsers decode.
-CODECS = {
-    0: "cp437", 1: "latin-1", 2: "cp437", 3: "latin-1", 4: "iso8859-2", 5: "iso8859-3", 6: "iso8859-4", 7: "iso8859-5", 8: "iso8859-6",
-    9: "iso8859-7", 10: "iso8859-8", 11: "iso8859-9", 12: "iso8859-10", 13: "iso8859-11", 15: "iso8859-13", 16: "iso8859-14",
-    17: "iso8859-15", 18: "iso8859-16", 20: "cp932", 21: "cp1250", 22: "cp1251", 23: "cp1252", 24: "cp1256", 25: "utf-16-be", 26: "utf-8",
-    27: "ascii", 28: "big5", 29: "gb18030", 30: "cp949", 32: "gb18030",
-}
-BYTES, UTF_8, SHIFT_JIS = 899, 26, 20
+CODECS = {int(number): name for number, (name, _) in DATA["ecis"].items()}
+BYTES, UTF_8, SHIFT_JIS = (INTERPRETATIONS[name] for name in ("BYTES", "UTF_8", "SHIFT_JIS"))
 # What Python has for bytes that are no characters of the set: 80, A0 and FD to FF.
 NO_CHARACTERS = {"cp932": re.compile("[\x80\uf8f0-\uf8f3]")}
 
-# Characters of JIS X 0208 that some systems have by other code points. For the last two Python has the bytes of \ and ~, which are
-# read as these.
-IN_SHIFT_JIS = str.maketrans("～∥－￠￡￢—¥‾", "〜‖−¢£¬―\ufffd\ufffd")
+# For the yen sign and the overline Python has the bytes of \ and ~, which are read as these.
+IN_SHIFT_JIS = str.maketrans({**{other: one for one, other in DATA["shift_jis"]}, "¥": "\ufffd", "‾": "\ufffd"})
 
 
 def encoded(text: str, number: int) -> bytes:

@@ -7,20 +7,17 @@ import os
 from ctypes import c_size_t, c_uint8, c_uint32, c_void_p
 from pathlib import Path
 
+from ._common import INTERPRETATIONS, LIMITS
+
 VARIABLE = "QRPROVED_LIBRARY"
 FILE = "libqrproved.so.0"
 
 VERSION_NUMBER = 200  # the structs and the calls may change with each version
 
-SIDE_MAX = 177
-SYMBOL_MAX = 31329
-COUNT_MAX = 16
-SERIES_MAX = 501264
-BYTES_MAX = 7089
-ECIS_MAX = 1970
-MARGIN_MAX = 100
+SIDE_MAX, COUNT_MAX, MARGIN_MAX = LIMITS["SIDE_MAX"], LIMITS["COUNT_MAX"], LIMITS["MARGIN_MAX"]
+SYMBOL_MAX, SERIES_MAX, BYTES_MAX, ECIS_MAX = LIMITS["SYMBOL_MAX"], LIMITS["SERIES_MAX"], LIMITS["BYTES_MAX"], LIMITS["ECIS_MAX"]
 
-DEFAULT, GS1 = 1_000_000, 1_000_001  # interpretations; a smaller number is that of an ECI
+DEFAULT, GS1 = INTERPRETATIONS["DEFAULT"], INTERPRETATIONS["GS1"]  # a smaller number is that of an ECI
 
 
 class Symbol(ctypes.Structure):
@@ -63,6 +60,7 @@ PARAMETERS = {
     "qrproved_mend": [*BYTES, SETTING, *BUFFER, *BUFFER, ctypes.POINTER(Mended)],
     "qrproved_draw": [*BYTES, SETTING, SETTING, SETTING, SETTING, *BUFFER, ctypes.POINTER(c_size_t)],
     "qrproved_parse_drawing": [*BYTES, *BUFFER, ctypes.POINTER(Drawn)],
+    "qrproved_room": [SETTING, SETTING, SETTING, SETTING, SETTING, ctypes.POINTER(c_uint32)],
 }
 
 

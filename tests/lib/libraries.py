@@ -1,11 +1,14 @@
 """Builds the library for C by LLVM and by Rattle's own compiler, and calls it from Python. Also counts the checks of a
 script."""
 import ctypes
+import itertools
+import json
 import os
 import re
 import shutil
 import subprocess
 
+import squares
 from growths import TOP
 
 STRICT = ["-std=c11", "-O1", "-Wall", "-Wextra", "-pedantic", "-Werror", f"-I{TOP}/include"]
@@ -14,9 +17,10 @@ BUILDS = {"LLVM": [], "Rattle's own compiler": ["LIBRARY_FLAGS=--cpu x86-64 --ba
 LONG = 7200  # seconds: what stands below the library is proved again if no earlier run kept it
 MARGIN = 4
 LEVELS = "LMQH"
-STATUSES = ["DONE", "EMPTY", "TOO_LONG", "TOO_MANY", "MEMORY", "SETTINGS", "ROOM", "SIDE", "FORMAT", "CHECK", "SEGMENTS",
-            "NO_DRAWING", "FIELDS"]
-ECI_UTF8, DEFAULT, GS1 = 26, 1_000_000, 1_000_001  # interpretations
+with open(f"{TOP}/python/qrproved/common.json", encoding="utf-8") as it:
+    COMMON = json.load(it)  # what tests/library compares with the header
+LIMITS, STATUSES = COMMON["limits"], [*COMMON["statuses"]]
+ECI_UTF8, DEFAULT, GS1 = (COMMON["interpretations"][name] for name in ("UTF_8", "DEFAULT", "GS1"))
 ECI_ROOM = 8  # ECI headers: more than any symbol here has
 MARK = 7  # what a buffer or a struct contains before a call
 
@@ -113,6 +117,7 @@ PARAMETERS = {
     "qrproved_mend": BUFFER + NUMBER + BUFFER * 2 + POINTER,
     "qrproved_draw": BUFFER + NUMBER * 4 + BUFFER + POINTER,
     "qrproved_parse_drawing": INPUT + BUFFER + POINTER,
+    "qrproved_room": NUMBER * 5 + POINTER,
 }
 
 
@@ -120,11 +125,16 @@ class Library:
     """The shared library, called as C calls it. A case is an input, a version, a level and the number of a rule."""
 
     def __init__(self, path):
-        self.library = ctypes.CDLL(path)
-        self.modules, self.bytes, self.ecis = (ctypes.c_uint8 * 501264)(), (ctypes.c_uint8 * 7089)(), (Eci * ECI_ROOM)()
+        self.take(ctypes.CDLL(path))
         for name, listed in PARAMETERS.items():
             call = getattr(self.library, name)
             call.restype, call.argtypes = ctypes.c_uint8, listed
+
+    def take(self, library):
+        """Takes a library, with buffers for what its calls write."""
+        self.library = library
+        self.modules, self.bytes = (ctypes.c_uint8 * LIMITS["SERIES_MAX"])(), (ctypes.c_uint8 * LIMITS["BYTES_MAX"])()
+        self.ecis = (Eci * ECI_ROOM)()
 
     def symbol(self, case, interpretation=DEFAULT, boost=0):
         """Returns the symbol's modules and what the struct says of it, or a status."""
@@ -178,6 +188,12 @@ class Library:
         modules = bytes(memoryview(self.modules)[:drawn.count * area])
         return [modules[k * area:(k + 1) * area] for k in range(drawn.count)], drawn.side, drawn.drawing, drawn.margin
 
+    def room(self, version, level, mode, interpretation, header):
+        """Returns how many characters fit, or the name of a status other than 0."""
+        count = ctypes.c_uint32(MARK)
+        status = self.library.qrproved_room(version, level, mode, interpretation, header, ctypes.byref(count))
+        return count.value if not status else STATUSES[status] + ("" if count.value == MARK else ", number changed")
+
     def told_ecis(self, count):
         """Returns the ECI headers that a call wrote, each as the number of bytes before it and its own number. If the
         call wrote past them, returns a text that says so."""
@@ -192,7 +208,7 @@ class Library:
                                             ctypes.byref(content))
         return status or (bytes(self.bytes[:content.len]), content, self.told_ecis(content.eci_count))
 
-    def mended(self, modules, side, room=7089):
+    def mended(self, modules, side, room=LIMITS["BYTES_MAX"]):
         """Returns the fields of the struct and the bytes. If the status is not 0, returns its name, and says so if the
         call changed a buffer or the struct."""
         mended = Mended()
@@ -207,6 +223,34 @@ class Library:
             return STATUSES[status] + others + ("" if is_unchanged else ", structs changed")
         fields = {"ecis": self.told_ecis(mended.eci_count), **{name: getattr(mended, name) for name, _ in Mended._fields_}}
         return {"bytes": bytes(self.bytes[:used]), **fields} if not others else f"DONE{others}"
+
+
+# Interpretations, each with the bits by which a symbol says it.
+SAID = {DEFAULT: 0, GS1: 4, 0: 12, 20: 12, 127: 12, 128: 20, 16_383: 20, 16_384: 28, 999_999: 28}
+
+
+def wrong_rooms(library):
+    """Returns the rooms that are not those of the model, of all versions, levels, modes and interpretations."""
+    wrong = []
+    for version, level, mode, interpretation, header in itertools.product(range(1, 41), range(4), range(4), SAID, range(2)):
+        got, is_kanji = library.room(version, level, mode, interpretation, header), mode == 3
+        if is_kanji and interpretation < DEFAULT and interpretation != 20:
+            wanted = "SETTINGS"
+        else:
+            wanted = squares.most_characters(version, LEVELS[level], 1 << mode, SAID[interpretation] + 20 * header)
+        if got != wanted:
+            wrong.append((version, level, mode, interpretation, header, got, wanted))
+    return wrong
+
+
+def edges_of_room(library):
+    """Returns what the call says of numbers that are out of range, and of the greatest that are not."""
+    rows = [(0, 0, 0, DEFAULT, 0), (41, 0, 0, DEFAULT, 0), (257, 0, 0, DEFAULT, 0), (1, 4, 0, DEFAULT, 0), (1, 0, 4, DEFAULT, 0),
+            (1, 0, 0, GS1 + 1, 0), (1, 0, 0, DEFAULT, 2), (1, 0, 3, 26, 0), (40, 3, 3, GS1, 1)]
+    return [library.room(*row) for row in rows]
+
+
+EDGES_OF_ROOM = ["SETTINGS"] * 8 + [(10208 - 20 - 4 - 4 - 12) // 13]
 
 
 def no_drawings(library):

@@ -265,6 +265,22 @@ static void interpretations(void)
 	want("all parts of GS1 data", joined == DATA_LEN);
 }
 
+/* The counts are those of Table 7 for 1-L and 40-L, and what a structured append header leaves of 152 bits. */
+static void rooms(void)
+{
+	uint32_t count = MARK;
+	want("digits", qrproved_room(1, 0, QRPROVED_MODE_NUMERIC, NONE, 0, &count) == QRPROVED_DONE && count == 41);
+	want("alphanumeric characters", qrproved_room(40, 0, QRPROVED_MODE_ALPHANUMERIC, NONE, 0, &count) == QRPROVED_DONE && count == 4296);
+	want("bytes of a series", qrproved_room(1, 0, QRPROVED_MODE_BYTE, NONE, 1, &count) == QRPROVED_DONE && count == 15);
+	want("kanji", qrproved_room(40, 0, QRPROVED_MODE_KANJI, 20, 0, &count) == QRPROVED_DONE && count == 1816);
+	count = MARK;
+	want("kanji in UTF-8", qrproved_room(40, 0, QRPROVED_MODE_KANJI, QRPROVED_ECI_UTF8, 0, &count) == QRPROVED_SETTINGS && count == MARK);
+	want("numbers above 255", qrproved_room(257, 0, 0, NONE, 0, &count) == QRPROVED_SETTINGS
+	     && qrproved_room(1, 256, 0, NONE, 0, &count) == QRPROVED_SETTINGS && qrproved_room(1, 0, 256, NONE, 0, &count) == QRPROVED_SETTINGS
+	     && qrproved_room(1, 0, 0, NONE, 256, &count) == QRPROVED_SETTINGS && count == MARK);
+	want("2^32 - 1", qrproved_room(1, 0, 0, UINT32_MAX, 0, &count) == QRPROVED_SETTINGS && count == MARK);
+}
+
 static int edges(void)
 {
 	struct qrproved_symbol symbol;
@@ -341,6 +357,7 @@ static int edges(void)
 	     && qrproved_encode(TEXT, 5, 1, 0, 0, NONE, 256, modules, 441, &symbol) == QRPROVED_SETTINGS
 	     && qrproved_read(modules, 441, 277, bytes, sizeof bytes, NULL, 0, &content) == QRPROVED_SIDE
 	     && qrproved_mend(modules, 441, 277, bytes, sizeof bytes, NULL, 0, &mended) == QRPROVED_SIDE);
+	rooms();
 	two_ecis();
 	fields();
 	interpretations();

@@ -6,7 +6,7 @@ import struct
 import subprocess
 
 from growths import TOP
-from libraries import ECI_ROOM, PARAMETERS, Eci, Library
+from libraries import PARAMETERS, Library
 
 POINTERS, LENGTH = (ctypes.c_void_p, ctypes.c_char_p), ctypes.c_size_t
 
@@ -74,5 +74,4 @@ class Module(Library):
     """The module, called as the library is."""
 
     def __init__(self, path, pages=None):
-        self.library = Remote(path, pages)
-        self.modules, self.bytes, self.ecis = (ctypes.c_uint8 * 501264)(), (ctypes.c_uint8 * 7089)(), (Eci * ECI_ROOM)()
+        self.take(Remote(path, pages))

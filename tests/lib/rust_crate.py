@@ -47,6 +47,9 @@ def of_rust_header(header):
     check("rust: the calls are the header's", calls, header[0])
     check("rust: the structs are the header's", structs, header[1])
     check("rust: the constants are the header's", constants, {name: header[2].get(name) for name in constants})
+    with open(f"{TOP}/rust/qrproved/src/error.rs", encoding="utf-8") as it:
+        errors = {snake(name).upper(): number for name, number in re.findall(r"^    (\w+) = (\d+),$", it.read(), re.M)}
+    check("rust: the errors are the header's statuses", errors, {name: header[2].get(name) for name in errors})
 
 
 def tested(room, env):

@@ -21,7 +21,7 @@ static const char MIXED[] = "31415926aeiouaAEIOU$%\x93\x5f\xe4\xaa\x1d";
 /* What the calls take and write. Nothing of it is on the stack. */
 static uint8_t input[QRPROVED_BYTES_MAX * 4], modules[QRPROVED_SERIES_MAX], bytes[QRPROVED_BYTES_MAX], text[10000000];
 static size_t input_len, written;
-static uint32_t version, level, rule, interpretation = QRPROVED_INTERPRETATION_DEFAULT, boost, side, count, drawing;
+static uint32_t version, level, rule, interpretation = QRPROVED_INTERPRETATION_DEFAULT, boost, side, count, drawing, most;
 static struct qrproved_symbol symbol;
 static struct qrproved_series series;
 static struct qrproved_eci ecis[QRPROVED_ECIS_MAX];
@@ -65,6 +65,12 @@ static void *parse_drawing(void *none)
 {
 	static uint8_t shown[QRPROVED_SERIES_MAX];
 	status = qrproved_parse_drawing(text, written, shown, sizeof shown, &drawn);
+	return none;
+}
+
+static void *room(void *none)
+{
+	status = qrproved_room(version, level, QRPROVED_MODE_ALPHANUMERIC, interpretation, 1, &most);
 	return none;
 }
 
@@ -143,6 +149,7 @@ static void encode_interpreted(void)
 		interpretation = kinds[i];
 		encode_longest();
 		want("read", in_small_stack(read_symbol), QRPROVED_DONE);
+		want("room", in_small_stack(room), QRPROVED_DONE);
 		boost = 1;
 		want("encode", in_small_stack(encode), QRPROVED_DONE);
 		boost = 0, input_len *= 3;
@@ -181,7 +188,7 @@ static int once(const char *name)
 {
 	static const struct { const char *name; void *(*call)(void *); } CALLS[] = {
 		{"encode", encode}, {"encode_series", encode_series}, {"read", read_symbol}, {"mend", mend}, {"draw", draw},
-		{"parse_drawing", parse_drawing}};
+		{"parse_drawing", parse_drawing}, {"room", room}};
 	written = fread(text, 1, sizeof text, stdin);
 	memcpy(modules, text, written < sizeof modules ? written : sizeof modules);
 	while (side * side < written)

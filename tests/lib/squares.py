@@ -227,6 +227,19 @@ def room_of(version, level):
     return 8 * (layout(version).total - BLOCKS[level][version - 1] * correction_len(version, level))
 
 
+# How many bits the characters of a group take: up to three digits, up to two characters of alphanumeric mode, a byte, a kanji.
+GROUPS = {1: (0, 4, 7, 10), 2: (0, 6, 11), 4: (0, 8), 8: (0, 13)}
+
+
+def most_characters(version, level, mode, before):
+    """Returns how many characters fit one segment of a mode, which is given by its indicator, after so many bits."""
+    groups, count, room = GROUPS[mode], 0, room_of(version, level) - before - 4 - width(version, COUNT_WIDTHS[mode])
+    whole = len(groups) - 1
+    while groups[whole] * ((count + 1) // whole) + groups[(count + 1) % whole] <= room:
+        count += 1
+    return count
+
+
 def in_bytes(version, level, text):
     """Returns data codewords that say a text in byte mode, with zeros after it."""
     bits = f"0100{len(text):0{width(version, COUNT_WIDTHS[4])}b}" + "".join(f"{byte:08b}" for byte in text)

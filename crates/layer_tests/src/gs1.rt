@@ -4,7 +4,10 @@ ghost use Rattle.std.specs.Prelude.{◌≤◌, length};
 ghost use Rattle.qr_bits.specs.declared.modes.TheConstants.{INPUT_MAX};
 
 use crate::checks::{check, check_eq};
-use qr_bits::{INPUT_MAX, Interpretation, Mode, Rule, Segment, longest_fit, may_write, segments};
+use qr_bits::{
+    INPUT_MAX, Interpretation, Mode, Rule, Segment, longest_fit, may_allow_kanji, may_write,
+    segments,
+};
 use qr_layout::{Level, Version};
 use std::test::Fail;
 
@@ -18,6 +21,14 @@ fn fields(rt: HostRuntime) {
     check!(rt; !may_write(b"1\x1D%", gs1), "a percent sign after it");
     check!(rt; may_write(b"\x1D\x1D%", Interpretation::Default), "no GS1");
     check!(rt; may_write(b"\x1D\x1D%", Interpretation::Eci(26)), "an ECI");
+}
+
+#[test]
+fn kanji_mode(rt: HostRuntime) {
+    check!(rt; may_allow_kanji(Interpretation::Default), "no interpretation");
+    check!(rt; may_allow_kanji(Interpretation::Gs1), "GS1 data");
+    check!(rt; may_allow_kanji(Interpretation::Eci(20)), "Shift JIS");
+    check!(rt; !may_allow_kanji(Interpretation::Eci(26)), "UTF-8");
 }
 
 // Says whether the input, taken as GS1 data, has these segments at version 1, with these characters in them.

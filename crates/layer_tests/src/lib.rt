@@ -11,6 +11,7 @@
 //! - `layout`: versions, blocks, format and version information, roles
 //! - `matrix`: the square of modules
 //! - `penalty`: the penalty of squares
+//! - `room`: how many characters fit a symbol
 //! - `segments`: segments, prefixes and folding
 //! - `walk`: the order in which codewords fill the region
 #![tactic(auto)]
@@ -31,6 +32,8 @@ mod layout;
 mod matrix;
 #[cfg(test)]
 mod penalty;
+#[cfg(test)]
+mod room;
 #[cfg(test)]
 mod segments;
 #[cfg(test)]

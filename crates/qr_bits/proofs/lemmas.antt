@@ -9,6 +9,7 @@ pub mod run_state
 pub mod best_modes
 pub mod segmentation
 pub mod longest_prefix
+pub mod room
 pub mod lower_bound
 pub mod folding
 pub mod laws

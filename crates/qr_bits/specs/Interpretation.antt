@@ -2,7 +2,7 @@
 -- segment contains characters, and these stand for the bytes. The characters are the bytes themselves, except in
 -- alphanumeric mode after FNC1. The separator is the byte 1D (hexadecimal), which stands between two fields of GS1
 -- data. `ms` are the modes of the bytes `xs`.
-use Rattle.std.specs.Prelude.{ℕ, ◌+◌, ◌*◌, ◌/◌, ◌%◌, ◌<◌, Bool, true, false, ◌&&◌, ◌||◌, nat_lt, nat_le, if◌then◌else◌, List, [], ◌∷◌, ◌++◌, map, take, drop, length, ◌==◌, Option, Some, None, IsTrue}
+use Rattle.std.specs.Prelude.{◌≡◌, ℕ, ◌+◌, ◌*◌, ◌/◌, ◌%◌, ◌<◌, Bool, true, false, ◌&&◌, ◌||◌, nat_lt, nat_le, if◌then◌else◌, List, [], ◌∷◌, ◌++◌, map, take, drop, length, ◌==◌, Option, Some, None, IsTrue}
 use Rattle.qr_bits.specs.declared.segmentation.Segment.{Segment}
 use Rattle.qr_bits.specs.declared.modes.Mode.{Mode}
 use Rattle.qr_bits.specs.declared.modes.Mode.TheVariants.{Alphanumeric}
@@ -164,6 +164,12 @@ characters_in written.Gs1 xs ms = characters_gs1 xs ms
 abbrev pub MayWrite : Interpretation → List ℕ → Type 0
 MayWrite written.Gs1 xs = IsTrue (are_fields xs)
 MayWrite _ xs = Unit {0}
+
+-- Kanji mode may be allowed with this interpretation: it has no ECI, or ECI 20, which is Shift JIS. Readers take each
+-- kanji pair for Shift JIS. Under another ECI, two bytes that are not one character could look like a kanji pair [own]
+abbrev pub MayAllowKanji : Interpretation → Type 0
+MayAllowKanji (written.Eci n) = n ≡ 20
+MayAllowKanji _ = Unit {0}
 
 -- The bytes that the characters of a segment stand for. The first argument says whether FNC1 came before the segment.
 -- The bytes differ from the characters only in alphanumeric mode after FNC1 (ISO/IEC 18004:2015, 7.4.8.2, 7.4.8.3)

@@ -5,6 +5,7 @@ pub mod Interpretation
 pub mod Segmentation
 pub mod Stream
 pub mod Padding
+pub mod Room
 pub mod Parsing
 pub mod Folding
 pub mod Laws

@@ -9,7 +9,7 @@ ghost use Rattle.std.specs.Prelude.{IfOk, IsTrue, ◌↔◌, List, OnOk, false, 
 ghost use Rattle.qr_bits.specs.declared.interpretation.Item.{Item};
 ghost use Rattle.qr_bits.specs.Steps.RunState.{is_gs1};
 ghost use Rattle.qr_bits.specs.Steps.Segmentation.{is_itself};
-ghost use Rattle.qr_bits.specs.Interpretation.{are_fields, eci_changes, fnc1_of, interpretation_bits, MayWrite, meant, meant_bytes, percent, segments_among, separated, separator};
+ghost use Rattle.qr_bits.specs.Interpretation.{are_fields, eci_changes, fnc1_of, interpretation_bits, MayAllowKanji, MayWrite, meant, meant_bytes, percent, segments_among, separated, separator};
 
 use crate::modes::Mode;
 use crate::segmentation::Segment;
@@ -63,6 +63,20 @@ pub fn may_write(input: &[u8], interpretation: Interpretation) -> bool
     match interpretation {
         Interpretation::Default | Interpretation::Eci(_) => true,
         Interpretation::Gs1 => are_fields(input),
+    }
+}
+
+// The number of the ECI of Shift JIS.
+const SHIFT_JIS: u32 = 20;
+
+/// Returns whether kanji mode may be allowed with this interpretation: not with an ECI other than 20, which is Shift JIS.
+/// Readers take each kanji pair for Shift JIS.
+pub fn may_allow_kanji(interpretation: Interpretation) -> bool
+    ensures { IsTrue result ↔ MayAllowKanji interpretation }
+{
+    match interpretation {
+        Interpretation::Eci(number) => number == SHIFT_JIS,
+        Interpretation::Default | Interpretation::Gs1 => true,
     }
 }
 

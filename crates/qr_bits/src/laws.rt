@@ -13,10 +13,11 @@ ghost use Rattle.qr_bits.specs.declared.stream.Header.{Header};
 ghost use Rattle.qr_bits.specs.declared.interpretation.Fnc1.{Fnc1};
 ghost use Rattle.qr_bits.specs.declared.interpretation.Interpretation.{Interpretation};
 ghost use Rattle.qr_bits.specs.declared.interpretation.Item.{Item};
-ghost use Rattle.qr_bits.specs.Interpretation.{are_fields, characters_in, designator_codewords, doubled, escaped, fnc1_of, interpretation_bits, is_application_indicator, items_in, meant_bytes};
+ghost use Rattle.qr_bits.specs.Interpretation.{are_fields, characters_in, designator_codewords, doubled, escaped, fnc1_of, interpretation_bits, is_application_indicator, items_in, MayAllowKanji, meant_bytes};
 ghost use Rattle.qr_bits.specs.Bits.{bits_of, field};
 ghost use Rattle.qr_bits.specs.Header.{header_bits, header_stream, parity_of};
 ghost use Rattle.qr_bits.specs.Padding.{capacity_of, padded, room_of};
+ghost use Rattle.qr_bits.specs.Room.{IsMostCharacters};
 ghost use Rattle.qr_bits.specs.Folding.{folded};
 ghost use Rattle.qr_bits.specs.Segmentation.{IsLeastSegmentation, least_bits, runs_of};
 ghost use Rattle.qr_bits.specs.Modes.{count_width, is_kanji_pair, character_value, kanji_value, may_use};
@@ -203,8 +204,9 @@ pub fn fields_compute()
 {}
 
 /// Examples of what says how bytes are meant: which numbers are application indicators, how many codewords the shortest
-/// designator of an ECI has, and that FNC1 may come after an ECI header. The last clause says that after FNC1 in second
-/// position `%` stands for the separator, as it does after FNC1 in first position (ISO/IEC 18004:2015, 7.4.2, 7.4.8).
+/// designator of an ECI has, that FNC1 may come after an ECI header, that after FNC1 in second position `%` stands for the
+/// separator, as it does after FNC1 in first position (ISO/IEC 18004:2015, 7.4.2, 7.4.8), and that kanji mode may be allowed
+/// with ECI 20, and not with ECI 26.
 #[tactic(auto, unfolding(crate::specs::Interpretation::fnc1_of, crate::specs::Interpretation::meant_bytes, crate::specs::Interpretation::separated))]
 pub fn interpretations_compute()
     ensures indicators { map is_application_indicator (0 ∷ 99 ∷ 100 ∷ 164 ∷ 165 ∷ 190 ∷ 191 ∷ 196 ∷ 197 ∷ 222 ∷ 223 ∷ 255 ∷ [])
@@ -213,6 +215,8 @@ pub fn interpretations_compute()
     ensures position { fnc1_of (Item.Eci (record { number = 3; codewords = 1 }) ∷ Item.Fnc1First ∷ []) ≡ Some Fnc1.First }
     ensures second { meant_bytes false (Item.Fnc1Second 37 ∷ Item.Data (record { mode = Alphanumeric; len = 3 }) ∷ []) (codes "A%B")
         ≡ 0x41 ∷ 0x1D ∷ 0x42 ∷ [] }
+    ensures shift_jis { MayAllowKanji (Interpretation.Eci 20) }
+    ensures utf8 { MayAllowKanji (Interpretation.Eci 26) → ⊥ }
 {}
 
 /// The room that a structured append header leaves is the capacity, less the bits of the header and of the ECI header
@@ -220,6 +224,17 @@ pub fn interpretations_compute()
 pub fn headers_take_room()
     ensures { (v : ℕ) (l : Level) (h : Header) (i : Interpretation)
         → room_of v l i ≡ capacity_of v l - header_bits (Some h) - interpretation_bits i }
+{}
+
+/// How many characters fit: of each mode in version 40 at level L, and kanji in GS1 data of a series in version 1 at level
+/// H (ISO/IEC 18004:2015, 7.4.10, Table 7).
+#[tactic(auto, using(crate::proofs::lemmas::room::digits_up, crate::proofs::lemmas::room::characters_up, crate::proofs::lemmas::room::kanji_up), unfolding(qr_layout::specs::Blocks::data_codewords_of, qr_layout::specs::Blocks::block_count_of, qr_layout::specs::Blocks::correction_len_of, qr_layout::specs::Version::total_codewords_of))]
+pub fn rooms_compute()
+    ensures digits { IsMostCharacters 40 Level.L Numeric Interpretation.Default false 7089 }
+    ensures characters { IsMostCharacters 40 Level.L Alphanumeric Interpretation.Default false 4296 }
+    ensures bytes { IsMostCharacters 40 Level.L Byte Interpretation.Default false 2953 }
+    ensures kanji { IsMostCharacters 40 Level.L Kanji Interpretation.Default false 1817 }
+    ensures least { IsMostCharacters 1 Level.H Kanji Interpretation.Gs1 true 2 }
 {}
 
 /// The parity data of `ABCDEFGH`, of no byte, and of three bytes of which two are equal (ISO/IEC 18004:2015, 8.3).

@@ -15,6 +15,7 @@
 //! - `modes`: the modes, with their indicators, counts and characters (Tables 2, 3 and 5)
 //! - `padding`: the data codewords: the bit stream, a terminator and padding
 //! - `parsing`: what data codewords mean, and what `%` stands for
+//! - `room`: how many characters of one mode fit a symbol
 //! - `run_state`: the nine states, and what a byte adds to the bits in each
 //! - `segmentation`: the segments of fewest bits
 //! - `stream`: the bit stream, with a structured append header (`Header`)
@@ -31,6 +32,7 @@ mod lower_bound;
 mod modes;
 mod padding;
 mod parsing;
+mod room;
 mod run_state;
 mod segmentation;
 mod stream;
@@ -38,12 +40,14 @@ mod stream;
 pub use fault::{BitFault, ParseFault};
 pub use folding::fold;
 pub use interpretation::{
-    Designator, EciChange, Fnc1, Interpretation, Item, interpretation_bits, may_write,
+    Designator, EciChange, Fnc1, Interpretation, Item, interpretation_bits, may_allow_kanji,
+    may_write,
 };
 pub use longest_prefix::longest_fit;
 pub use lower_bound::least_bits;
 pub use modes::{INPUT_MAX, Mode, Rule};
 pub use padding::codewords;
 pub use parsing::{Parsed, parse};
+pub use room::most_characters;
 pub use segmentation::{Segment, Segmented, bit_len, covers, segments};
 pub use stream::{Header, parity};

@@ -1,5 +1,6 @@
 pub mod Steps
 pub mod Settings
+pub mod Room
 pub mod Modules
 pub mod Encoding
 pub mod Series

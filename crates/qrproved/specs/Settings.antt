@@ -6,6 +6,7 @@ use Rattle.qr_bits.specs.declared.modes.Rule.{Rule}
 use Rattle.qr_bits.specs.declared.modes.Rule.TheVariants as rule
 use Rattle.qr_bits.specs.declared.interpretation.Interpretation.{Interpretation}
 use Rattle.qr_bits.specs.declared.interpretation.Interpretation.TheVariants.{Default, Eci, Gs1}
+use Rattle.qr_bits.specs.Interpretation.{MayAllowKanji}
 
 -- The level that the number `n` of a caller means: 0 is L, 1 is M, 2 is Q and 3 is H. Numbers above 3 are out of range
 -- [own]
@@ -21,12 +22,6 @@ rule_of n = if n == 0 then rule.Auto else (if n == 1 then rule.BytesOnly else ru
 -- interpretation, and 1,000,001 is GS1 data (ISO/IEC 18004:2015, 7.4.2, 7.4.8.2)
 abbrev pub interpretation_of : ℕ → Interpretation
 interpretation_of n = if nat_lt n 1000000 then Eci n else (if n == 1000000 then Default else Gs1)
-
--- Kanji mode may be allowed with this interpretation: it has no ECI, or ECI 20, which is Shift JIS. Readers take each
--- kanji pair for Shift JIS. Under another ECI, two bytes that are not one character could look like a kanji pair [own]
-abbrev pub MayAllowKanji : Interpretation → Type 0
-MayAllowKanji (Eci n) = n ≡ 20
-MayAllowKanji _ = Unit {0}
 
 -- The numbers are in range: the version is from 1 to 40, the level below 4, the rule below 3 and the interpretation
 -- below 1,000,002. If the rule allows kanji mode, the interpretation has no ECI, or that of Shift JIS. The command

@@ -7,6 +7,7 @@ ghost use Rattle.qr_bits.specs.declared.modes.Rule.{Rule};
 ghost use Rattle.qr_bits.specs.declared.interpretation.Fnc1.{Fnc1};
 ghost use Rattle.qr_bits.specs.declared.interpretation.Interpretation.{Interpretation};
 ghost use Rattle.qr_bits.specs.declared.interpretation.Item.{Item};
+ghost use Rattle.qr_bits.specs.Interpretation.{MayAllowKanji};
 ghost use Rattle.qr_bits.specs.declared.modes.Mode.{Mode};
 ghost use Rattle.qrproved.specs.Modules.{byte_of};
 ghost use Rattle.qrproved.specs.Drawing.{drawing_of, AreDrawingSettings};
@@ -14,7 +15,8 @@ ghost use Rattle.qrproved.specs.Mending.{spent_in, square_of_unknown, wrong_in};
 ghost use Rattle.qr_matrix.specs.Grid.{colour};
 ghost use Rattle.qr_drawing.specs.declared.drawing.Drawing.{Drawing};
 ghost use Rattle.qrproved.specs.Interpretation.{TellsFnc1, TellsKanji};
-ghost use Rattle.qrproved.specs.Settings.{AreSymbolSettings, MayAllowKanji, interpretation_of, level_of, rule_of};
+ghost use Rattle.qrproved.specs.Room.{mode_of};
+ghost use Rattle.qrproved.specs.Settings.{AreSymbolSettings, interpretation_of, level_of, rule_of};
 
 use crate::status::{
     CHECK, DONE, EMPTY, FIELDS, FORMAT, MEMORY, NO_DRAWING, ROOM, SEGMENTS, SETTINGS, SIDE,
@@ -43,18 +45,19 @@ pub fn statuses()
 {}
 
 /// Numbers have these meanings in calls. As a level, 0 to 3 are L, M, Q and H. As a rule, 0 to 2 are `Auto`,
-/// `BytesOnly` and `WithKanji`. As an interpretation, 0 to 999,999 are ECIs, 1,000,000 is none, and 1,000,001 is
-/// GS1 data. Among the ECIs, kanji mode may be allowed with 20 alone. `boost` is at most 1. FNC1 is told as 0 if
-/// there is none, as 1 if it is in first position, and as 2 with its application indicator if it is in second
-/// position. That a symbol has a segment in kanji mode is told as 1. A block with three misread codewords and five
-/// with a module that is not known uses up eleven error correction codewords, and has eight wrong codewords for a
-/// scanner. As a drawing, 0 to 3 are ASCII, ASCIIi, UTF8 and SVG. A module is written as 1 if it is dark and as 0
-/// if it is light, and in `qrproved_mend` it is 2 if it is not known. A drawing is made of 1 to 16 squares of 1 to
-/// 177 rows, with a margin of 0 to 100 modules.
+/// `BytesOnly` and `WithKanji`. As a mode, 0 to 3 are `Numeric`, `Alphanumeric`, `Byte` and `Kanji`. As an
+/// interpretation, 0 to 999,999 are ECIs, 1,000,000 is none, and 1,000,001 is GS1 data. Among the ECIs, kanji mode may
+/// be allowed with 20 alone. `boost` is at most 1. FNC1 is told as 0 if there is none, as 1 if it is in first position,
+/// and as 2 with its application indicator if it is in second position. That a symbol has a segment in kanji mode is
+/// told as 1. A block with three misread codewords and five with a module that is not known uses up eleven error
+/// correction codewords, and has eight wrong codewords for a scanner. As a drawing, 0 to 3 are ASCII, ASCIIi, UTF8 and
+/// SVG. A module is written as 1 if it is dark and as 0 if it is light, and in `qrproved_mend` it is 2 if it is not
+/// known. A drawing is made of 1 to 16 squares of 1 to 177 rows, with a margin of 0 to 100 modules.
 #[tactic(auto, unfolding(qr_matrix::specs::Grid::rows_of, qr_matrix::specs::Grid::colour))]
 pub fn numbers()
     ensures levels { map level_of (0 ∷ 1 ∷ 2 ∷ 3 ∷ []) ≡ Level.L ∷ Level.M ∷ Level.Q ∷ Level.H ∷ [] }
     ensures rules { map rule_of (0 ∷ 1 ∷ 2 ∷ []) ≡ Rule.Auto ∷ Rule.BytesOnly ∷ Rule.WithKanji ∷ [] }
+    ensures modes { map mode_of (0 ∷ 1 ∷ 2 ∷ 3 ∷ []) ≡ Mode.Numeric ∷ Mode.Alphanumeric ∷ Mode.Byte ∷ Mode.Kanji ∷ [] }
     ensures ecis { (n : ℕ) → n < 1000000 → interpretation_of n ≡ Interpretation.Eci n }
     ensures interpretations { map interpretation_of (1000000 ∷ 1000001 ∷ []) ≡ Interpretation.Default ∷ Interpretation.Gs1 ∷ [] }
     ensures kanji { (n : ℕ) → MayAllowKanji (Interpretation.Eci n) ↔ (n ≡ 20) }

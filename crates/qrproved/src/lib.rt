@@ -1,8 +1,8 @@
 //! A library for C, and for each language that can call C functions. In the comments of this crate a call is one of the
 //! library's functions, which `include/qrproved.h` declares. The calls encode an input as a symbol or a series, read
-//! symbols, mend damaged ones, draw squares of modules, and parse drawings. A call writes modules, bytes, ECI headers
-//! and texts to buffers of the caller, and numbers to a struct or a variable of the caller. It keeps no memory, so
-//! there is nothing to free.
+//! symbols, mend damaged ones, draw squares of modules, parse drawings, and say how much fits a symbol. A call writes
+//! modules, bytes, ECI headers and texts to buffers of the caller, and numbers to a struct or a variable of the caller.
+//! It keeps no memory, so there is nothing to free.
 //!
 //! The contracts of the calls hold if the caller fulfils the conditions under 'What the caller owes' in
 //! `docs/LIBRARY.md`. If a buffer is longer than the result, the bytes after the result stay as they are. On each
@@ -24,6 +24,7 @@
 //! - `modules`: squares of modules as bytes of a buffer
 //! - `parsing`: the call that parses a drawing
 //! - `reading`: the call that reads a symbol without error correction
+//! - `room`: the call that says how much fits a symbol
 //! - `samples`: symbols for the tests
 //! - `series`: the call that encodes an input as a series
 //! - `settings`: which numbers of a caller are allowed, and what they mean
@@ -41,6 +42,7 @@ mod mending;
 mod modules;
 mod parsing;
 mod reading;
+mod room;
 #[cfg(test)]
 mod samples;
 mod series;
@@ -54,5 +56,6 @@ pub use interpretation::QrprovedEci;
 pub use mending::{QrprovedMended, qrproved_mend};
 pub use parsing::{QrprovedDrawn, qrproved_parse_drawing};
 pub use reading::{QrprovedContent, qrproved_read};
+pub use room::qrproved_room;
 pub use series::{QrprovedSeries, qrproved_encode_series};
 pub use version::qrproved_version;

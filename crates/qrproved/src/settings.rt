@@ -1,10 +1,10 @@
 //! Turns the numbers of a caller into a version, a level, a rule and an interpretation. A C program can pass any
 //! number, so each is checked.
 
-ghost use Rattle.std.specs.Prelude.{◌≡◌, ◌<◌, ◌≤◌, ◌↔◌, IsTrue, SomeIff};
-ghost use Rattle.qrproved.specs.Settings.{AreSettings, MayAllowKanji, interpretation_of, level_of, rule_of};
+ghost use Rattle.std.specs.Prelude.{◌≡◌, ◌<◌, ◌≤◌, SomeIff};
+ghost use Rattle.qrproved.specs.Settings.{AreSettings, interpretation_of, level_of, rule_of};
 
-use qr_bits::{Interpretation, Rule};
+use qr_bits::{Interpretation, Rule, may_allow_kanji};
 use qr_layout::{Level, Version};
 
 /// The numbers of a caller, after they were checked.
@@ -21,9 +21,6 @@ pub(crate) struct Settings {
 const DEFAULT: u32 = 1_000_000;
 
 const GS1: u32 = 1_000_001;
-
-// The ECI of Shift JIS.
-const SHIFT_JIS: u32 = 20;
 
 pub(crate) fn between(number: u32, least: u8, most: u8) -> Option<u8>
     ensures { SomeIff result ((least ≤ number) × (number ≤ most)) number }
@@ -69,15 +66,6 @@ fn interpretation_of(number: u32) -> Option<Interpretation>
                 None
             }
         }
-    }
-}
-
-fn may_allow_kanji(interpretation: Interpretation) -> bool
-    ensures { IsTrue result ↔ MayAllowKanji interpretation }
-{
-    match interpretation {
-        Interpretation::Eci(number) => number == SHIFT_JIS,
-        Interpretation::Default | Interpretation::Gs1 => true,
     }
 }
 

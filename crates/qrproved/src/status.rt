@@ -21,8 +21,8 @@ pub(crate) const TOO_MANY: u8 = 3;
 /// Memory was refused.
 pub(crate) const MEMORY: u8 = 4;
 
-/// A number is out of range, or kanji mode is allowed with an ECI that is not the one of Shift JIS. In `qrproved_mend`:
-/// a module is more than 2.
+/// A number is out of range, or kanji mode is allowed with an ECI that is not the one of Shift JIS (in `qrproved_room`:
+/// asked for with such an ECI). In `qrproved_mend`: a module is more than 2.
 pub(crate) const SETTINGS: u8 = 5;
 
 /// A buffer is too short.

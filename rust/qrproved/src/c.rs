@@ -12,6 +12,7 @@ pub const SYMBOL_MAX: usize = 31329;
 pub const SERIES_MAX: usize = 501264;
 pub const BYTES_MAX: usize = 7089;
 pub const ECIS_MAX: usize = 1970;
+pub const WRONG_FORMAT_MAX: u8 = 3;
 
 /// Interpretations; a smaller number is that of an ECI.
 pub const INTERPRETATION_DEFAULT: Setting = 1_000_000;
@@ -165,5 +166,14 @@ extern "C" {
         modules: *mut c_uchar,
         modules_len: usize,
         drawn: *mut Drawn,
+    ) -> u8;
+
+    pub fn qrproved_room(
+        version: Setting,
+        level: Setting,
+        mode: Setting,
+        interpretation: Setting,
+        header: Setting,
+        count: *mut u32,
     ) -> u8;
 }

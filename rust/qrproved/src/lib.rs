@@ -151,6 +151,19 @@ pub enum Rule {
     WithKanji,
 }
 
+/// How the characters of a segment are written.
+#[derive(Clone, Copy, Debug, PartialEq, Eq, Hash)]
+pub enum Mode {
+    /// Digits.
+    Numeric,
+    /// Digits, capital letters, space and `$%*+-./:`.
+    Alphanumeric,
+    /// Any bytes.
+    Byte,
+    /// Shift JIS characters, of two bytes each.
+    Kanji,
+}
+
 /// How an input is encoded, beside its version and level. `Options::default()` asks for `boost`, and for no more.
 #[derive(Clone, Copy, Debug, PartialEq, Eq, Hash)]
 pub struct Options {
@@ -167,6 +180,22 @@ impl Options {
     pub fn of_text(text: &str) -> Options {
         Options {
             interpretation: Interpretation::of_text(text),
+            ..Options::default()
+        }
+    }
+
+    /// Returns the options of GS1 data: byte mode if they have a `%`, and else the default rule. In alphanumeric mode a `%` of GS1
+    /// data is written as `%%`, after which the reader zxing-cpp 1.4 loses bytes.
+    #[must_use]
+    pub fn of_gs1(data: &[u8]) -> Options {
+        let rule = if data.contains(&b'%') {
+            Rule::BytesOnly
+        } else {
+            Rule::Auto
+        };
+        Options {
+            rule,
+            interpretation: Interpretation::Gs1,
             ..Options::default()
         }
     }
@@ -362,7 +391,7 @@ impl Mended {
     #[must_use]
     pub fn is_scannable(&self) -> bool {
         self.wrong_for_a_scanner() <= u16::from(self.changed_allowed)
-            && self.wrong_format_least <= FORMAT_MOST
+            && self.wrong_format_least <= c::WRONG_FORMAT_MAX
     }
 
     /// Returns the codewords of the worst block that a scanner takes for wrong.
@@ -370,9 +399,6 @@ impl Mended {
         u16::from(self.worst_misread) + u16::from(self.worst_unknown)
     }
 }
-
-/// How many wrong modules of a copy of the format information a scanner corrects (ISO/IEC 18004:2015, 7.9).
-const FORMAT_MOST: u8 = 3;
 
 /// Encodes an input as the symbol of the least version from `smallest` on that holds it.
 ///
@@ -462,6 +488,43 @@ pub fn encode_series(
             modules: it.to_vec(),
         })
         .collect())
+}
+
+/// Returns how many characters of a mode fit a symbol if all of them are in one segment. Each has one byte, and in kanji mode two.
+/// Before the segment the symbol says the interpretation and, if `in_series` is true, has a structured append header.
+///
+/// ```
+/// use qrproved::{room, Interpretation, Level, Mode, Version};
+///
+/// assert_eq!(room(Version::MAX, Level::L, Mode::Byte, Interpretation::Default, false), Ok(2953));
+/// assert_eq!(room(Version::MAX, Level::L, Mode::Byte, Interpretation::Eci(26), false), Ok(2952));
+/// ```
+///
+/// # Errors
+///
+/// [`Error::Settings`] for an ECI above 999,999, and for one other than 20 beside [`Mode::Kanji`].
+pub fn room(
+    version: Version,
+    level: Level,
+    mode: Mode,
+    interpretation: Interpretation,
+    in_series: bool,
+) -> Result<u32, Error> {
+    let interpretation = interpretation.number()?;
+    check_library();
+    let mut count = 0;
+    // SAFETY: the version was checked, and only the call has the number to which it writes.
+    let status = unsafe {
+        c::qrproved_room(
+            c::Setting::from(version.0),
+            level as c::Setting,
+            mode as c::Setting,
+            interpretation,
+            c::Setting::from(in_series),
+            &mut count,
+        )
+    };
+    Error::of_status(status).map_or(Ok(count), Err)
 }
 
 /// Reads a symbol that is as it was drawn: no errors are corrected. Each byte but 0 is a dark module, and bytes past the last

@@ -1,7 +1,7 @@
 //! What the crate adds to the library: its types, and its refusals. The symbols themselves are compared by tests/library.
 use qrproved::{
-    draw, draw_squares, draw_svg, encode, encode_series, mend, parse_drawing, read, Content,
-    Drawing, Eci, Error, Fnc1, Header, Interpretation, Level, Options, Rule, SettingError,
+    draw, draw_squares, draw_svg, encode, encode_series, mend, parse_drawing, read, room, Content,
+    Drawing, Eci, Error, Fnc1, Header, Interpretation, Level, Mode, Options, Rule, SettingError,
     TextError, Version,
 };
 
@@ -467,6 +467,15 @@ fn interpretations_are_written() {
         (content.data.as_slice(), content.fnc1),
         (b"10A%B\x1D2112".as_slice(), Some(Fnc1::Gs1))
     );
+    for (data, rule) in [(b"10A%B", Rule::BytesOnly), (b"10A-B", Rule::Auto)] {
+        let options = Options::of_gs1(data);
+        assert_eq!((options.rule, options.boost), (rule, true));
+        let content = content_of(data, &options);
+        assert_eq!(
+            (content.data.as_slice(), content.fnc1),
+            (data.as_slice(), Some(Fnc1::Gs1))
+        );
+    }
     let shift_jis = Options {
         interpretation: Interpretation::Eci(20),
         ..WITH_KANJI
@@ -520,6 +529,42 @@ fn interpretations_are_refused() {
             refused(input, &interpreted(Interpretation::Gs1)),
             Error::Fields
         );
+    }
+}
+
+/// The counts of ISO/IEC 18004:2015, Table 7.
+#[test]
+fn as_many_characters_fit_as_table_7_says() {
+    let modes = [Mode::Numeric, Mode::Alphanumeric, Mode::Byte, Mode::Kanji];
+    let rows = [
+        (1, Level::L, [41, 25, 17, 10]),
+        (10, Level::M, [513, 311, 213, 131]),
+        (27, Level::Q, [1933, 1172, 805, 496]),
+        (40, Level::H, [3057, 1852, 1273, 784]),
+    ];
+    for (number, level, counts) in rows {
+        let version = Version::new(number).unwrap();
+        let found = modes.map(|mode| room(version, level, mode, Interpretation::Default, false));
+        assert_eq!(found, counts.map(Ok), "{number}-{level}");
+    }
+    // 152 bits, less 20 for the header, 28 for the ECI and 12 for the mode and the count
+    let headed = room(
+        Version::MIN,
+        Level::L,
+        Mode::Byte,
+        Interpretation::Eci(999_999),
+        true,
+    );
+    assert_eq!(headed, Ok(11));
+    for (number, mode) in [(26, Mode::Kanji), (1_000_000, Mode::Byte)] {
+        let refused = room(
+            Version::MIN,
+            Level::L,
+            mode,
+            Interpretation::Eci(number),
+            false,
+        );
+        assert_eq!(refused, Err(Error::Settings), "ECI {number}");
     }
 }
 
