@@ -31,12 +31,12 @@ returns c =
     let fit = c.in_ok-fit.ensures.fit in
     let level = c.level_for-level.ensures in
     let r = c.symbol_at.result in
-    let highest = λ boost. highest-fits _ c.args.asked.least.level _ _ _ _ _ _ (omega arith) fit.version.most fit.chosen level.least level.room (level.highest boost) in
     let made = MatchResult-weaker r c.symbol_at.ensures (λ s of_rule. of_rule c.args.writing.rule c.args.input.now fit.chosen) (λ e _. tt) in
     let refused = MatchResult-weaker r c.symbol_at.ensures (λ s _. tt) (λ e memory. memory) in
     let told = refused-only _ _ _ _ _ _ _ r c.in_ok-fit.ensures.refused fit.version refused in record {
       symbol = symbol-found _ _ _ _ _ _ _ _ r fit.version level.same made;
-      boosted = boosted-found _ _ _ _ _ _ _ _ r fit.version highest made;
+      boosted = boosted-found _ _ _ _ _ _ _ _ r fit.version
+          (λ boost. highest-fits _ c.args.asked.least.level _ _ _ _ _ _ (omega arith) fit.version.most fit.chosen level.least level.room (level.highest boost)) made;
       read = symbol-back _ _ _ _ _ _ (omega arith) fit.version.most c.requires.written made;
       empty = told.empty;
       too_long = told.too_long;
