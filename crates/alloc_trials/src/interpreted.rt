@@ -6,11 +6,11 @@ use crate::bits::HELLO_WORLD;
 use crate::symbols::are_equal;
 use qr_bits::{
     BitFault, EciChange, Fnc1, Interpretation, Mode, ParseFault, Parsed, Rule, Segment, Segmented,
-    codewords, covers, may_write, parse, segments,
+    Writing, codewords, covers, may_write, parse, segments,
 };
-use qr_layout::{Level, Version};
+use qr_layout::{Level, Size, Version};
 use qr_symbol::{
-    EncodeFault, ReadFault, Symbol, build, encode, encode_boosted, encode_series, interleave,
+    Asked, EncodeFault, ReadFault, Symbol, build, encode, encode_as, encode_series, interleave,
     read_symbol,
 };
 use std::alloc::{AllocError, Global};
@@ -136,14 +136,18 @@ pub fn encoded(alloc: Global) -> Result<Answer, AllocError> {
 // The ECI header takes 12 bits, and the segment 74. Level Q has room for 104 bits, and level H for 72.
 pub fn boosted(alloc: Global) -> Result<Answer, AllocError> {
     let input = Vec::from_slice(alloc, &HELLO_WORLD)?;
-    let answer = match encode_boosted(
-        alloc,
-        &input,
-        Level::L,
-        Version::FIRST,
-        Rule::Auto,
-        Interpretation::Eci(26),
-    ) {
+    let asked = Asked {
+        least: Size {
+            version: Version::FIRST,
+            level: Level::L,
+        },
+        boost: true,
+    };
+    let writing = Writing {
+        rule: Rule::Auto,
+        interpretation: Interpretation::Eci(26),
+    };
+    let answer = match encode_as(alloc, &input, asked, writing) {
         Ok(symbol) => Answer::of(symbol.version.number() == 1 && symbol.level == Level::Q),
         Err(EncodeFault::Memory) => ENCODE_OUT,
         Err(_) => Answer::Other,

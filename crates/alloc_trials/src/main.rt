@@ -71,7 +71,7 @@ static NAMES: [&str; 43] = [
     "Parsed::segments of GS1 data with an ECI",
     "encode of GS1 data",
     "encode_series of GS1 data",
-    "encode_boosted with an ECI",
+    "encode_as with boost and an ECI",
     "read_symbol of GS1 data with an ECI",
 ];
 
@@ -126,7 +126,7 @@ fn interpreted_trial(alloc: Global, name: &str) -> Result<Answer, AllocError> {
         "Parsed::segments of GS1 data with an ECI" => interpreted::segments_parsed(alloc),
         "encode of GS1 data" => interpreted::encoded(alloc),
         "encode_series of GS1 data" => interpreted::encoded_series(alloc),
-        "encode_boosted with an ECI" => interpreted::boosted(alloc),
+        "encode_as with boost and an ECI" => interpreted::boosted(alloc),
         "read_symbol of GS1 data with an ECI" => interpreted::read(alloc),
         _ => Ok(Answer::Other),
     }

@@ -10,10 +10,9 @@
 //! choices. A choice is a number: 4 times the sum by which a mode is judged, plus the rank of the mode
 //! (`run_state.rt`).
 //!
-//! In all functions the argument `kanji` says whether the rule allows kanji mode, `pair` whether the byte may begin a
-//! kanji pair, and `gs1` whether the bytes are GS1 data. The functions with these arguments are inlined in their
-//! callers. Where `kanji` is the constant `false`, the compiler leaves out the tests for pairs, and where `gs1` is the
-//! constant `false`, those for `%` and for the byte that separates fields.
+//! In all functions the argument `pair` says whether the byte may begin a kanji pair. The functions with this argument
+//! or with a `Case` are inlined in their callers. Where the case has the constant `false` in `kanji`, the compiler leaves
+//! out the tests for pairs, and where it has `false` in `gs1`, those for `%` and for the byte that separates fields.
 
 ghost use Rattle.std.specs.Prelude.{◌≡◌, ◌&&◌, ◌+◌, ◌*◌, ◌/◌, ◌%◌, ◌<◌, ◌≤◌, ℕ, Bool, true, false, length, reverse, IfOk, vec_len};
 ghost use Rattle.qr_bits.specs.declared.modes.Mode.{Mode};
@@ -38,6 +37,40 @@ const FLAG: u32 = 1 << 18;
 
 // Stands for a choice that is not allowed, and is greater than every choice that is allowed.
 const NO_CHOICE: u32 = u32::MAX;
+
+// A rule that allows more than byte mode, and what the table of best modes depends on beside it.
+#[derive(Clone, Copy)]
+pub(crate) struct Case {
+    pub rule: Rule,
+    // Whether the rule allows kanji mode.
+    pub kanji: bool,
+    // Whether the bytes are GS1 data.
+    pub gs1: bool,
+}
+
+pub(crate) const AUTO: Case = Case {
+    rule: Rule::Auto,
+    kanji: false,
+    gs1: false,
+};
+
+pub(crate) const WITH_KANJI: Case = Case {
+    rule: Rule::WithKanji,
+    kanji: true,
+    gs1: false,
+};
+
+const GS1_AUTO: Case = Case {
+    rule: Rule::Auto,
+    kanji: false,
+    gs1: true,
+};
+
+const GS1_WITH_KANJI: Case = Case {
+    rule: Rule::WithKanji,
+    kanji: true,
+    gs1: true,
+};
 
 #[inline(always)]
 fn ranked(rank: u32) -> Mode
@@ -246,35 +279,34 @@ pub(crate) fn is_flagged(row: u32) -> bool
 #[inline(always)]
 pub(crate) fn row_of(
     first_choices: &FirstChoices,
-    rule: Rule,
+    case: Case,
     byte: u8,
     pair: bool,
-    gs1: bool,
     rest: &PerState,
 ) -> (u32, PerState)
     requires { IsSmall rest.now }
-    ensures flag { is_flagged result.0 ≡ (gs1 && is_escaped Mode.Alphanumeric byte) }
-    ensures row { (i : Interpretation) → gs1 ≡ is_gs1 i
-        → IsRow i first_choices.now.version rule byte pair rest.now result.0 result.1 }
+    ensures flag { is_flagged result.0 ≡ (case.gs1 && is_escaped Mode.Alphanumeric byte) }
+    ensures row { (i : Interpretation) → case.gs1 ≡ is_gs1 i
+        → IsRow i first_choices.now.version case.rule byte pair rest.now result.0 result.1 }
 {
     // The function `choices` is inlined at each of the calls below. Where an argument is a constant, the compiler
     // leaves out the cases that the constant excludes. A byte that may be written in numeric mode may be written in
     // alphanumeric mode too, so the first case passes `true` for both.
-    let digit = may_begin(rule, byte, Mode::Numeric);
+    let digit = may_begin(case.rule, byte, Mode::Numeric);
     if digit && !pair {
         let characters = character_choices(first_choices, true, false, rest);
         return choices(first_choices, true, &characters, false, rest);
     }
     // Bytes whose rows have a flag are rare, and so are bytes that may begin a pair. So the same code serves both.
-    let escaped = gs1 && !is_itself(byte);
+    let escaped = case.gs1 && !is_itself(byte);
     if pair || escaped {
-        let may = may_be_character(gs1, rule, byte);
-        let doubled = is_doubled(gs1, byte);
+        let may = may_be_character(case.gs1, case.rule, byte);
+        let doubled = is_doubled(case.gs1, byte);
         let characters = character_choices(first_choices, may, doubled, rest);
         let (row, numbers) = choices(first_choices, digit, &characters, pair, rest);
         return (flagged(row, escaped), numbers);
     }
-    if may_begin(rule, byte, Mode::Alphanumeric) {
+    if may_begin(case.rule, byte, Mode::Alphanumeric) {
         let characters = character_choices(first_choices, true, false, rest);
         choices(first_choices, false, &characters, false, rest)
     } else {
@@ -294,15 +326,15 @@ pub(crate) fn begins_with_pair(rule: Rule, bytes: &[u8]) -> bool
     }
 }
 
-// Whether the rule allows kanji mode, as `kanji` says, and the first two bytes are a kanji pair. Where `kanji` is the
-// constant `false`, the compiler leaves out the call of `begins_with_pair`.
+// Whether the rule allows kanji mode, and the first two bytes are a kanji pair. Where `kanji` is the constant `false`,
+// the compiler leaves out the call of `begins_with_pair`.
 #[tactic(auto, unfolding(crate::specs::Steps::RunState::begins_with_pair))]
 #[inline(always)]
-fn pair_at(kanji: bool, rule: Rule, bytes: &[u8]) -> bool
-    requires { kanji ≡ may_use rule Mode.Kanji }
-    ensures { result ≡ begins_with_pair rule is_kanji_pair bytes.now }
+fn pair_at(case: Case, bytes: &[u8]) -> bool
+    requires { case.kanji ≡ may_use case.rule Mode.Kanji }
+    ensures { result ≡ begins_with_pair case.rule is_kanji_pair bytes.now }
 {
-    kanji && begins_with_pair(rule, bytes)
+    case.kanji && begins_with_pair(case.rule, bytes)
 }
 
 // Returns the table: a row for each byte of `input`. The row of the last byte comes first, so the first call of `pop`
@@ -321,8 +353,8 @@ pub(crate) fn best_modes(
         × IsBestTable Interpretation.Default version rule is_kanji_pair input.now (reverse t.items)) }
 {
     match rule {
-        Rule::WithKanji => best_rows(alloc, input, version, Rule::WithKanji, true, false),
-        _ => best_rows(alloc, input, version, Rule::Auto, false, false),
+        Rule::WithKanji => best_rows(alloc, input, version, WITH_KANJI),
+        _ => best_rows(alloc, input, version, AUTO),
     }
 }
 
@@ -343,33 +375,31 @@ pub(crate) fn best_gs1_modes(
         × AreFlagged input.now (reverse t.items)) }
 {
     match rule {
-        Rule::WithKanji => best_rows(alloc, input, version, Rule::WithKanji, true, true),
-        _ => best_rows(alloc, input, version, Rule::Auto, false, true),
+        Rule::WithKanji => best_rows(alloc, input, version, GS1_WITH_KANJI),
+        _ => best_rows(alloc, input, version, GS1_AUTO),
     }
 }
 
-// Returns the table of `best_gs1_modes` if `gs1` is true, and otherwise that of `best_modes`.
+// Returns the table of `best_gs1_modes` if the case is one of GS1 data, and otherwise that of `best_modes`.
 #[inline(always)]
 fn best_rows(
     alloc: Global,
     input: &[u8],
     version: Version,
-    rule: Rule,
-    kanji: bool,
-    gs1: bool,
+    case: Case,
 ) -> Result<Vec<u32>, AllocError>
     requires short { length input.now ≤ INPUT_MAX }
-    requires kanji { kanji ≡ may_use rule Mode.Kanji }
-    ensures { IfOk result (λ t. (vec_len t ≡ length input.now) × ((i : Interpretation) → gs1 ≡ is_gs1 i
-        → IsBestTable i version rule is_kanji_pair input.now (reverse t.items))
-        × (gs1 ≡ true → AreFlagged input.now (reverse t.items))) }
+    requires kanji { case.kanji ≡ may_use case.rule Mode.Kanji }
+    ensures { IfOk result (λ t. (vec_len t ≡ length input.now) × ((i : Interpretation) → case.gs1 ≡ is_gs1 i
+        → IsBestTable i version case.rule is_kanji_pair input.now (reverse t.items))
+        × (case.gs1 ≡ true → AreFlagged input.now (reverse t.items))) }
 {
     let first_choices = FirstChoices::of(version);
     let mut table = Vec::with_capacity(alloc, input.len())?;
     let mut rest = NO_BITS;
     for i in (0..input.len()).rev() {
-        let pair = pair_at(kanji, rule, &input[i..]);
-        let (modes, numbers) = row_of(&first_choices, rule, input[i], pair, gs1, &rest);
+        let pair = pair_at(case, &input[i..]);
+        let (modes, numbers) = row_of(&first_choices, case, input[i], pair, &rest);
         table.push(modes)?;
         rest = numbers;
     }

@@ -19,6 +19,7 @@
 //! - `run_state`: the nine states, and what a byte adds to the bits in each
 //! - `segmentation`: the segments of fewest bits
 //! - `stream`: the bit stream, with a structured append header (`Header`)
+//! - `writing`: a rule and an interpretation together
 #![tactic(auto)]
 
 mod best_modes;
@@ -36,6 +37,7 @@ mod room;
 mod run_state;
 mod segmentation;
 mod stream;
+mod writing;
 
 pub use fault::{BitFault, ParseFault};
 pub use folding::fold;
@@ -43,7 +45,7 @@ pub use interpretation::{
     Designator, EciChange, Fnc1, Interpretation, Item, interpretation_bits, may_allow_kanji,
     may_write,
 };
-pub use longest_prefix::longest_fit;
+pub use longest_prefix::{longest_fit, longest_part};
 pub use lower_bound::least_bits;
 pub use modes::{INPUT_MAX, Mode, Rule};
 pub use padding::codewords;
@@ -51,3 +53,4 @@ pub use parsing::{Parsed, parse};
 pub use room::most_characters;
 pub use segmentation::{Segment, Segmented, bit_len, covers, segments};
 pub use stream::{Header, parity};
+pub use writing::Writing;

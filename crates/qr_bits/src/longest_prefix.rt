@@ -16,27 +16,28 @@ ghost use Rattle.qr_bits.specs.Padding.{room_of};
 ghost use Rattle.qr_bits.specs.declared.interpretation.Interpretation.{Interpretation};
 ghost use Rattle.qr_bits.specs.Interpretation.{MayWrite};
 
-use crate::best_modes::row_of;
+use crate::best_modes::{AUTO, Case, WITH_KANJI, row_of};
 use crate::fault::BitFault;
 use crate::interpretation::{Interpretation, interpretation_bits, is_gs1};
 use crate::modes::{INPUT_MAX, Mode, Rule, count_width, is_kanji_pair, may_use};
 use crate::run_state::{FirstChoices, NO_BITS, PerState};
 use crate::stream::HEADER_BITS;
-use qr_layout::{Level, Version};
+use crate::writing::Writing;
+use qr_layout::{Level, Size, Version};
 use std::alloc::Global;
 
-// Whether the rule allows kanji mode (`kanji` is true exactly if it does) and the last two bytes are a kanji pair.
+// Whether the rule allows kanji mode and the last two bytes are a kanji pair.
 #[tactic(auto, using(crate::proofs::lemmas::longest_prefix::ends_at, crate::proofs::lemmas::longest_prefix::ends_short))]
 #[inline(always)]
-fn ends_with_pair(kanji: bool, rule: Rule, bytes: &[u8]) -> bool
-    requires { kanji ≡ may_use rule Mode.Kanji }
-    ensures { result ≡ begins_with_pair rule (swapped is_kanji_pair) (reverse bytes.now) }
+fn ends_with_pair(case: Case, bytes: &[u8]) -> bool
+    requires { case.kanji ≡ may_use case.rule Mode.Kanji }
+    ensures { result ≡ begins_with_pair case.rule (swapped is_kanji_pair) (reverse bytes.now) }
 {
     let len = bytes.len();
     if len < 2 {
         return false;
     }
-    kanji && is_kanji_pair(bytes[len - 2], bytes[len - 1])
+    case.kanji && is_kanji_pair(bytes[len - 2], bytes[len - 1])
 }
 
 // The most bytes that a segment in byte mode can have in `room` bits (ISO/IEC 18004:2015, 7.4.5). Its two indicators
@@ -69,27 +70,18 @@ fn fewest(numbers: &PerState) -> u32
 // pair takes in kanji mode. A longer prefix takes the bits of the choice that `rest` has for one of the states, plus
 // the bits that its further bytes add. So if the choices for all states have more than `room` bits, no longer prefix
 // can fit, and the loop ends.
-//
-// As in `best_modes.rt`, `kanji` says whether the rule allows kanji mode, and `gs1` whether the input is GS1 data.
 #[inline(always)]
-fn longest_by_rows(
-    input: &[u8],
-    version: Version,
-    rule: Rule,
-    kanji: bool,
-    gs1: bool,
-    room: u64,
-) -> usize
+fn longest_by_rows(input: &[u8], version: Version, case: Case, room: u64) -> usize
     requires short { length input.now ≤ INPUT_MAX }
-    requires kanji { kanji ≡ may_use rule Mode.Kanji }
-    ensures { (i : Interpretation) → gs1 ≡ is_gs1 i → IsLongestFit i version rule input.now room result }
+    requires kanji { case.kanji ≡ may_use case.rule Mode.Kanji }
+    ensures { (i : Interpretation) → case.gs1 ≡ is_gs1 i → IsLongestFit i version case.rule input.now room result }
 {
     let first_choices = FirstChoices::of(version);
     let mut longest = 0;
     let mut rest = NO_BITS;
     for i in 0..input.len() {
-        let pair = ends_with_pair(kanji, rule, &input[..i + 1]);
-        let (_, numbers) = row_of(&first_choices, rule, input[i], pair, gs1, &rest);
+        let pair = ends_with_pair(case, &input[..i + 1]);
+        let (_, numbers) = row_of(&first_choices, case, input[i], pair, &rest);
         rest = numbers;
         if u64::from(rest.start / 4) <= room {
             longest = i + 1;
@@ -112,23 +104,52 @@ fn room(version: Version, level: Level, interpretation: Interpretation) -> u64
 }
 
 // The length of the longest prefix of `input`, which is GS1 data, that takes at most `room` bits. This function is not
-// inlined, so that the compiled code of `longest_fit` for other data does not depend on it.
+// inlined, so that the compiled code of `longest_part` for other data does not depend on it.
 #[inline(never)]
 fn longest_gs1_prefix(input: &[u8], version: Version, rule: Rule, room: u64) -> usize
     requires { length input.now ≤ INPUT_MAX }
     ensures { (i : Interpretation) → true ≡ is_gs1 i → IsLongestFit i version rule input.now room result }
 {
-    let kanji = may_use(rule, Mode::Kanji);
-    longest_by_rows(input, version, rule, kanji, true, room)
+    let case = Case {
+        rule,
+        kanji: may_use(rule, Mode::Kanji),
+        gs1: true,
+    };
+    longest_by_rows(input, version, case, room)
 }
 
-/// Returns the length in bytes of the longest prefix of `input` that fits one symbol of a series: in this version, at
-/// this level, in modes that `rule` allows, and after a structured append header and the ECI header or FNC1 of the
-/// interpretation (ISO/IEC 18004:2015, 7.4.2, 7.4.8.2, 8.1). `may_write` says which inputs can be written with the
-/// interpretation.
+/// Returns the length in bytes of the longest prefix of `input` that fits one symbol of a series: in the version and at
+/// the level of `size`, in modes that the rule allows, and after a structured append header and the ECI header or FNC1
+/// of the interpretation (ISO/IEC 18004:2015, 7.4.2, 7.4.8.2, 8.1). `may_write` says which inputs can be written with
+/// the interpretation.
 ///
-/// If `rule` allows kanji mode, a prefix may fit although a shorter one does not. The first byte of a kanji pair may
+/// If the rule allows kanji mode, a prefix may fit although a shorter one does not. The first byte of a kanji pair may
 /// take more bits alone, in byte mode, than the pair takes in kanji mode.
+pub fn longest_part(input: &[u8], size: Size, writing: Writing) -> usize
+    requires short { length input.now ≤ INPUT_MAX }
+    requires written { MayWrite writing.interpretation input.now }
+    ensures { IsLongestFit writing.interpretation size.version writing.rule input.now
+        (room_of size.version size.level writing.interpretation) result }
+{
+    let version = size.version;
+    let room = room(version, size.level, writing.interpretation);
+    let most = bytes_in(room, version);
+    // Each rule allows byte mode, so the whole input fits as one segment in byte mode.
+    if input.len() <= most {
+        return input.len();
+    }
+    match writing.rule {
+        Rule::BytesOnly => most,
+        _ if is_gs1(writing.interpretation) => {
+            longest_gs1_prefix(input, version, writing.rule, room)
+        }
+        Rule::Auto => longest_by_rows(input, version, AUTO, room),
+        Rule::WithKanji => longest_by_rows(input, version, WITH_KANJI, room),
+    }
+}
+
+/// Returns what `longest_part` returns, which is the length in bytes of the longest prefix of `input` that fits one
+/// symbol of a series (ISO/IEC 18004:2015, 7.4.2, 7.4.8.2, 8.1).
 ///
 /// # Notes
 ///
@@ -147,16 +168,10 @@ pub fn longest_fit(
     ensures { IsOkAnd result (λ n.
         IsLongestFit interpretation v rule input.now (room_of v level interpretation) n) }
 {
-    let room = room(v, level, interpretation);
-    let most = bytes_in(room, v);
-    // Each rule allows byte mode, so the whole input fits as one segment in byte mode.
-    if input.len() <= most {
-        return Ok(input.len());
-    }
-    match rule {
-        Rule::BytesOnly => Ok(most),
-        _ if is_gs1(interpretation) => Ok(longest_gs1_prefix(input, v, rule, room)),
-        Rule::Auto => Ok(longest_by_rows(input, v, rule, false, false, room)),
-        Rule::WithKanji => Ok(longest_by_rows(input, v, rule, true, false, room)),
-    }
+    let size = Size { version: v, level };
+    let writing = Writing {
+        rule,
+        interpretation,
+    };
+    Ok(longest_part(input, size, writing))
 }

@@ -8,7 +8,7 @@ use thiserror::Error;
 
 /// Why an input is not encoded. `encode` checks for `Empty` first, and then for `TooLong`. `encode_series` checks for
 /// `Empty` first, and then for `TooMany`. Memory is requested only after the check for `Empty`. For more than 7,089
-/// bytes, `encode` and `encode_boosted` return `TooLong` before they request memory.
+/// bytes, `encode` and `encode_as` return `TooLong` before they request memory.
 #[derive(Clone, Copy, Debug, PartialEq, Eq, Error)]
 pub enum EncodeFault {
     #[error("input is empty")]

@@ -174,16 +174,16 @@ pub fn symbols_are_one()
     ensures { SymbolsAreOne }
 {}
 
-/// For a given lowest level, rule, interpretation and smallest version, `encode_boosted` can make at most one symbol of
-/// an input. This symbol has the least version, from the smallest on, that the input fits at the lowest level, and the
-/// highest level at which the input fits this version.
+/// For a given lowest level, rule, interpretation and smallest version, `encode_as` with `boost` can make at most one
+/// symbol of an input. This symbol has the least version, from the smallest on, that the input fits at the lowest
+/// level, and the highest level at which the input fits this version.
 pub fn boosted_symbols_are_one()
     ensures { BoostedSymbolsAreOne }
 {}
 
-/// Take a symbol that `encode_boosted` makes. If `encode` is given the level of this symbol, and the version of this
-/// symbol as the smallest, it makes the same symbol of the same input. So the laws about symbols that `encode` makes
-/// hold for this symbol too.
+/// Take a symbol that `encode_as` makes with `boost`. If `encode` is given the level of this symbol, and the version of
+/// this symbol as the smallest, it makes the same symbol of the same input. So the laws about symbols that `encode`
+/// makes hold for this symbol too.
 pub fn boosted_symbols_are_symbols()
     ensures { (x : List ℕ) (l k : Level) (smallest : ℕ) (rule : Rule) (i : Interpretation) (v mask : ℕ) (g : Grid)
         → IsBoostedSymbol smallest l rule i x v k mask g → IsSymbol v k rule i x v mask g }

@@ -57,13 +57,13 @@ mod symbol;
 mod version_choice;
 mod words;
 
-pub use encoding::{encode, encode_boosted};
+pub use encoding::{Asked, encode, encode_as};
 pub use fault::{EncodeFault, ReadFault};
 pub use interleaving::{BlockSizes, deinterleave, interleave};
 pub use joining::{join, read_series};
 pub use mask::build;
-pub use qr_bits::{INPUT_MAX, Interpretation, Rule, may_write};
-pub use qr_layout::{Level, Version};
+pub use qr_bits::{INPUT_MAX, Interpretation, Rule, Writing, may_write};
+pub use qr_layout::{Level, Size, Version};
 pub use qr_matrix::{Matrix, penalty};
 pub use reading::{read_codewords, read_symbol, read_unmasked};
 pub use series::encode_series;

@@ -15,16 +15,16 @@ ghost use Rattle.qr_symbol.specs.Joining.{AreInterpreted, IsJoined};
 ghost use Rattle.qr_symbol.specs.Steps.Series.{AreLengths, parts_of};
 
 use crate::canvas::Canvas;
-use crate::encoding::{symbol_at, symbol_on};
+use crate::encoding::{Filling, symbol_at, symbol_on};
 use crate::fault::EncodeFault;
 use crate::symbol::Symbol;
 use crate::version_choice::{SYMBOL_BYTES_MAX, needed_bits};
 use arrayvec::ArrayVec;
 use qr_bits::{
-    Header, INPUT_MAX, Interpretation, Rule, interpretation_bits, least_bits, longest_fit, parity,
-    segments,
+    Header, INPUT_MAX, Interpretation, Rule, Writing, interpretation_bits, least_bits,
+    longest_part, parity, segments,
 };
-use qr_layout::{Level, Version};
+use qr_layout::{Level, Size, Version};
 use std::alloc::Global;
 
 /// Encodes the input as a series of at most 16 symbols of one version and level (ISO/IEC 18004:2015, 8). An input that
@@ -72,21 +72,18 @@ pub fn encode_series(
     if input.is_empty() {
         return Err(EncodeFault::Empty);
     }
-    if let Some(symbol) = plain_symbol(alloc, input, v, level, rule, interpretation)? {
+    let writing = Writing {
+        rule,
+        interpretation,
+    };
+    if let Some(symbol) = plain_symbol(alloc, input, Size { version: v, level }, writing)? {
         let mut symbols = Vec::new(alloc);
         symbols.push(symbol)?;
         return Ok(symbols);
     }
-    let lengths = part_lengths(alloc, input, v, level, rule, interpretation)?;
+    let lengths = part_lengths(input, Size { version: v, level }, writing)?;
     let mut canvas = Canvas::new(alloc, v, level)?;
-    symbols_on(
-        alloc,
-        &mut canvas,
-        input,
-        lengths.as_slice(),
-        rule,
-        interpretation,
-    )
+    symbols_on(alloc, &mut canvas, input, lengths.as_slice(), writing)
 }
 
 // The symbol without a structured append header, or `None` if the input does not fit such a symbol. Before the input is
@@ -96,52 +93,61 @@ pub fn encode_series(
 fn plain_symbol(
     alloc: Global,
     input: &[u8],
-    version: Version,
-    level: Level,
-    rule: Rule,
-    interpretation: Interpretation,
+    size: Size,
+    writing: Writing,
 ) -> Result<Option<Symbol>, EncodeFault>
     requires short { length input.now ≤ INPUT_MAX }
-    requires number { InterpretationFits interpretation }
-    requires written { MayWrite interpretation input.now }
+    requires number { InterpretationFits writing.interpretation }
+    requires written { MayWrite writing.interpretation input.now }
     ensures { MatchResult result (λ found. MatchOption found
-        (FitsVersion version level rule interpretation input.now → ⊥)
-        (λ s. IsSymbolOf version level rule interpretation input.now None s))
+        (FitsVersion size.version size.level writing.rule writing.interpretation input.now → ⊥)
+        (λ s. IsSymbolOf size.version size.level writing.rule writing.interpretation input.now None s))
         (λ e. e ≡ EncodeFault.Memory) }
 {
     if input.len() > SYMBOL_BYTES_MAX {
         return Ok(None);
     }
-    if !matches!(rule, Rule::BytesOnly)
-        && u64::from(least_bits(input)) + interpretation_bits(interpretation)
-            > version.capacity(level)
+    let capacity = size.version.capacity(size.level);
+    if !matches!(writing.rule, Rule::BytesOnly)
+        && u64::from(least_bits(input)) + interpretation_bits(writing.interpretation) > capacity
     {
         return Ok(None);
     }
-    let segmented = segments(alloc, input, version, rule, interpretation)?;
-    if needed_bits(&segmented, interpretation, version) > version.capacity(level) {
+    let segmented = segments(
+        alloc,
+        input,
+        size.version,
+        writing.rule,
+        writing.interpretation,
+    )?;
+    let filling = Filling {
+        segmented,
+        header: None,
+        interpretation: writing.interpretation,
+    };
+    let needed = needed_bits(&filling.segmented, filling.interpretation, size.version);
+    if needed > capacity {
         return Ok(None);
     }
-    let symbol = symbol_at(alloc, &segmented, None, interpretation, version, level)?;
+    let symbol = symbol_at(alloc, &filling, size)?;
     Ok(Some(symbol))
 }
 
 // The numbers of bytes of the parts into which the input is cut. No symbol contains more than 7,089 bytes. So for each
 // part only the first 7,089 bytes of the remaining input are examined.
 fn part_lengths(
-    alloc: Global,
     input: &[u8],
-    version: Version,
-    level: Level,
-    rule: Rule,
-    interpretation: Interpretation,
+    size: Size,
+    writing: Writing,
 ) -> Result<ArrayVec<usize, 16>, EncodeFault>
     requires short { length input.now ≤ INPUT_MAX }
-    requires written { MayWrite interpretation input.now }
-    ensures { MatchResult result (λ ns. AreLengths version level rule interpretation input.now ns.items)
-        (λ e. (e ≡ EncodeFault.Memory) ⊎ ((e ≡ EncodeFault.TooMany)
-        × ((ps : List (List ℕ)) → AreParts version level rule interpretation input.now ps → 16 < length ps))) }
+    requires written { MayWrite writing.interpretation input.now }
+    ensures { MatchResult result
+        (λ ns. AreLengths size.version size.level writing.rule writing.interpretation input.now ns.items)
+        (λ e. (e ≡ EncodeFault.TooMany) × ((ps : List (List ℕ))
+        → AreParts size.version size.level writing.rule writing.interpretation input.now ps → 16 < length ps)) }
 {
+    let Size { version, level } = size;
     let mut lengths = ArrayVec::new();
     let mut rest = input;
     while !rest.is_empty() {
@@ -149,7 +155,7 @@ fn part_lengths(
             return Err(EncodeFault::TooMany);
         }
         let most = &rest[..rest.len().min(SYMBOL_BYTES_MAX)];
-        let len = longest_fit(alloc, most, version, level, rule, interpretation)?;
+        let len = longest_part(most, Size { version, level }, writing);
         lengths.push(len);
         let (_, after) = rest.split_at(len);
         rest = after;
@@ -164,17 +170,17 @@ fn symbols_on(
     canvas: &mut Canvas,
     input: &[u8],
     lengths: &[usize],
-    rule: Rule,
-    interpretation: Interpretation,
+    writing: Writing,
 ) -> Result<Vec<Symbol>, EncodeFault>
     requires short { length input.now ≤ INPUT_MAX }
-    requires number { InterpretationFits interpretation }
-    requires written { MayWrite interpretation input.now }
-    requires parts { AreLengths canvas.old.version canvas.old.level rule interpretation input.now lengths.now }
+    requires number { InterpretationFits writing.interpretation }
+    requires written { MayWrite writing.interpretation input.now }
+    requires parts { AreLengths canvas.old.version canvas.old.level writing.rule writing.interpretation input.now
+        lengths.now }
     requires some { 0 < length lengths.now }
     requires few { length lengths.now ≤ 16 }
-    ensures { MatchResult result (λ ss. AreSymbolsFrom canvas.old.version canvas.old.level rule interpretation
-        (length lengths.now - 1) (parity_of input.now) 0 (parts_of input.now lengths.now)
+    ensures { MatchResult result (λ ss. AreSymbolsFrom canvas.old.version canvas.old.level writing.rule
+        writing.interpretation (length lengths.now - 1) (parity_of input.now) 0 (parts_of input.now lengths.now)
         ss.items) (λ e. e ≡ EncodeFault.Memory) }
 {
     let version = canvas.version;
@@ -191,8 +197,13 @@ fn symbols_on(
             last,
             parity,
         };
-        let segmented = segments(alloc, part, version, rule, interpretation)?;
-        let symbol = symbol_on(alloc, canvas, &segmented, Some(header), interpretation)?;
+        let segmented = segments(alloc, part, version, writing.rule, writing.interpretation)?;
+        let filling = Filling {
+            segmented,
+            header: Some(header),
+            interpretation: writing.interpretation,
+        };
+        let symbol = symbol_on(alloc, canvas, &filling)?;
         symbols.push(symbol)?;
         rest = after;
     }

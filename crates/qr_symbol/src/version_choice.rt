@@ -18,9 +18,10 @@ ghost use Rattle.qr_symbol.specs.Steps.Encoding.{IsFit, IsRefusedExactly};
 
 use crate::fault::EncodeFault;
 use qr_bits::{
-    INPUT_MAX, Interpretation, Rule, Segmented, bit_len, interpretation_bits, least_bits, segments,
+    INPUT_MAX, Interpretation, Rule, Segmented, Writing, bit_len, interpretation_bits, least_bits,
+    segments,
 };
-use qr_layout::{Level, Version};
+use qr_layout::{Level, Size, Version};
 use std::alloc::Global;
 
 // The most bytes that a symbol can contain. So many fit version 40 at level L if they all are digits (7.4.10, Table 7).
@@ -66,22 +67,20 @@ fn capacity_at(number: u8, level: Level) -> u64
     version.capacity(level)
 }
 
-// Finds the least version, from `smallest` on, that the input fits, and the segments of the input in this version. Goes
-// through the ranges of versions 1 to 9, 10 to 26 and 27 to 40, from the first range on that has a version to be tried,
-// and cuts the input into segments once for each range. The search ends at the first version that has room for the
-// segments that were cut for its range.
+// Finds the least version, from `least.version` on, that the input fits at `least.level`, and the segments of the input
+// in this version. Goes through the ranges of versions 1 to 9, 10 to 26 and 27 to 40, from the first range on that has
+// a version to be tried, and cuts the input into segments once for each range. The search ends at the first version
+// that has room for the segments that were cut for its range.
 pub(crate) fn least_fit<'a>(
     alloc: Global,
     input: &'a [u8],
-    level: Level,
-    smallest: Version,
-    rule: Rule,
-    interpretation: Interpretation,
+    least: Size,
+    writing: Writing,
 ) -> Result<Fit<'a>, EncodeFault>
-    requires { MayWrite interpretation input.now }
-    ensures fit { IfOk result (λ f. IsFit smallest level rule interpretation input.now f.version
-        (cow_slice_items f.segmented.characters) f.segmented.segments.items) }
-    ensures refused { IsRefusedExactly smallest level rule interpretation input.now result }
+    requires { MayWrite writing.interpretation input.now }
+    ensures fit { IfOk result (λ f. IsFit least.version least.level writing.rule writing.interpretation input.now
+        f.version (cow_slice_items f.segmented.characters) f.segmented.segments.items) }
+    ensures refused { IsRefusedExactly least.version least.level writing.rule writing.interpretation input.now result }
 {
     if input.is_empty() {
         return Err(EncodeFault::Empty);
@@ -95,19 +94,19 @@ pub(crate) fn least_fit<'a>(
     // allowed, the bound is not computed, since it would save little time.
     let start = if input.len() > MEDIUM_BYTES {
         MEDIUM_LAST + 1
-    } else if matches!(rule, Rule::BytesOnly) {
+    } else if matches!(writing.rule, Rule::BytesOnly) {
         1
     } else {
-        let bits = u64::from(least_bits(input)) + interpretation_bits(interpretation);
-        if bits > capacity_at(MEDIUM_LAST, level) {
+        let bits = u64::from(least_bits(input)) + interpretation_bits(writing.interpretation);
+        if bits > capacity_at(MEDIUM_LAST, least.level) {
             MEDIUM_LAST + 1
-        } else if bits > capacity_at(SMALL_LAST, level) {
+        } else if bits > capacity_at(SMALL_LAST, least.level) {
             SMALL_LAST + 1
         } else {
             1
         }
     };
-    let mut first = Version::new(smallest.number().max(start)).unwrap();
+    let mut first = Version::new(least.version.number().max(start)).unwrap();
     loop {
         // The last version of the range that contains `first`. In all versions of a range, character count indicators
         // have the same widths (7.4.1, Table 3), so the segments that are cut for `first` take the same number of bits
@@ -117,11 +116,11 @@ pub(crate) fn least_fit<'a>(
             10..=MEDIUM_LAST => MEDIUM_LAST,
             _ => 40,
         };
-        let segmented = segments(alloc, input, first, rule, interpretation)?;
-        let bits = needed_bits(&segmented, interpretation, first);
+        let segmented = segments(alloc, input, first, writing.rule, writing.interpretation)?;
+        let bits = needed_bits(&segmented, writing.interpretation, first);
         for number in first.number()..=last {
             let version = Version::new(number).unwrap();
-            if bits <= version.capacity(level) {
+            if bits <= version.capacity(least.level) {
                 return Ok(Fit { version, segmented });
             }
         }

@@ -1,21 +1,17 @@
 //! The call that encodes an input as one symbol (ISO/IEC 18004:2015, 7.1).
 
-ghost use Rattle.std.specs.Prelude.{◌≡◌, ◌≢◌, ◌<◌, ◌≤◌, ◌↔◌, ◌⊎◌, [], length, true, false, Err, IfOk, IfErr};
-ghost use Rattle.qr_bits.specs.Interpretation.{InterpretationFits, MayWrite};
-ghost use Rattle.qr_layout.specs.Version.{side_of};
-ghost use Rattle.qr_symbol.specs.declared.fault.EncodeFault.{EncodeFault};
-ghost use Rattle.qr_symbol.specs.Encoding.{IsBoostedSymbol, IsSymbol};
-ghost use Rattle.qr_symbol.specs.Reading.{IsReadBack};
-ghost use Rattle.qr_symbol.specs.VersionChoice.{HasNoVersion, IsVersion};
+ghost use Rattle.std.specs.Prelude.{◌≡◌, ◌≢◌, ◌<◌, ◌↔◌, ◌⊎◌, [], length};
+ghost use Rattle.qr_bits.specs.Interpretation.{MayWrite};
+ghost use Rattle.qr_symbol.specs.VersionChoice.{HasNoVersion};
 ghost use Rattle.qrproved.specs.Settings.{AreSymbolSettings, interpretation_of, level_of, rule_of};
 ghost use Rattle.qrproved.specs.Encoding.{HasNoRoom, IsWritten};
 
 use crate::modules::{area, write_square};
-use crate::settings::{Settings, number_of_level, settings_of};
+use crate::settings::{number_of_level, settings_of};
 use crate::status::{DONE, EMPTY, FIELDS, MEMORY, ROOM, SETTINGS, TOO_LONG, encode_status};
 use qr_bits::{INPUT_MAX, may_write};
 use qr_symbol::laws::long_inputs_have_none;
-use qr_symbol::{EncodeFault, Symbol, encode, encode_boosted};
+use qr_symbol::{Asked, encode_as};
 use std::alloc::Global;
 
 /// The numbers of a symbol, which `qrproved_encode` returns with the symbol's modules.
@@ -30,55 +26,6 @@ pub struct QrprovedSymbol {
     pub level: u8,
     /// The mask, 0 to 7.
     pub mask: u8,
-}
-
-// Makes the symbol that the settings ask for. With `boost` the symbol gets the highest level at which the input fits
-// the symbol's version.
-fn symbol_of(
-    alloc: Global,
-    input: &[u8],
-    settings: &Settings,
-    boost: bool,
-) -> Result<Symbol, EncodeFault>
-    requires short { length input.now ≤ INPUT_MAX }
-    requires number { InterpretationFits settings.now.interpretation }
-    requires written { MayWrite settings.now.interpretation input.now }
-    ensures version { IfOk result (λ s. IsVersion settings.now.version settings.now.level settings.now.rule
-        settings.now.interpretation input.now s.version) }
-    ensures made { IfOk result (λ s. boost ≡ false → (s.level ≡ settings.now.level)
-        × IsSymbol settings.now.version settings.now.level settings.now.rule settings.now.interpretation input.now
-        s.version s.mask s.matrix) }
-    ensures boosted { IfOk result (λ s. boost ≡ true
-        → IsBoostedSymbol settings.now.version settings.now.level settings.now.rule settings.now.interpretation input.now
-        s.version s.level s.mask s.matrix) }
-    ensures side { IfOk result (λ s. s.matrix.side ≡ side_of s.version) }
-    ensures read { IfOk result (λ s. IsReadBack s.version settings.now.rule settings.now.interpretation
-        input.now s.matrix) }
-    ensures empty { (result ≡ Err EncodeFault.Empty) ↔ (input.now ≡ []) }
-    ensures too_long { (result ≡ Err EncodeFault.TooLong) ↔ ((result ≢ Err EncodeFault.Memory)
-        × HasNoVersion settings.now.version settings.now.level settings.now.rule settings.now.interpretation input.now) }
-    ensures long { 7089 < length input.now → result ≡ Err EncodeFault.TooLong }
-    ensures fault { IfErr result (λ e. (e ≡ EncodeFault.Empty) ⊎ (e ≡ EncodeFault.TooLong)
-        ⊎ (e ≡ EncodeFault.Memory)) }
-{
-    if boost {
-        return encode_boosted(
-            alloc,
-            input,
-            settings.level,
-            settings.version,
-            settings.rule,
-            settings.interpretation,
-        );
-    }
-    encode(
-        alloc,
-        input,
-        settings.level,
-        settings.version,
-        settings.rule,
-        settings.interpretation,
-    )
 }
 
 /// Encodes `input` as one symbol, and writes the symbol's modules to `modules` (ISO/IEC 18004:2015, 7.1). The version
@@ -141,15 +88,19 @@ pub extern "C" fn qrproved_encode(
     if boost > 1 {
         return SETTINGS;
     }
-    if !may_write(input, settings.interpretation) {
+    if !may_write(input, settings.writing.interpretation) {
         return FIELDS;
     }
     if input.len() > INPUT_MAX {
         // A law, which is called for the prover.
-        long_inputs_have_none(settings.version);
+        long_inputs_have_none(settings.size.version);
         return TOO_LONG;
     }
-    match symbol_of(alloc, input, &settings, boost == 1) {
+    let asked = Asked {
+        least: settings.size,
+        boost: boost == 1,
+    };
+    match encode_as(alloc, input, asked, settings.writing) {
         Err(fault) => encode_status(fault),
         Ok(made) => {
             let side = made.matrix.side();

@@ -44,10 +44,10 @@ pub extern "C" fn qrproved_room(
         return SETTINGS;
     }
     *count = most_characters(
-        settings.version,
-        settings.level,
+        settings.size.version,
+        settings.size.level,
         mode,
-        settings.interpretation,
+        settings.writing.interpretation,
         header == 1,
     );
     DONE

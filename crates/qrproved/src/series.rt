@@ -7,7 +7,7 @@ ghost use Rattle.qrproved.specs.Settings.{AreSettings, interpretation_of, level_
 ghost use Rattle.qrproved.specs.Series.{HasNoSeriesRoom, IsWrittenSeries};
 
 use crate::modules::{area, write_squares};
-use crate::settings::settings_of;
+use crate::settings::{Settings, settings_of};
 use crate::status::{DONE, EMPTY, FIELDS, MEMORY, ROOM, SETTINGS, TOO_MANY, encode_status};
 use qr_bits::{INPUT_MAX, may_write};
 use qr_symbol::encode_series;
@@ -79,28 +79,29 @@ pub extern "C" fn qrproved_encode_series(
     let Some(settings) = settings_of(version, level, rule, interpretation) else {
         return SETTINGS;
     };
-    if !may_write(input, settings.interpretation) {
+    let Settings { size, writing } = settings;
+    if !may_write(input, writing.interpretation) {
         return FIELDS;
     }
     if input.len() > INPUT_MAX {
         // A law, which is called for the prover.
-        long_inputs_have_none(settings.version);
+        long_inputs_have_none(size.version);
         return TOO_MANY;
     }
     match encode_series(
         alloc,
         input,
-        settings.version,
-        settings.level,
-        settings.rule,
-        settings.interpretation,
+        size.version,
+        size.level,
+        writing.rule,
+        writing.interpretation,
     ) {
         Err(fault) => encode_status(fault),
         Ok(symbols) => {
             // Laws, which are called for the prover.
             series_are_one();
-            series_have_one_side(settings.version);
-            let side = settings.version.side();
+            series_have_one_side(size.version);
+            let side = size.version.side();
             if modules.len() < symbols.len() * area(side) {
                 return ROOM;
             }

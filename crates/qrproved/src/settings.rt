@@ -4,17 +4,15 @@
 ghost use Rattle.std.specs.Prelude.{◌≡◌, ◌<◌, ◌≤◌, SomeIff};
 ghost use Rattle.qrproved.specs.Settings.{AreSettings, interpretation_of, level_of, rule_of};
 
-use qr_bits::{Interpretation, Rule, may_allow_kanji};
-use qr_layout::{Level, Version};
+use qr_bits::{Interpretation, Rule, Writing, may_allow_kanji};
+use qr_layout::{Level, Size, Version};
 
 /// The numbers of a caller, after they were checked.
 #[derive(Clone, Copy)]
 pub(crate) struct Settings {
-    /// The smallest version of one symbol, or the version of a series.
-    pub version: Version,
-    pub level: Level,
-    pub rule: Rule,
-    pub interpretation: Interpretation,
+    /// The size of the symbols of a series. For one symbol, the version is the smallest that it may have.
+    pub size: Size,
+    pub writing: Writing,
 }
 
 // The numbers that stand for no interpretation and for GS1 data. They come after the numbers of the ECIs.
@@ -39,18 +37,23 @@ pub(crate) fn settings_of(
     interpretation: u32,
 ) -> Option<Settings>
     ensures { SomeIff result (AreSettings version level rule interpretation)
-        (record { version = version; level = level_of level; rule = rule_of rule; interpretation = interpretation_of interpretation }) }
+        (record {
+          size = record { version = version; level = level_of level };
+          writing = record { rule = rule_of rule; interpretation = interpretation_of interpretation };
+        }) }
 {
-    let settings = Settings {
+    let size = Size {
         version: Version::new(between(version, 1, 40)?)?,
         level: level_of(level)?,
+    };
+    let writing = Writing {
         rule: rule_of(rule)?,
         interpretation: interpretation_of(interpretation)?,
     };
-    if settings.rule == Rule::WithKanji && !may_allow_kanji(settings.interpretation) {
+    if writing.rule == Rule::WithKanji && !may_allow_kanji(writing.interpretation) {
         return None;
     }
-    Some(settings)
+    Some(Settings { size, writing })
 }
 
 fn interpretation_of(number: u32) -> Option<Interpretation>

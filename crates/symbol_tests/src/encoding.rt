@@ -2,12 +2,13 @@
 
 use crate::checks::{check, check_eq};
 use crate::samples::EIGHT_DIGITS;
-use qr_bits::{INPUT_MAX, Interpretation, Rule};
-use qr_layout::{Level, Version};
+use qr_bits::{INPUT_MAX, Interpretation, Rule, Writing};
+use qr_layout::{Level, Size, Version};
 use qr_matrix::Matrix;
 use qr_symbol::laws::slow_and_fast_symbols_are_one;
 use qr_symbol::{
-    EncodeFault, build, build_masked, deinterleave, draw_symbol, encode, encode_boosted, interleave,
+    Asked, EncodeFault, build, build_masked, deinterleave, draw_symbol, encode, encode_as,
+    interleave,
 };
 use std::process::Abort;
 use std::test::Fail;
@@ -76,12 +77,18 @@ fn highest_levels(rt: HostRuntime) -> Result<(), Fail> {
         ("35 digits at M", 35, Level::M, 2, Level::Q),
         ("7,089 digits at L", 7089, Level::L, 40, Level::L),
     ];
-    let first = Version::FIRST;
+    let writing = Writing {
+        rule: Rule::Auto,
+        interpretation: Interpretation::Default,
+    };
     for (name, len, lowest, version, level) in rows {
         check!(rt; len <= digits.len());
-        let input = &digits[..len];
-        let interpretation = Interpretation::Default;
-        let symbol = encode_boosted(rt.alloc(), input, lowest, first, Rule::Auto, interpretation)?;
+        let least = Size {
+            version: Version::FIRST,
+            level: lowest,
+        };
+        let asked = Asked { least, boost: true };
+        let symbol = encode_as(rt.alloc(), &digits[..len], asked, writing)?;
         check_eq!(rt; symbol.version.number(), version, "{name}");
         check_eq!(rt; symbol.level, level, "{name}");
     }

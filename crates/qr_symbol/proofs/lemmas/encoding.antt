@@ -8,7 +8,7 @@ use Rattle.qr_symbol.proofs.lemmas.version_choice.{fits-bits, interpretation-mos
 use Rattle.qr_symbol.specs.{Encoding.{IsSymbolAt, IsBoostedSymbol, IsSymbol, BoostedSymbolsAreOne, SymbolsAreOne}, Interleaving.IsInterleaved}
 use Rattle.qr_symbol.specs.{Reading.IsReadBack, Series.IsSymbolOf, Steps.Encoding.IsRefusedExactly}
 use Rattle.qr_symbol.specs.{VersionChoice.{FitsVersion, IsHighestLevel, IsVersion, level_rank}, declared.{fault.EncodeFault.EncodeFault, symbol.Symbol.Symbol}}
-use Rattle.std.proofs.{Common.{◌≡◌, ℕ, ◌+◌, ◌<◌, ◌≤◌, List, Option, None, Some, Result, Ok, Err, refl, subst, sym, arith, inl, inr}, lemmas.Bool.cases_lt}
+use Rattle.std.proofs.{Common.{◌≡◌, ℕ, ◌+◌, ◌<◌, ◌≤◌, Bool, true, false, List, Option, None, Some, Result, Ok, Err, refl, subst, sym, arith, inl, inr}, lemmas.Bool.cases_lt}
 use Rattle.std.specs.Prelude.{IfOk, IfErr}
 use Rattle.qr_symbol.specs.declared.fault.EncodeFault.TheVariants as fault
 
@@ -51,10 +51,17 @@ boosted-one xs l least rule how v w k j m n g h a b =
     let rest = symbol-at-one w j _ _ xs _ m n g h (search arith) b.made in (version, level, rest.0, rest.1)
 
 -- the symbol of bytes in the least version that they fit is the symbol of the input
-pub symbol-found : (v : ℕ) (l : Level) (smallest : ℕ) (b : Rule) (how : Interpretation) (x : List ℕ) (r : Result Symbol EncodeFault)
-    → IsVersion smallest l b how x v → IfOk r (λ s. IsSymbolOf v l b how x None s) → IfOk r (λ s. IsSymbol smallest l b how x s.version s.mask s.matrix)
-symbol-found v l smallest b how x (Ok s) fits made = search arith
-symbol-found v l smallest b how x (Err f) fits made = tt
+symbol-made : (v : ℕ) (l : Level) (smallest : ℕ) (b : Rule) (how : Interpretation) (x : List ℕ) (s : Symbol)
+    → IsVersion smallest l b how x v → IsSymbolOf v l b how x None s → IsSymbol smallest l b how x s.version s.mask s.matrix
+symbol-made v l smallest b how x s fits made = search arith
+
+-- the same if its level is the one that is asked for, as it is without boost
+pub symbol-found : (v : ℕ) (k l : Level) (smallest : ℕ) (b : Rule) (how : Interpretation) (x : List ℕ) (boost : Bool) (r : Result Symbol EncodeFault) → IsVersion smallest l b how x v
+    → (boost ≡ false → k ≡ l) → IfOk r (λ s. IsSymbolOf v k b how x None s)
+    → IfOk r (λ s. boost ≡ false → (s.level ≡ l) × IsSymbol smallest l b how x s.version s.mask s.matrix)
+symbol-found v k l smallest b how x boost (Ok s) fits level made = λ plain.
+    let is = subst (λ (z : Level). IsSymbolOf v z b how x None s) (level plain) made in (is.level, symbol-made v l smallest b how x s fits is)
+symbol-found v k l smallest b how x boost (Err f) fits level made = tt
 
 -- if bytes fit a version, there is room for the segments of the fewest bits and what says the interpretation
 pub version-fits : (v : ℕ) (l : Level) (b : Rule) (how : Interpretation) (x ys : List ℕ) (segs : List Segment) → 1 ≤ v → v ≤ 40
@@ -62,10 +69,16 @@ pub version-fits : (v : ℕ) (l : Level) (b : Rule) (how : Interpretation) (x ys
 version-fits v l b how x ys segs p q chosen fits = (fits-bits v v l b how x ys segs p q (λ m. refl) chosen).0 fits
 
 -- the symbol of bytes at the highest level at which they fit the least version is their boosted symbol
-pub boosted-found : (v : ℕ) (k l : Level) (smallest : ℕ) (b : Rule) (how : Interpretation) (x : List ℕ) (r : Result Symbol EncodeFault) → IsVersion smallest l b how x v
-    → IsHighestLevel v l b how x k → IfOk r (λ s. IsSymbolOf v k b how x None s) → IfOk r (λ s. IsBoostedSymbol smallest l b how x s.version s.level s.mask s.matrix)
-boosted-found v k l smallest b how x (Ok s) fits highest made = search arith
-boosted-found v k l smallest b how x (Err f) fits highest made = tt
+boosted-made : (v : ℕ) (k l : Level) (smallest : ℕ) (b : Rule) (how : Interpretation) (x : List ℕ) (s : Symbol) → IsVersion smallest l b how x v
+    → IsHighestLevel v l b how x k → IsSymbolOf v k b how x None s → IsBoostedSymbol smallest l b how x s.version s.level s.mask s.matrix
+boosted-made v k l smallest b how x s fits highest made = search arith
+
+-- the same if its level is the highest, as it is with boost
+pub boosted-found : (v : ℕ) (k l : Level) (smallest : ℕ) (b : Rule) (how : Interpretation) (x : List ℕ) (boost : Bool) (r : Result Symbol EncodeFault) → IsVersion smallest l b how x v
+    → (boost ≡ true → IsHighestLevel v l b how x k) → IfOk r (λ s. IsSymbolOf v k b how x None s)
+    → IfOk r (λ s. boost ≡ true → IsBoostedSymbol smallest l b how x s.version s.level s.mask s.matrix)
+boosted-found v k l smallest b how x boost (Ok s) fits highest made = λ boosted. boosted-made v k l smallest b how x s fits (highest boosted) made
+boosted-found v k l smallest b how x boost (Err f) fits highest made = tt
 
 -- if a level has room for the segments of fewest bits, and each higher level has too little, it is the highest
 pub highest-fits : (v : ℕ) (l : Level) (b : Rule) (how : Interpretation) (x ys : List ℕ) (segs : List Segment) (k : Level) → 1 ≤ v → v ≤ 40

@@ -1,6 +1,7 @@
--- What the statuses mean for an input that is not encoded.
-use Rattle.qr_bits.{proofs.Facts.may_write-none, specs.{Interpretation.MayWrite, declared.interpretation.Interpretation.Interpretation}}
-use Rattle.std.proofs.Common.{◌≡◌, ◌≢◌, ◌↔◌, ◌⊎◌, ℕ, Bool, true, false, List, [], Result, Err, arith}
+-- What the statuses mean for an input that is not encoded, and which version and side its symbol has.
+use Rattle.qr_bits.{proofs.Facts.may_write-none, specs.{Interpretation.MayWrite, declared.{interpretation.Interpretation.Interpretation, modes.Rule.Rule}}}
+use Rattle.{qr_layout.specs.{Version.side_of, declared.level.Level.Level}, qr_matrix.specs.Grid.Grid}
+use Rattle.{qr_symbol.specs.{Encoding.{IsBoostedSymbol, IsSymbol}, VersionChoice.IsVersion}, std.proofs.Common.{◌≡◌, ◌≢◌, ◌↔◌, ◌⊎◌, ℕ, Bool, true, false, List, [], Result, Err, refl, ap, arith}}
 use Rattle.{qr_symbol.specs.declared.fault.EncodeFault.EncodeFault, qrproved.specs.Steps.Status.encode_status}
 use Rattle.qr_symbol.specs.declared.fault.EncodeFault.TheVariants as fault
 
@@ -22,3 +23,17 @@ room-status r f x S W P R is apart empty told kinds = grind arith
 -- an input that may not be written is not empty
 pub refused-some : (how : Interpretation) (x : List ℕ) (b : Bool) → (MayWrite how x → b ≡ true) → b ≡ false → x ≡ [] → ⊥
 refused-some how x b told refused e = search (arith, may_write-none)
+
+-- a symbol, boosted or not, has the least version that the input fits
+pub version-asked : (boost : Bool) (smallest : ℕ) (l : Level) (rule : Rule) (how : Interpretation) (x : List ℕ) (v : ℕ) (k : Level) (mask : ℕ) (g : Grid)
+    → (boost ≡ false → (k ≡ l) × IsSymbol smallest l rule how x v mask g)
+    → (boost ≡ true → IsBoostedSymbol smallest l rule how x v k mask g) → IsVersion smallest l rule how x v
+version-asked false smallest l rule how x v k mask g plain boosted = (plain refl).1.version
+version-asked true smallest l rule how x v k mask g plain boosted = (boosted refl).version
+
+-- a symbol, boosted or not, has the side of its version
+pub side-asked : (boost : Bool) (smallest : ℕ) (l : Level) (rule : Rule) (how : Interpretation) (x : List ℕ) (v : ℕ) (k : Level) (mask : ℕ) (g : Grid)
+    → (boost ≡ false → (k ≡ l) × IsSymbol smallest l rule how x v mask g)
+    → (boost ≡ true → IsBoostedSymbol smallest l rule how x v k mask g) → g.side ≡ side_of v
+side-asked false smallest l rule how x v k mask g plain boosted = ap (λ (h : Grid). h.side) (plain refl).1.made.drawn
+side-asked true smallest l rule how x v k mask g plain boosted = ap (λ (h : Grid). h.side) (boosted refl).made.drawn

@@ -8,6 +8,6 @@ abbrev pub invariant-loop-i : goal.invariant-loop-i
 invariant-loop-i l = record {
   len : vec_len l.table + l.i ≡ length l.input;
   small : (p : RunState) → bits_at l.rest p ≤ 33 * vec_len l.table;
-  best : (n : Interpretation) → l.gs1 ≡ is_gs1 n → BestBelow n l.fn.version l.rule is_kanji_pair (drop l.i l.input) (λ p. follow_in n p (drop l.i l.input) (reverse l.table.items)) (bits_at l.rest);
-  flags : l.gs1 ≡ true → AreFlagged (drop l.i l.input) (reverse l.table.items);
+  best : (n : Interpretation) → l.case.gs1 ≡ is_gs1 n → BestBelow n l.fn.version l.case.rule is_kanji_pair (drop l.i l.input) (λ p. follow_in n p (drop l.i l.input) (reverse l.table.items)) (bits_at l.rest);
+  flags : l.case.gs1 ≡ true → AreFlagged (drop l.i l.input) (reverse l.table.items);
 }

@@ -5,7 +5,7 @@ use Rattle.qr_bits.proofs.best_modes.row_of.Goals as goal
 
 pub returns-then-not-pair-clause-row : goal.returns-then-not-pair-clause-row
 returns-then-not-pair-clause-row c = λ i g.
-    let r = c.args.rule in
+    let r = c.args.case.rule in
     let x = c.args.byte in
     let digit = sym (c.may_begin-digit.ensures false) ∙ c.if-digit.true in
     let own = digit-written i r x false digit in
@@ -17,7 +17,7 @@ returns-then-not-pair-clause-flag c = search (rules, and-false, ne_eqb, sym (c.m
 
 pub returns-then-pair-clause-row : goal.returns-then-pair-clause-row
 returns-then-pair-clause-row c = λ i g p.
-    let r = c.args.rule in
+    let r = c.args.case.rule in
     let x = c.args.byte in
     let t = c.args.pair in
     let row = c.choices-row.ensures.row i r x (c.may_begin-digit.ensures t) (search rules) in
@@ -25,18 +25,18 @@ returns-then-pair-clause-row c = λ i g p.
 
 pub returns-then-may_begin-clause-row : goal.returns-then-may_begin-clause-row
 returns-then-may_begin-clause-row c = λ i g.
-    let r = c.args.rule in
+    let r = c.args.case.rule in
     let x = c.args.byte in
     let none : c.may_begin-digit.result ≡ false = search (rules, false≢true) in
-    let escaped : (c.args.gs1 && is_escaped Alphanumeric x) ≡ false = search rules in
+    let escaped : (c.args.case.gs1 && is_escaped Alphanumeric x) ≡ false = search rules in
     let own = own-character i x (rw g at escaped) in
     rw c.if-pair.false (c.choices-then-may_begin.ensures.row i r x (sym none ∙ c.may_begin-digit.ensures false) (c.character_choices-characters-then-may_begin.ensures i r x false (search rules) (sym own.0)))
 
 pub returns-else-may_begin-clause-row : goal.returns-else-may_begin-clause-row
 returns-else-may_begin-clause-row c = λ i g.
-    let r = c.args.rule in
+    let r = c.args.case.rule in
     let x = c.args.byte in
     let none : c.may_begin-digit.result ≡ false = search (rules, false≢true) in
-    let escaped : (c.args.gs1 && is_escaped Alphanumeric x) ≡ false = search rules in
+    let escaped : (c.args.case.gs1 && is_escaped Alphanumeric x) ≡ false = search rules in
     let own = own-character i x (rw g at escaped) in
     rw c.if-pair.false (c.choices-else-may_begin.ensures.row i r x (sym none ∙ c.may_begin-digit.ensures false) (c.character_choices-characters-else-may_begin.ensures i r x false (search rules) (sym own.0)))

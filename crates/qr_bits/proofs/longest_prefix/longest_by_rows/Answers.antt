@@ -17,10 +17,10 @@ last i k l h = omega arith
 pub loop-i-init : goal.loop-i-init
 loop-i-init c = record {
   inside = le_refl 0;
-  fits = λ n g. empty-fits n c.args.version c.args.rule _;
+  fits = λ n g. empty-fits n c.args.version c.args.case.rule _;
   longest = λ n g k h fit. h;
   small = search (rules, zeros);
-  best = ([], λ n g. best-none n c.args.version c.args.rule (swapped is_kanji_pair) _ zeros);
+  best = ([], λ n g. best-none n c.args.version c.args.case.rule (swapped is_kanji_pair) _ zeros);
 }
 
 pub row_of-requires : goal.row_of-requires
@@ -30,14 +30,14 @@ pub loop-i-preserved : goal.loop-i-preserved
 unfolding in_state
 loop-i-preserved c =
     let v = c.args.version in
-    let r = c.args.rule in
+    let r = c.args.case.rule in
     let xs = c.args.input.now in
     let i = c.loop-i.i in
     let inv = c.loop-i.invariant in
-    let chosen : (n : Interpretation) → c.args.gs1 ≡ is_gs1 n → IsRow n v r (get_or xs i 0) _ c.loop-i.rest c.row_of.result.0 c.row_of.result.1 = λ n g. rw c.of-first_choices.ensures at (c.row_of.ensures.row n g) in
-    let some = some-interpretation c.args.gs1 in
+    let chosen : (n : Interpretation) → c.args.case.gs1 ≡ is_gs1 n → IsRow n v r (get_or xs i 0) _ c.loop-i.rest c.row_of.result.0 c.row_of.result.1 = λ n g. rw c.of-first_choices.ensures at (c.row_of.ensures.row n g) in
+    let some = some-interpretation c.args.case.gs1 in
     let small = small-more some.0 v r _ _ _ _ _ _ inv.small (chosen some.0 some.1) in
-    let b : (n : Interpretation) → (g : c.args.gs1 ≡ is_gs1 n) → _ = λ n g. prefix-more n v r xs i _ inv.best.0 _ _ _ c.loop-i-test.true c.ends_with_pair-pair.ensures (inv.best.1 n g) (chosen n g) in
+    let b : (n : Interpretation) → (g : c.args.case.gs1 ≡ is_gs1 n) → _ = λ n g. prefix-more n v r xs i _ inv.best.0 _ _ _ c.loop-i-test.true c.ends_with_pair-pair.ensures (inv.best.1 n g) (chosen n g) in
     let room = c.args.room in
     elim c.if-from-room.branch [
       | then-from-room w ↦
@@ -71,7 +71,7 @@ returns-after-loop-i c = λ n g.
 pub returns-then-from-room-2 : goal.returns-then-from-room-2
 returns-then-from-room-2 c = λ n g.
     let v = c.args.version in
-    let r = c.args.rule in
+    let r = c.args.case.rule in
     let xs = c.args.input.now in
     let i = c.loop-i.i in
     let inv = c.loop-i.invariant in

@@ -64,7 +64,7 @@ returns-in_err-lengths c =
     let p = err_from_is_err_and c.from_residual-in_err-lengths.result c.from_residual-in_err-lengths.ensures.1 in
     let long = MatchOption-at_none _ _ c.in_default.is c.in_ok-symbol.ensures in
     told _ _ _ _ _ _ (omega arith) (omega arith) c.requires.written (eqb-false _ 0 (sym c.is_empty.ensures ∙ c.if-is_empty.false))
-    (rw (p.1, p.2) (elim c.in_err-lengths.ensures [ inl e ↦ inl e | inr w ↦ inr (w.0, record { too_long = long; too_many = w.1 }) ]))
+    (rw (p.1, p.2) (inr (c.in_err-lengths.ensures.0, record { too_long = long; too_many = c.in_err-lengths.ensures.1 })))
 
 pub returns-in_err-canvas : goal.returns-in_err-canvas
 returns-in_err-canvas c = told _ _ _ _ _ c.from_residual-in_err-canvas.result (omega arith) (omega arith) c.requires.written (eqb-false _ 0 (sym c.is_empty.ensures ∙ c.if-is_empty.false)) (search rules)

@@ -7,10 +7,10 @@ use Rattle.qr_symbol.proofs.series.part_lengths.Given as goal
 abbrev pub invariant-loop-rest : goal.invariant-loop-rest
 invariant-loop-rest l = record {
   short : length l.rest ≤ length l.fn.input;
-  may : MayWrite l.interpretation l.rest;
-  lengths : (ns : List ℕ) → AreLengths l.version l.level l.rule l.interpretation l.rest ns → AreLengths l.version l.level l.rule l.interpretation l.fn.input (l.lengths.items ++ ns);
-  parts : (k : ℕ) → ((qs : List (List ℕ)) → AreParts l.version l.level l.rule l.interpretation l.rest qs → k ≤ length qs)
-      → (ps : List (List ℕ)) → AreParts l.version l.level l.rule l.interpretation l.fn.input ps → length l.lengths.items + k ≤ length ps;
+  may : MayWrite l.writing.interpretation l.rest;
+  lengths : (ns : List ℕ) → AreLengths l.fn.size.version l.fn.size.level l.writing.rule l.writing.interpretation l.rest ns → AreLengths l.fn.size.version l.fn.size.level l.writing.rule l.writing.interpretation l.fn.input (l.lengths.items ++ ns);
+  parts : (k : ℕ) → ((qs : List (List ℕ)) → AreParts l.fn.size.version l.fn.size.level l.writing.rule l.writing.interpretation l.rest qs → k ≤ length qs)
+      → (ps : List (List ℕ)) → AreParts l.fn.size.version l.fn.size.level l.writing.rule l.writing.interpretation l.fn.input ps → length l.lengths.items + k ≤ length ps;
 }
 
 abbrev pub decreases-loop-rest : goal.decreases-loop-rest

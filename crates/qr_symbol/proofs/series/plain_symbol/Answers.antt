@@ -9,23 +9,23 @@ pub returns-then-from-interpretation_bits : goal.returns-then-from-interpretatio
 returns-then-from-interpretation_bits c = λ fits.
     omega (
       arith,
-      c.least_bits.ensures.least c.args.interpretation c.args.version (capacity_of c.args.version c.args.level - interpretation_bits c.args.interpretation) c.args.rule fits,
-      capacity-least c.args.version c.args.level (omega arith) (omega arith),
-      interpretation-most c.args.interpretation,
+      c.least_bits.ensures.least c.args.writing.interpretation c.args.size.version (capacity_of c.args.size.version c.args.size.level - interpretation_bits c.args.writing.interpretation) c.args.writing.rule fits,
+      capacity-least c.args.size.version c.args.size.level (omega arith) (omega arith),
+      interpretation-most c.args.writing.interpretation,
       c.interpretation_bits.ensures.value,
       c.from.ensures,
-      c.capacity.ensures.value,
+      c.capacity-capacity.ensures.value,
     )
 
-pub needed_bits-requires : goal.needed_bits-requires
-needed_bits-requires c = let is = c.in_ok-segmented.ensures.ok in record {
+pub needed_bits-needed-requires : goal.needed_bits-needed-requires
+needed_bits-needed-requires c = let is = c.in_ok-segmented.ensures.ok in record {
   covered = (least_fits _ _ _ _ _ _ is).0;
   short = omega (arith, least-most _ _ _ _ _ _ is, c.if-input-gt-SYMBOL_BYTES_MAX.false);
 }
 
-pub returns-then-needed_bits-capacity : goal.returns-then-needed_bits-capacity
-returns-then-needed_bits-capacity c = λ fits.
-    omega (arith, version-fits _ _ _ _ _ _ _ (omega arith) (omega arith) c.in_ok-segmented.ensures.ok fits, c.needed_bits.ensures, c.if-needed_bits-capacity.true, c.capacity-2.ensures.value)
+pub returns-then-needed-capacity : goal.returns-then-needed-capacity
+returns-then-needed-capacity c = λ fits.
+    omega (arith, version-fits _ _ _ _ _ _ _ (omega arith) (omega arith) c.in_ok-segmented.ensures.ok fits, c.needed_bits-needed.ensures, c.if-needed-capacity.true, c.capacity-capacity.ensures.value)
 
 pub returns : goal.returns
-returns c = c.in_ok-symbol.ensures c.args.rule c.args.input.now c.in_ok-segmented.ensures.ok
+returns c = c.in_ok-symbol.ensures c.args.writing.rule c.args.input.now c.in_ok-segmented.ensures.ok

@@ -23,15 +23,15 @@ loop-len-preserved c =
     let inv = c.loop-len.invariant in
     let s = c.in_ok-symbol.symbol in
     let made = rw (inv.version, inv.level, c.len.ensures, inv.count, c.parity-parity.ensures, c.split_at.ensures.front) at
-    (c.in_ok-symbol.ensures.made c.args.rule c.split_at.result.0.now (rw inv.version c.in_ok-segmented.ensures.ok)) in
+    (c.in_ok-symbol.ensures.made c.args.writing.rule c.split_at.result.0.now (rw inv.version c.in_ok-segmented.ensures.ok)) in
     let less = length-drop (get_or ns i 0) rest in rw (c.in_ok-push.ensures.items, c.split_at.ensures.back) (record {
       version = c.symbol_on.ensures.kept_version ∙ inv.version;
       level = c.symbol_on.ensures.kept_level ∙ inv.level;
       short = omega (arith, inv.short);
       may = search (rules, may_write-drop);
       count = omega (arith, ap length c.in_ok-push.ensures.items, length-append c.loop-len.symbols.items (s ∷ []));
-      rest = (lengths-at c.args.canvas.now.version l c.args.rule c.args.interpretation _ ns i c.loop-len-test.true inv.rest).1;
-      made = symbols-more c.args.canvas.now.version l c.args.rule c.args.interpretation _ _ i _ ns _ _ s c.loop-len-test.true made inv.made;
+      rest = (lengths-at c.args.canvas.now.version l c.args.writing.rule c.args.writing.interpretation _ ns i c.loop-len-test.true inv.rest).1;
+      made = symbols-more c.args.canvas.now.version l c.args.writing.rule c.args.writing.interpretation _ _ i _ ns _ _ s c.loop-len-test.true made inv.made;
     })
 
 pub returns : goal.returns

@@ -18,15 +18,15 @@ loop-last-init c =
     let least = c.number.ensures.least in record {
       from = omega arith;
       none = λ v a b fits.
-          let l = c.args.level in let i = c.args.interpretation in
+          let l = c.args.least.level in let i = c.args.writing.interpretation in
           let one : 1 ≤ v = omega arith in
           elim c.if-input-gt-MEDIUM_BYTES.branch [
             | then-input-gt-MEDIUM_BYTES w ↦ (let few = fits.2 in omega (arith, w.start-is, w.if-input-gt-MEDIUM_BYTES.true, fitting-medium i v l _ _ one (omega (arith, w.start-is)) (fits.0, fits.1, omega arith)))
             | else-input-gt-MEDIUM_BYTES+then-matches w ↦ omega (arith, w.start-is)
             | else-input-gt-MEDIUM_BYTES+else-matches+then-bits-capacity_at w ↦
-                omega (arith, w.start-is, w.if-bits-capacity_at.true, w.from.ensures, w.interpretation_bits.ensures.value, w.capacity_at.ensures, capacity-26 v l one (omega (arith, w.start-is)), capacity-least v l one (omega (arith, w.start-is)), interpretation-most i, w.least_bits.ensures.least i v (capacity_of v l - interpretation_bits i) c.args.rule fits)
+                omega (arith, w.start-is, w.if-bits-capacity_at.true, w.from.ensures, w.interpretation_bits.ensures.value, w.capacity_at.ensures, capacity-26 v l one (omega (arith, w.start-is)), capacity-least v l one (omega (arith, w.start-is)), interpretation-most i, w.least_bits.ensures.least i v (capacity_of v l - interpretation_bits i) c.args.writing.rule fits)
             | else-input-gt-MEDIUM_BYTES+else-matches+else-bits-capacity_at+then-bits-capacity_at-2 w ↦
-                omega (arith, w.start-is, w.if-bits-capacity_at-2.true, w.from.ensures, w.interpretation_bits.ensures.value, w.capacity_at-else-bits-capacity_at.ensures, capacity-nine v l one (omega (arith, w.start-is)), capacity-least v l one (omega (arith, w.start-is)), interpretation-most i, w.least_bits.ensures.least i v (capacity_of v l - interpretation_bits i) c.args.rule fits)
+                omega (arith, w.start-is, w.if-bits-capacity_at-2.true, w.from.ensures, w.interpretation_bits.ensures.value, w.capacity_at-else-bits-capacity_at.ensures, capacity-nine v l one (omega (arith, w.start-is)), capacity-least v l one (omega (arith, w.start-is)), interpretation-most i, w.least_bits.ensures.least i v (capacity_of v l - interpretation_bits i) c.args.writing.rule fits)
             | else-input-gt-MEDIUM_BYTES+else-matches+else-bits-capacity_at+else-bits-capacity_at-2 w ↦ omega (arith, w.start-is)
           ];
     }
@@ -46,7 +46,7 @@ returns-then-input-gt-SYMBOL_BYTES_MAX c = let long = c.if-input-gt-SYMBOL_BYTES
   fit = tt;
   refused = record {
     empty = search (rules, empty-long, empty-short);
-    too_long = exactly _ _ _ _ (λ e. cc) (λ _. long-has-no-version _ _ _ _ c.args.smallest (omega arith) long) tt (inl (λ _. refl));
+    too_long = exactly _ _ _ _ (λ e. cc) (λ _. long-has-no-version _ _ _ _ c.args.least.version (omega arith) long) tt (inl (λ _. refl));
     long = λ _. refl;
     fault = inr (inl refl);
   };
@@ -65,7 +65,7 @@ ranged c = let e = c.number-in-loop-last.ensures in elim c.if-number-lt1.branch 
 ]
 
 -- all versions of the range have too little room
-full : (c : After-new-in-loop-last) → LackRoom c.loop-last.first (c.if-number-lt1.last + 1) c.args.level (interpretation_bits c.args.interpretation + bits c.loop-last.first c.in_ok-segmented.segmented.segments.items)
+full : (c : After-new-in-loop-last) → LackRoom c.loop-last.first (c.if-number-lt1.last + 1) c.args.least.level (interpretation_bits c.args.writing.interpretation + bits c.loop-last.first c.in_ok-segmented.segmented.segments.items)
 full c v a b =
     let n = c.needed_bits-bits.ensures in let e = c.number-number.ensures.value in let before = c.loop-number.invariant in
     elim c.loop-number-test.branch [
@@ -73,19 +73,19 @@ full c v a b =
       | then-loop-number-test+else-bits-capacity+else-number-last w ↦ elim (cases_lt v c.loop-number.number) [
         | inl k ↦ omega (arith, n, before v (omega (arith, e)) k)
         | inr k ↦ (let is = is-number w.unwrap-version.ensures w.new-in-loop-number.ensures in let same : w.unwrap-version.result ≡ v = search rules in
-            omega (arith, n, w.if-bits-capacity.false, w.capacity.ensures.value ∙ ap (λ z. capacity_of z c.args.level) same))
+            omega (arith, n, w.if-bits-capacity.false, w.capacity.ensures.value ∙ ap (λ z. capacity_of z c.args.least.level) same))
       ]
     ]
 
 -- the input fits no version of the range
-none : (c : After-new-in-loop-last) → FitNone c.args.smallest (c.if-number-lt1.last + 1) c.args.level c.args.rule c.args.interpretation c.args.input.now
+none : (c : After-new-in-loop-last) → FitNone c.args.least.version (c.if-number-lt1.last + 1) c.args.least.level c.args.writing.rule c.args.writing.interpretation c.args.input.now
 none c v a b =
     let range = ranged (goal.at.After-new-in-loop-last c).After-segments in
-    none-fits c.args.input.now _ c.args.level c.args.smallest c.args.rule c.args.interpretation c.loop-last.first (c.if-number-lt1.last + 1) _ (omega arith) (omega (arith, range.1)) c.loop-last.invariant.none
+    none-fits c.args.input.now _ c.args.least.level c.args.least.version c.args.writing.rule c.args.writing.interpretation c.loop-last.first (c.if-number-lt1.last + 1) _ (omega arith) (omega (arith, range.1)) c.loop-last.invariant.none
     range.2 c.in_ok-segmented.ensures.ok (full c) v a b
 
 -- the version that has room is the least that the input fits
-least : (c : Then-bits-capacity) → IsVersion c.args.smallest c.args.level c.args.rule c.args.interpretation c.args.input.now c.unwrap-version.result
+least : (c : Then-bits-capacity) → IsVersion c.args.least.version c.args.least.level c.args.writing.rule c.args.writing.interpretation c.args.input.now c.unwrap-version.result
 least c =
     let is = is-number c.unwrap-version.ensures c.new-in-loop-number.ensures in
     let range = ranged (goal.at.Then-bits-capacity c).After-segments in let e = c.number-number.ensures.value in

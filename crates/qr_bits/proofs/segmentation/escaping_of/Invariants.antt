@@ -1,5 +1,5 @@
 use Rattle.{qr_bits.specs.Steps.Segmentation.{is_itself, is_single}, std.{proofs.Common.{◌≡◌, ◌&&◌, drop}, specs.List.list_all}}
-use Rattle.qr_bits.proofs.segmentation.writing_of.Given as goal
+use Rattle.qr_bits.proofs.segmentation.escaping_of.Given as goal
 
 -- what the bytes so far have decided, and what the others decide
 abbrev pub invariant-loop-byte : goal.invariant-loop-byte
