@@ -86,8 +86,8 @@ PORTS = $(if $(CROSS),$(wildcard ports/*.c))
 # What is old of that which the goals want.
 wants = $(filter $(1),$(or $(MAKECMDGOALS),all))
 OLD_PROGRAM := $(if $(call wants,all static install bench),$(call is_old,$(PROGRAM),qrencode,$(PORTS)))
-OLD_LIBRARY := $(if $(call wants,lib prove-lib wasm npm page bench),$(call library_is_old,$(LIBRARY_OUT),$(LIBRARY_FLAGS)))
-OLD_HWCAPS := $(if $(HWCAPS),$(if $(call wants,lib wasm npm page bench),$(call library_is_old,$(HWCAPS_OUT),--cpu $(HWCAPS))))
+OLD_LIBRARY := $(if $(call wants,lib prove-lib module wasm npm page bench),$(call library_is_old,$(LIBRARY_OUT),$(LIBRARY_FLAGS)))
+OLD_HWCAPS := $(if $(HWCAPS),$(if $(call wants,lib module wasm npm page bench),$(call library_is_old,$(HWCAPS_OUT),--cpu $(HWCAPS))))
 
 all: $(if $(OLD_PROGRAM),$(if $(CROSS),cross,prove))
 
@@ -230,12 +230,20 @@ endif
 wheel:
 	$(PYTHON) python/backend.py "$(LIBRARY_OUT)/$(SONAME)" "$(WHEELS)"
 
+# The library's LLVM code, of which WebAssembly and C are made.
+MODULE = out/module/qrproved.ll
+module_is_old = $(call is_old,$(MODULE),qrproved,ports/module)
+module: $(if $(module_is_old),build-module)
+
+build-module: lib
+	ports/module $(MODULE)
+
 # The library as WebAssembly, the package for JavaScript with it inside, and the page with both inside.
 WASM = out/wasm/qrproved.wasm
-wasm: $(if $(call is_old,$(WASM),qrproved,ports/wasm),build-wasm)
+wasm: $(if $(module_is_old)$(shell find $(MODULE) ports/wasm -newer $(WASM) 2>&1),build-wasm)
 
-build-wasm: lib
-	ports/wasm/build out/wasm
+build-wasm: module
+	ports/wasm/build $(MODULE) out/wasm
 
 npm: wasm
 	js/build $(WASM) out/npm
@@ -248,5 +256,5 @@ bench: all lib
 	bench/library
 	bench/memory
 
-.PHONY: all bench build-wasm check check-each clean cross help install install-lib lib npm page print-pc prove-lib static test uninstall \
-    uninstall-lib wasm wheel
+.PHONY: all bench build-module build-wasm check check-each clean cross help install install-lib lib module npm page print-pc \
+    prove-lib static test uninstall uninstall-lib wasm wheel
