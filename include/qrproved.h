@@ -111,14 +111,15 @@ struct qrproved_series {
  * ECI header. Bytes before the first ECI header have none: the standard takes them for ISO/IEC 8859-1, and many readers take
  * them for UTF-8. */
 struct qrproved_eci {
-	size_t begin;    /* number of bytes of the content before the header */
+	uint64_t begin;  /* number of bytes of the content before the header */
 	uint32_t number; /* from 0 to 999,999: 26 is UTF-8, 20 is Shift JIS, 3 is ISO/IEC 8859-1 */
+	uint32_t unused; /* has no meaning; with it the struct has 16 bytes on every machine */
 };
 
 /* What a symbol that was read contains, besides its bytes and its ECI headers. */
 struct qrproved_content {
-	size_t len;          /* number of bytes of the content */
-	size_t eci_count;    /* number of all ECI headers of the symbol, even if some were not written for lack of room */
+	uint64_t len;        /* number of bytes of the content */
+	uint64_t eci_count;  /* number of all ECI headers of the symbol, even if some were not written for lack of room */
 	uint8_t version;     /* from 1 to 40 */
 	uint8_t has_header;  /* 1 for a symbol of a series, which has a structured append header; 0 for a plain symbol, and then
 	                      * the next three fields are 0 */
@@ -134,8 +135,8 @@ struct qrproved_content {
 /* What a damaged symbol that was mended contains, besides its bytes and its ECI headers, and the counts of its damage. A field
  * that qrproved_content also has means the same as there. */
 struct qrproved_mended {
-	size_t len;                   /* number of bytes of the content */
-	size_t eci_count;             /* number of all ECI headers of the symbol, even if some were not written */
+	uint64_t len;                 /* number of bytes of the content */
+	uint64_t eci_count;           /* number of all ECI headers of the symbol, even if some were not written */
 	uint32_t wrong_modules;       /* number of modules that are wrong or not known; if 0, each module is right */
 	uint8_t version;              /* from 1 to 40 */
 	uint8_t has_header;           /* 1 for a symbol of a series; 0 for a plain symbol, and then the next three fields are 0 */
@@ -178,7 +179,6 @@ struct qrproved_drawn {
 #else
 #define QRPROVED_HOLDS(fact) struct qrproved_symbol
 #endif
-QRPROVED_HOLDS(sizeof(size_t) == 8);
 QRPROVED_HOLDS(sizeof(struct qrproved_symbol) == 4);
 QRPROVED_HOLDS(offsetof(struct qrproved_symbol, version) == 0);
 QRPROVED_HOLDS(offsetof(struct qrproved_symbol, side) == 1);
@@ -190,6 +190,7 @@ QRPROVED_HOLDS(offsetof(struct qrproved_series, side) == 1);
 QRPROVED_HOLDS(sizeof(struct qrproved_eci) == 16);
 QRPROVED_HOLDS(offsetof(struct qrproved_eci, begin) == 0);
 QRPROVED_HOLDS(offsetof(struct qrproved_eci, number) == 8);
+QRPROVED_HOLDS(offsetof(struct qrproved_eci, unused) == 12);
 QRPROVED_HOLDS(sizeof(struct qrproved_content) == 24);
 QRPROVED_HOLDS(offsetof(struct qrproved_content, len) == 0);
 QRPROVED_HOLDS(offsetof(struct qrproved_content, eci_count) == 8);
