@@ -12,6 +12,7 @@
 ## make uninstall-lib  removes what make install-lib installed
 ## make wheel          the package for Python, in python/out
 ## make wasm           the library as WebAssembly, in out/wasm (needs binaryen)
+## make c              the library as one C file for other machines, in out/c
 ## make npm            the package for JavaScript, in out/npm
 ## make page           the web page, in out/web
 ## make dist           archives and packages of all of them, in out/dist
@@ -86,8 +87,8 @@ PORTS = $(if $(CROSS),$(wildcard ports/*.c))
 # What is old of that which the goals want.
 wants = $(filter $(1),$(or $(MAKECMDGOALS),all))
 OLD_PROGRAM := $(if $(call wants,all static install bench),$(call is_old,$(PROGRAM),qrencode,$(PORTS)))
-OLD_LIBRARY := $(if $(call wants,lib prove-lib module wasm npm page bench),$(call library_is_old,$(LIBRARY_OUT),$(LIBRARY_FLAGS)))
-OLD_HWCAPS := $(if $(HWCAPS),$(if $(call wants,lib module wasm npm page bench),$(call library_is_old,$(HWCAPS_OUT),--cpu $(HWCAPS))))
+OLD_LIBRARY := $(if $(call wants,lib prove-lib module wasm c npm page bench),$(call library_is_old,$(LIBRARY_OUT),$(LIBRARY_FLAGS)))
+OLD_HWCAPS := $(if $(HWCAPS),$(if $(call wants,lib module wasm c npm page bench),$(call library_is_old,$(HWCAPS_OUT),--cpu $(HWCAPS))))
 
 all: $(if $(OLD_PROGRAM),$(if $(CROSS),cross,prove))
 
@@ -245,6 +246,13 @@ wasm: $(if $(module_is_old)$(shell find $(MODULE) ports/wasm -newer $(WASM) 2>&1
 build-wasm: module
 	ports/wasm/build $(MODULE) out/wasm
 
+# The library as a C file, with the header beside it.
+C_FILE = out/c/qrproved.c
+c: $(if $(module_is_old)$(shell find $(MODULE) ports/c include/qrproved.h -newer $(C_FILE) 2>&1),build-c)
+
+build-c: module
+	ports/c/build $(MODULE) out/c
+
 npm: wasm
 	js/build $(WASM) out/npm
 
@@ -256,5 +264,5 @@ bench: all lib
 	bench/library
 	bench/memory
 
-.PHONY: all bench build-module build-wasm check check-each clean cross help install install-lib lib module npm page print-pc \
+.PHONY: all bench build-c build-module build-wasm c check check-each clean cross help install install-lib lib module npm page print-pc \
     prove-lib static test uninstall uninstall-lib wasm wheel
