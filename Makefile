@@ -13,6 +13,7 @@
 ## make wheel          the package for Python, in python/out
 ## make wasm           the library as WebAssembly, in out/wasm (needs binaryen)
 ## make c              the library as one C file for other machines, in out/c
+## make crate          the crate for Rust with this C file inside, in out/crate
 ## make npm            the package for JavaScript, in out/npm
 ## make page           the web page, in out/web
 ## make dist           archives and packages of all of them, in out/dist
@@ -87,8 +88,8 @@ PORTS = $(if $(CROSS),$(wildcard ports/*.c))
 # What is old of that which the goals want.
 wants = $(filter $(1),$(or $(MAKECMDGOALS),all))
 OLD_PROGRAM := $(if $(call wants,all static install bench),$(call is_old,$(PROGRAM),qrencode,$(PORTS)))
-OLD_LIBRARY := $(if $(call wants,lib prove-lib module wasm c npm page bench),$(call library_is_old,$(LIBRARY_OUT),$(LIBRARY_FLAGS)))
-OLD_HWCAPS := $(if $(HWCAPS),$(if $(call wants,lib module wasm c npm page bench),$(call library_is_old,$(HWCAPS_OUT),--cpu $(HWCAPS))))
+OLD_LIBRARY := $(if $(call wants,lib prove-lib module wasm c crate npm page bench),$(call library_is_old,$(LIBRARY_OUT),$(LIBRARY_FLAGS)))
+OLD_HWCAPS := $(if $(HWCAPS),$(if $(call wants,lib module wasm c crate npm page bench),$(call library_is_old,$(HWCAPS_OUT),--cpu $(HWCAPS))))
 
 all: $(if $(OLD_PROGRAM),$(if $(CROSS),cross,prove))
 
@@ -253,6 +254,14 @@ c: $(if $(module_is_old)$(shell find $(MODULE) ports/c include/qrproved.h -newer
 build-c: module
 	ports/c/build $(MODULE) out/c
 
+# The crate for Cargo with the C file inside.
+CRATE = out/crate/qrproved
+crate: c
+	rm -rf $(CRATE)
+	mkdir -p $(CRATE)/c
+	cd rust/qrproved && cp -R Cargo.toml README.md build.rs src tests "$(CURDIR)/$(CRATE)"
+	cp $(C_FILE) $(dir $(C_FILE))qrproved.h $(CRATE)/c
+
 npm: wasm
 	js/build $(WASM) out/npm
 
@@ -264,5 +273,5 @@ bench: all lib
 	bench/library
 	bench/memory
 
-.PHONY: all bench build-c build-module build-wasm c check check-each clean cross help install install-lib lib module npm page print-pc \
+.PHONY: all bench build-c build-module build-wasm c check check-each clean crate cross help install install-lib lib module npm page print-pc \
     prove-lib static test uninstall uninstall-lib wasm wheel
