@@ -12,6 +12,8 @@
 ## make uninstall-lib  removes what make install-lib installed
 ## make wheel          the package for Python, in python/out
 ## make wasm           the library as WebAssembly, in out/wasm (needs binaryen)
+## make c              the library as one C file for other machines, in out/c
+## make crate          the crate for Rust with this C file inside, in out/crate
 ## make npm            the package for JavaScript, in out/npm
 ## make page           the web page, in out/web
 ## make dist           archives and packages of all of them, in out/dist
@@ -86,8 +88,8 @@ PORTS = $(if $(CROSS),$(wildcard ports/*.c))
 # What is old of that which the goals want.
 wants = $(filter $(1),$(or $(MAKECMDGOALS),all))
 OLD_PROGRAM := $(if $(call wants,all static install bench),$(call is_old,$(PROGRAM),qrencode,$(PORTS)))
-OLD_LIBRARY := $(if $(call wants,lib prove-lib wasm npm page bench),$(call library_is_old,$(LIBRARY_OUT),$(LIBRARY_FLAGS)))
-OLD_HWCAPS := $(if $(HWCAPS),$(if $(call wants,lib wasm npm page bench),$(call library_is_old,$(HWCAPS_OUT),--cpu $(HWCAPS))))
+OLD_LIBRARY := $(if $(call wants,lib prove-lib module wasm c crate npm page bench),$(call library_is_old,$(LIBRARY_OUT),$(LIBRARY_FLAGS)))
+OLD_HWCAPS := $(if $(HWCAPS),$(if $(call wants,lib module wasm c crate npm page bench),$(call library_is_old,$(HWCAPS_OUT),--cpu $(HWCAPS))))
 
 all: $(if $(OLD_PROGRAM),$(if $(CROSS),cross,prove))
 
@@ -230,12 +232,35 @@ endif
 wheel:
 	$(PYTHON) python/backend.py "$(LIBRARY_OUT)/$(SONAME)" "$(WHEELS)"
 
+# The library's LLVM code, of which WebAssembly and C are made.
+MODULE = out/module/qrproved.ll
+module_is_old = $(call is_old,$(MODULE),qrproved,ports/module)
+module: $(if $(module_is_old),build-module)
+
+build-module: lib
+	ports/module $(MODULE)
+
 # The library as WebAssembly, the package for JavaScript with it inside, and the page with both inside.
 WASM = out/wasm/qrproved.wasm
-wasm: $(if $(call is_old,$(WASM),qrproved,ports/wasm),build-wasm)
+wasm: $(if $(module_is_old)$(shell find $(MODULE) ports/wasm -newer $(WASM) 2>&1),build-wasm)
 
-build-wasm: lib
-	ports/wasm/build out/wasm
+build-wasm: module
+	ports/wasm/build $(MODULE) out/wasm
+
+# The library as a C file, with the header beside it.
+C_FILE = out/c/qrproved.c
+c: $(if $(module_is_old)$(shell find $(MODULE) ports/c include/qrproved.h -newer $(C_FILE) 2>&1),build-c)
+
+build-c: module
+	ports/c/build $(MODULE) out/c
+
+# The crate for Cargo with the C file inside.
+CRATE = out/crate/qrproved
+crate: c
+	rm -rf $(CRATE)
+	mkdir -p $(CRATE)/c
+	cd rust/qrproved && cp -R Cargo.toml README.md build.rs src tests "$(CURDIR)/$(CRATE)"
+	cp $(C_FILE) $(dir $(C_FILE))qrproved.h $(CRATE)/c
 
 npm: wasm
 	js/build $(WASM) out/npm
@@ -248,5 +273,5 @@ bench: all lib
 	bench/library
 	bench/memory
 
-.PHONY: all bench build-wasm check check-each clean cross help install install-lib lib npm page print-pc prove-lib static test uninstall \
-    uninstall-lib wasm wheel
+.PHONY: all bench build-c build-module build-wasm c check check-each clean crate cross help install install-lib lib module npm page print-pc \
+    prove-lib static test uninstall uninstall-lib wasm wheel

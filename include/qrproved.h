@@ -119,14 +119,15 @@ struct qrproved_series {
  * ECI header. Bytes before the first ECI header have none: the standard takes them for ISO/IEC 8859-1, and many readers take
  * them for UTF-8. */
 struct qrproved_eci {
-	size_t begin;    /* number of bytes of the content before the header */
+	uint64_t begin;  /* number of bytes of the content before the header */
 	uint32_t number; /* from 0 to 999,999: 26 is UTF-8, 20 is Shift JIS, 3 is ISO/IEC 8859-1 */
+	uint32_t unused; /* has no meaning; with it the struct has 16 bytes on every machine */
 };
 
 /* What a symbol that was read contains, besides its bytes and its ECI headers. */
 struct qrproved_content {
-	size_t len;          /* number of bytes of the content */
-	size_t eci_count;    /* number of all ECI headers of the symbol, even if some were not written for lack of room */
+	uint64_t len;        /* number of bytes of the content */
+	uint64_t eci_count;  /* number of all ECI headers of the symbol, even if some were not written for lack of room */
 	uint8_t version;     /* from 1 to 40 */
 	uint8_t has_header;  /* 1 for a symbol of a series, which has a structured append header; 0 for a plain symbol, and then
 	                      * the next three fields are 0 */
@@ -142,8 +143,8 @@ struct qrproved_content {
 /* What a damaged symbol that was mended contains, besides its bytes and its ECI headers, and the counts of its damage. A field
  * that qrproved_content also has means the same as there. */
 struct qrproved_mended {
-	size_t len;                   /* number of bytes of the content */
-	size_t eci_count;             /* number of all ECI headers of the symbol, even if some were not written */
+	uint64_t len;                 /* number of bytes of the content */
+	uint64_t eci_count;           /* number of all ECI headers of the symbol, even if some were not written */
 	uint32_t wrong_modules;       /* number of modules that are wrong or not known; if 0, each module is right */
 	uint8_t version;              /* from 1 to 40 */
 	uint8_t has_header;           /* 1 for a symbol of a series; 0 for a plain symbol, and then the next three fields are 0 */
@@ -187,7 +188,6 @@ struct qrproved_drawn {
 #else
 #define QRPROVED_HOLDS(fact) struct qrproved_symbol
 #endif
-QRPROVED_HOLDS(sizeof(size_t) == 8);
 QRPROVED_HOLDS(sizeof(struct qrproved_symbol) == 4);
 QRPROVED_HOLDS(offsetof(struct qrproved_symbol, version) == 0);
 QRPROVED_HOLDS(offsetof(struct qrproved_symbol, side) == 1);
@@ -199,6 +199,7 @@ QRPROVED_HOLDS(offsetof(struct qrproved_series, side) == 1);
 QRPROVED_HOLDS(sizeof(struct qrproved_eci) == 16);
 QRPROVED_HOLDS(offsetof(struct qrproved_eci, begin) == 0);
 QRPROVED_HOLDS(offsetof(struct qrproved_eci, number) == 8);
+QRPROVED_HOLDS(offsetof(struct qrproved_eci, unused) == 12);
 QRPROVED_HOLDS(sizeof(struct qrproved_content) == 24);
 QRPROVED_HOLDS(offsetof(struct qrproved_content, len) == 0);
 QRPROVED_HOLDS(offsetof(struct qrproved_content, eci_count) == 8);
@@ -467,6 +468,53 @@ uint8_t qrproved_parse_drawing(const uint8_t *text, size_t text_len, uint8_t *mo
 QRPROVED_CALL(6)
 uint8_t qrproved_room(uint32_t version, uint32_t level, uint32_t mode, uint32_t interpretation, uint32_t header,
                       uint32_t *count);
+
+#ifdef QRPROVED_CALLER_MEMORY
+/* The calls above with memory of the caller in place of malloc. Only the C file qrproved.c has them, and libqrproved does not: a
+ * program that is linked with that file defines QRPROVED_CALLER_MEMORY before it includes this header. Each call returns and writes
+ * what the call without `_in` does.
+ *
+ * memory      memory that nothing else uses during the call. It may begin at any address, and what it contains after the call has
+ *             no meaning
+ * memory_len  number of its bytes. If they are too few, the call returns MEMORY, and everything else is unchanged
+ *
+ * The macros say how many bytes are enough for a call with each level, rule and interpretation. This is tested, and not proved.
+ * `version` is the greatest version of a symbol that the call makes or is given. Each other argument is the greatest number that is
+ * passed to the call, or for a drawing that is parsed the number that it shows. A text that is no drawing may need more. */
+#define QRPROVED_ENCODE_MEMORY(version) \
+	(3000 + 1050 * (size_t)(version) + 14 * (size_t)(version) * (version) + ((version) > 26 ? 16000 : 0))
+#define QRPROVED_ENCODE_SERIES_MEMORY(version, count) \
+	(QRPROVED_ENCODE_MEMORY(version) + (size_t)(count) * (600 + 380 * (size_t)(version) + 12 * (size_t)(version) * (version)))
+#define QRPROVED_READ_MEMORY(version) (2500 + 1500 * (size_t)(version) + 105 * (size_t)(version) * (version))
+#define QRPROVED_MEND_MEMORY(version) (QRPROVED_READ_MEMORY(version) + 2500 + 700 * (size_t)(version))
+#define QRPROVED_DRAW_MEMORY(drawing, side, count, margin) \
+	(3000 + (size_t)(count) * ((drawing) == QRPROVED_SVG ? 18 * (size_t)(side) * (side) : 5 * QRPROVED_AREA(side, margin)))
+#define QRPROVED_PARSE_DRAWING_MEMORY(side, count, margin) \
+	(4500 + (size_t)(count) * (16 * (size_t)(side) * (side) + 4 * QRPROVED_AREA(side, margin)))
+#define QRPROVED_AREA(side, margin) (((size_t)(side) + 2 * (size_t)(margin)) * ((size_t)(side) + 2 * (size_t)(margin)))
+QRPROVED_CALL(12)
+uint8_t qrproved_encode_in(void *memory, size_t memory_len, const uint8_t *input, size_t input_len, uint32_t version,
+                           uint32_t level, uint32_t rule, uint32_t interpretation, uint32_t boost, uint8_t *modules,
+                           size_t modules_len, struct qrproved_symbol *symbol);
+QRPROVED_CALL(11)
+uint8_t qrproved_encode_series_in(void *memory, size_t memory_len, const uint8_t *input, size_t input_len, uint32_t version,
+                                  uint32_t level, uint32_t rule, uint32_t interpretation, uint8_t *modules, size_t modules_len,
+                                  struct qrproved_series *series);
+QRPROVED_CALL(10)
+uint8_t qrproved_read_in(void *memory, size_t memory_len, const uint8_t *modules, size_t modules_len, uint32_t side,
+                         uint8_t *bytes, size_t bytes_len, struct qrproved_eci *ecis, size_t ecis_len,
+                         struct qrproved_content *content);
+QRPROVED_CALL(10)
+uint8_t qrproved_mend_in(void *memory, size_t memory_len, const uint8_t *modules, size_t modules_len, uint32_t side,
+                         uint8_t *bytes, size_t bytes_len, struct qrproved_eci *ecis, size_t ecis_len,
+                         struct qrproved_mended *mended);
+QRPROVED_CALL(11)
+uint8_t qrproved_draw_in(void *memory, size_t memory_len, const uint8_t *modules, size_t modules_len, uint32_t side,
+                         uint32_t count, uint32_t drawing, uint32_t margin, uint8_t *text, size_t text_len, size_t *written);
+QRPROVED_CALL(7)
+uint8_t qrproved_parse_drawing_in(void *memory, size_t memory_len, const uint8_t *text, size_t text_len, uint8_t *modules,
+                                  size_t modules_len, struct qrproved_drawn *drawn);
+#endif
 
 #undef QRPROVED_CALL
 

@@ -4,7 +4,7 @@ from __future__ import annotations
 import ctypes
 import ctypes.util
 import os
-from ctypes import c_size_t, c_uint8, c_uint32, c_void_p
+from ctypes import c_size_t, c_uint8, c_uint32, c_uint64, c_void_p
 from pathlib import Path
 
 from ._common import INTERPRETATIONS, LIMITS
@@ -29,7 +29,7 @@ class Series(ctypes.Structure):
 
 
 class Eci(ctypes.Structure):
-    _fields_ = [("begin", c_size_t), ("number", c_uint32)]
+    _fields_ = [("begin", c_uint64), ("number", c_uint32), ("unused", c_uint32)]
 
 
 HEADED = [(name, c_uint8) for name in ("version", "has_header", "position", "last", "parity", "fnc1", "application", "has_kanji")]
@@ -38,11 +38,11 @@ DAMAGED = [(name, c_uint8) for name in ("wrong_format_modules", "wrong_format_le
 
 
 class Content(ctypes.Structure):
-    _fields_ = [("len", c_size_t), ("eci_count", c_size_t), *HEADED]
+    _fields_ = [("len", c_uint64), ("eci_count", c_uint64), *HEADED]
 
 
 class Mended(ctypes.Structure):
-    _fields_ = [("len", c_size_t), ("eci_count", c_size_t), ("wrong_modules", c_uint32), *HEADED, ("level", c_uint8), ("mask", c_uint8), *DAMAGED]
+    _fields_ = [("len", c_uint64), ("eci_count", c_uint64), ("wrong_modules", c_uint32), *HEADED, ("level", c_uint8), ("mask", c_uint8), *DAMAGED]
 
 
 class Drawn(ctypes.Structure):

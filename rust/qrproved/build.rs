@@ -1,4 +1,5 @@
-//! Finds the library: in the folder that QRPROVED_LIB_DIR names, or by pkg-config.
+//! Finds the library: in the folder that QRPROVED_LIB_DIR names, or by pkg-config. If the crate has the C file of the library, as
+//! `make crate` packs it, this file is compiled instead, unless the folder is named or the feature `system` is chosen.
 use std::env;
 use std::path::Path;
 use std::process::Command;
@@ -6,6 +7,7 @@ use std::process::Command;
 const FOLDER: &str = "QRPROVED_LIB_DIR";
 const STATIC: &str = "QRPROVED_STATIC";
 const PKG_CONFIG: &str = "PKG_CONFIG";
+const C_FILE: &str = "c/qrproved.c";
 
 fn main() {
     for name in [
@@ -14,8 +16,15 @@ fn main() {
         PKG_CONFIG,
         "PKG_CONFIG_PATH",
         "PKG_CONFIG_LIBDIR",
+        "CC",
+        "AR",
     ] {
         println!("cargo:rerun-if-env-changed={name}");
+    }
+    let wants_system = env::var(FOLDER).is_ok() || env::var("CARGO_FEATURE_SYSTEM").is_ok();
+    if !wants_system && Path::new(C_FILE).exists() {
+        compile();
+        return;
     }
     let folder = match env::var(FOLDER) {
         Ok(folder) => folder,
@@ -45,6 +54,30 @@ fn main() {
         println!("cargo:rustc-link-arg=-Wl,-rpath,{folder}");
     }
     println!("cargo:root={folder}");
+}
+
+/// Compiles the C file by the tools that CC and AR name, or by cc and ar, and lets Cargo link it.
+fn compile() {
+    let folder = env::var("OUT_DIR").expect("Cargo sets it");
+    let [object, archive] = ["qrproved.o", "libqrproved.a"].map(|it| format!("{folder}/{it}"));
+    let tool = |name: &str, usual: &str| env::var(name).unwrap_or_else(|_| usual.to_string());
+    run(
+        &tool("CC", "cc"),
+        &["-std=c99", "-O2", "-fPIC", "-c", C_FILE, "-o", &object],
+    );
+    run(&tool("AR", "ar"), &["rcs", &archive, &object]);
+    println!("cargo:rerun-if-changed=c");
+    println!("cargo:rustc-link-search=native={folder}");
+    println!("cargo:rustc-link-lib=static=qrproved");
+}
+
+/// Runs a tool. Ends the build if it fails.
+fn run(tool: &str, words: &[&str]) {
+    let done = Command::new(tool).args(words).status();
+    if !done.is_ok_and(|it| it.success()) {
+        eprintln!("qrproved: {tool} cannot be run, or fails: {words:?}");
+        std::process::exit(1)
+    }
 }
 
 /// Returns the folder of the installed library. Ends the build if there is none of this version: structs and calls may change with

@@ -5,8 +5,8 @@ These scripts stand in for `rt`. For each it is said what the kit would have to 
 
 - tests/after_ci/rt builds the program and the library in the gate, over the libraries that `rt ci` proved. `rt run` and `rt lib`
   would have to take these libraries: today they prove them again, since `rt ci` leaves no record of what they were made of.
-- ports/wasm/build, which calls tests/after_ci/rt with a toolchain of its own, compiles the library's LLVM module for
-  WebAssembly. `rt lib` would have to write this module, or compile it itself, with attributes for some functions.
+- ports/module, which calls tests/after_ci/rt with a toolchain of its own, keeps the library's LLVM module, of which WebAssembly
+  and C are made. `rt lib` would have to write this module.
 - tests/wrong_bodies checks crates with changed lines. `rt must-fail` would have to take edits from another folder, to begin with what
   `rt ci` proved, to try several edits in one check, and to say which goals it refused.
 

@@ -91,15 +91,15 @@ HEADED = ("version", "has_header", "position", "last", "parity", "fnc1", "applic
 
 
 class Eci(ctypes.Structure):
-    _fields_ = [("begin", ctypes.c_size_t), ("number", ctypes.c_uint32)]
+    _fields_ = [("begin", ctypes.c_uint64), ("number", ctypes.c_uint32), ("unused", ctypes.c_uint32)]
 
 
 class Content(ctypes.Structure):
-    _fields_ = [("len", ctypes.c_size_t), ("eci_count", ctypes.c_size_t), *bytes_of(*HEADED)]
+    _fields_ = [("len", ctypes.c_uint64), ("eci_count", ctypes.c_uint64), *bytes_of(*HEADED)]
 
 
 class Mended(ctypes.Structure):
-    _fields_ = [("len", ctypes.c_size_t), ("eci_count", ctypes.c_size_t), ("wrong_modules", ctypes.c_uint32),
+    _fields_ = [("len", ctypes.c_uint64), ("eci_count", ctypes.c_uint64), ("wrong_modules", ctypes.c_uint32),
                 *bytes_of(*HEADED, "level", "mask", "wrong_format_modules", "wrong_format_least", "changed_most", "changed_allowed",
                           "spent_most", "worst_misread", "worst_unknown", "worst_unknown_wrong")]
 

@@ -8,7 +8,7 @@ import subprocess
 from growths import TOP
 from libraries import check, counts
 
-TYPES = {"u8": "uint8_t", "c_uchar": "uint8_t", "u32": "uint32_t", "usize": "size_t"}
+TYPES = {"u8": "uint8_t", "c_uchar": "uint8_t", "u32": "uint32_t", "u64": "uint64_t", "usize": "size_t"}
 CASES = 6  # where there is cargo
 # The caller's environment, but for what says where the library is. A backtrace would be more than is kept of an error.
 CALLER = {**{name: it for name, it in os.environ.items() if not name.startswith("QRPROVED_")}, "CARGO_NET_OFFLINE": "true", "RUST_BACKTRACE": "0"}

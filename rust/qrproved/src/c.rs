@@ -37,15 +37,16 @@ pub struct Series {
 #[repr(C)]
 #[derive(Clone, Default)]
 pub struct Eci {
-    pub begin: usize,
+    pub begin: u64,
     pub number: u32,
+    pub unused: u32,
 }
 
 #[repr(C)]
 #[derive(Default)]
 pub struct Content {
-    pub len: usize,
-    pub eci_count: usize,
+    pub len: u64,
+    pub eci_count: u64,
     pub version: u8,
     pub has_header: u8,
     pub position: u8,
@@ -59,8 +60,8 @@ pub struct Content {
 #[repr(C)]
 #[derive(Default)]
 pub struct Mended {
-    pub len: usize,
-    pub eci_count: usize,
+    pub len: u64,
+    pub eci_count: u64,
     pub wrong_modules: u32,
     pub version: u8,
     pub has_header: u8,

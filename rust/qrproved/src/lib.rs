@@ -554,7 +554,7 @@ pub fn read(modules: &[u8], side: usize) -> Result<Content, Error> {
                 &mut content,
             )
         };
-        (status, content.len)
+        (status, content.len as usize)
     })?;
     Ok(content_of(data, &ecis, &content))
 }
@@ -586,7 +586,7 @@ pub fn mend(modules: &[u8], side: usize) -> Result<Mended, Error> {
                 &mut mended,
             )
         };
-        (status, mended.len)
+        (status, mended.len as usize)
     })?;
     let content = c::Content {
         len: mended.len,
@@ -791,10 +791,10 @@ fn content_of(data: Vec<u8>, ecis: &[c::Eci], told: &c::Content) -> Content {
             count: told.last + 1,
             parity: told.parity,
         }),
-        ecis: ecis[..told.eci_count]
+        ecis: ecis[..told.eci_count as usize]
             .iter()
             .map(|it| Eci {
-                begin: it.begin,
+                begin: it.begin as usize,
                 number: it.number,
             })
             .collect(),

@@ -1,0 +1,246 @@
+/* ---- the heap of a call */
+
+#ifndef QRPROVED_NO_MALLOC
+#include <stdlib.h>
+#endif
+
+/* Where a call takes its memory: from malloc if `end` is NULL, and otherwise from its caller's memory. There a block begins where the
+ * last one ended. Only the last block grows where it is, or is given back before the call ends; another one that grows is copied. */
+struct heap {
+	uint8_t *next; /* where the next block begins, a multiple of BLOCK */
+	uint8_t *end;
+	uint8_t *last; /* the last block */
+};
+
+enum { BLOCK = 16 }; /* bytes: no block is aligned to more */
+
+#define BYTES(p) ((uint8_t *)(uintptr_t)(const void *)(p))
+
+static const uint8_t NOTHING = 0; /* a byte that nobody uses, for pointers that may not be null */
+
+/* Whether there is a block, and where. */
+static struct s2_i64_i64 tried(const uint8_t *block)
+{
+	struct s2_i64_i64 it;
+	it.f0 = block != NULL;
+	it.f1 = (uint64_t)(uintptr_t)(block ? block : &NOTHING);
+	return it;
+}
+
+/* Returns the block of so many bytes that begins at an address of the caller's memory, or NULL if the memory is too short. */
+static uint8_t *block_at(struct heap *heap, uint8_t *start, uint64_t size)
+{
+	size_t left = (size_t)(heap->end - start), whole;
+	if (size > left)
+		return NULL;
+	whole = ((size_t)size + BLOCK - 1) / BLOCK * BLOCK;
+	heap->next = start + (whole < left ? whole : left);
+	heap->last = start;
+	return start;
+}
+
+/* A block of no size is one of a unit of its alignment, so that no two blocks are at the same address. */
+static struct s2_i64_i64 m_rattle_alloc(struct heap *heap, uint64_t size, uint64_t alignment)
+{
+	size = size ? size : alignment;
+#ifndef QRPROVED_NO_MALLOC
+	if (!heap->end)
+		return tried(size > SIZE_MAX ? NULL : malloc((size_t)size));
+#endif
+	return tried(block_at(heap, heap->next, size));
+}
+
+/* If there is no room, the old block stays. */
+static struct s2_i64_i64 m_rattle_realloc(struct heap *heap, uint8_t *old, uint64_t old_size, uint64_t size, uint64_t alignment)
+{
+	uint8_t *block;
+	size = size ? size : alignment;
+#ifndef QRPROVED_NO_MALLOC
+	if (!heap->end)
+		return tried(size > SIZE_MAX ? NULL : realloc(old, (size_t)size));
+#endif
+	if (old == heap->last)
+		return tried(block_at(heap, old, size));
+	block = block_at(heap, heap->next, size);
+	if (block)
+		copy(block, old, MIN(old_size, size));
+	return tried(block);
+}
+
+static void m_rattle_dealloc(struct heap *heap, uint8_t *block)
+{
+#ifndef QRPROVED_NO_MALLOC
+	if (!heap->end) {
+		free(block);
+		return;
+	}
+#endif
+	if (block == heap->last)
+		heap->next = block;
+}
+
+/* Returns the heap of a call whose caller has passed memory, perhaps none. */
+static struct heap heap_of(void *memory, size_t memory_len)
+{
+	struct heap heap;
+	uint8_t *start = memory_len ? memory : BYTES(&NOTHING);
+	size_t before = (BLOCK - (size_t)((uintptr_t)start % BLOCK)) % BLOCK;
+	heap.end = start + memory_len;
+	heap.next = start + (before < memory_len ? before : memory_len);
+	heap.last = NULL;
+	return heap;
+}
+
+/* ---- the calls of qrproved.h, each with a heap, and then with the caller's memory and with malloc */
+
+/* The numbers of a struct are written with the lowest byte first, and the machine may have another order. */
+static void turn_64(uint64_t *n) { *n = load_64(BYTES(n)); }
+static void turn_32(uint32_t *n) { *n = load_32(BYTES(n)); }
+
+static void turn_ecis(struct qrproved_eci *ecis, size_t ecis_len, uint64_t count)
+{
+	size_t k;
+	for (k = 0; k < ecis_len && k < count; k++) {
+		turn_64(&ecis[k].begin);
+		turn_32(&ecis[k].number);
+	}
+}
+
+static uint8_t read_by(struct heap *heap, const uint8_t *modules, size_t modules_len, uint32_t side, uint8_t *bytes, size_t bytes_len,
+                       struct qrproved_eci *ecis, size_t ecis_len, struct qrproved_content *content)
+{
+	uint8_t status = m_qrproved_read(heap, BYTES(modules), modules_len, side, bytes, bytes_len, BYTES(ecis), ecis_len, BYTES(content));
+	if (!IS_LITTLE && status == QRPROVED_DONE) {
+		turn_64(&content->len);
+		turn_64(&content->eci_count);
+		turn_ecis(ecis, ecis_len, content->eci_count);
+	}
+	return status;
+}
+
+static uint8_t mend_by(struct heap *heap, const uint8_t *modules, size_t modules_len, uint32_t side, uint8_t *bytes, size_t bytes_len,
+                       struct qrproved_eci *ecis, size_t ecis_len, struct qrproved_mended *mended)
+{
+	uint8_t status = m_qrproved_mend(heap, BYTES(modules), modules_len, side, bytes, bytes_len, BYTES(ecis), ecis_len, BYTES(mended));
+	if (!IS_LITTLE && status == QRPROVED_DONE) {
+		turn_64(&mended->len);
+		turn_64(&mended->eci_count);
+		turn_32(&mended->wrong_modules);
+		turn_ecis(ecis, ecis_len, mended->eci_count);
+	}
+	return status;
+}
+
+/* The length of a drawing is written as a number of 64 bits, and only with these two statuses. */
+static uint8_t draw_by(struct heap *heap, const uint8_t *modules, size_t modules_len, uint32_t side, uint32_t count, uint32_t drawing,
+                       uint32_t margin, uint8_t *text, size_t text_len, size_t *written)
+{
+	union slot len = {{0}};
+	uint8_t status = m_qrproved_draw(heap, BYTES(modules), modules_len, side, count, drawing, margin, text, text_len, len.b);
+	if (status == QRPROVED_DONE || status == QRPROVED_ROOM)
+		*written = (size_t)load_64(len.b);
+	return status;
+}
+
+uint32_t qrproved_version(void) { return m_qrproved_version(); }
+
+uint8_t qrproved_room(uint32_t version, uint32_t level, uint32_t mode, uint32_t interpretation, uint32_t header, uint32_t *count)
+{
+	uint8_t status = m_qrproved_room(version, level, mode, interpretation, header, BYTES(count));
+	if (!IS_LITTLE && status == QRPROVED_DONE)
+		turn_32(count);
+	return status;
+}
+
+uint8_t qrproved_encode_in(void *memory, size_t memory_len, const uint8_t *input, size_t input_len, uint32_t version, uint32_t level,
+                           uint32_t rule, uint32_t interpretation, uint32_t boost, uint8_t *modules, size_t modules_len,
+                           struct qrproved_symbol *symbol)
+{
+	struct heap heap = heap_of(memory, memory_len);
+	return m_qrproved_encode(&heap, BYTES(input), input_len, version, level, rule, interpretation, boost, modules, modules_len,
+	                         BYTES(symbol));
+}
+
+uint8_t qrproved_encode_series_in(void *memory, size_t memory_len, const uint8_t *input, size_t input_len, uint32_t version,
+                                  uint32_t level, uint32_t rule, uint32_t interpretation, uint8_t *modules, size_t modules_len,
+                                  struct qrproved_series *series)
+{
+	struct heap heap = heap_of(memory, memory_len);
+	return m_qrproved_encode_series(&heap, BYTES(input), input_len, version, level, rule, interpretation, modules, modules_len,
+	                                BYTES(series));
+}
+
+uint8_t qrproved_read_in(void *memory, size_t memory_len, const uint8_t *modules, size_t modules_len, uint32_t side, uint8_t *bytes,
+                         size_t bytes_len, struct qrproved_eci *ecis, size_t ecis_len, struct qrproved_content *content)
+{
+	struct heap heap = heap_of(memory, memory_len);
+	return read_by(&heap, modules, modules_len, side, bytes, bytes_len, ecis, ecis_len, content);
+}
+
+uint8_t qrproved_mend_in(void *memory, size_t memory_len, const uint8_t *modules, size_t modules_len, uint32_t side, uint8_t *bytes,
+                         size_t bytes_len, struct qrproved_eci *ecis, size_t ecis_len, struct qrproved_mended *mended)
+{
+	struct heap heap = heap_of(memory, memory_len);
+	return mend_by(&heap, modules, modules_len, side, bytes, bytes_len, ecis, ecis_len, mended);
+}
+
+uint8_t qrproved_draw_in(void *memory, size_t memory_len, const uint8_t *modules, size_t modules_len, uint32_t side, uint32_t count,
+                         uint32_t drawing, uint32_t margin, uint8_t *text, size_t text_len, size_t *written)
+{
+	struct heap heap = heap_of(memory, memory_len);
+	return draw_by(&heap, modules, modules_len, side, count, drawing, margin, text, text_len, written);
+}
+
+uint8_t qrproved_parse_drawing_in(void *memory, size_t memory_len, const uint8_t *text, size_t text_len, uint8_t *modules,
+                                  size_t modules_len, struct qrproved_drawn *drawn)
+{
+	struct heap heap = heap_of(memory, memory_len);
+	return m_qrproved_parse_drawing(&heap, BYTES(text), text_len, modules, modules_len, BYTES(drawn));
+}
+
+#ifndef QRPROVED_NO_MALLOC
+static const struct heap SYSTEM = {NULL, NULL, NULL};
+
+uint8_t qrproved_encode(const uint8_t *input, size_t input_len, uint32_t version, uint32_t level, uint32_t rule,
+                        uint32_t interpretation, uint32_t boost, uint8_t *modules, size_t modules_len, struct qrproved_symbol *symbol)
+{
+	struct heap heap = SYSTEM;
+	return m_qrproved_encode(&heap, BYTES(input), input_len, version, level, rule, interpretation, boost, modules, modules_len,
+	                         BYTES(symbol));
+}
+
+uint8_t qrproved_encode_series(const uint8_t *input, size_t input_len, uint32_t version, uint32_t level, uint32_t rule,
+                               uint32_t interpretation, uint8_t *modules, size_t modules_len, struct qrproved_series *series)
+{
+	struct heap heap = SYSTEM;
+	return m_qrproved_encode_series(&heap, BYTES(input), input_len, version, level, rule, interpretation, modules, modules_len,
+	                                BYTES(series));
+}
+
+uint8_t qrproved_read(const uint8_t *modules, size_t modules_len, uint32_t side, uint8_t *bytes, size_t bytes_len,
+                      struct qrproved_eci *ecis, size_t ecis_len, struct qrproved_content *content)
+{
+	struct heap heap = SYSTEM;
+	return read_by(&heap, modules, modules_len, side, bytes, bytes_len, ecis, ecis_len, content);
+}
+
+uint8_t qrproved_mend(const uint8_t *modules, size_t modules_len, uint32_t side, uint8_t *bytes, size_t bytes_len,
+                      struct qrproved_eci *ecis, size_t ecis_len, struct qrproved_mended *mended)
+{
+	struct heap heap = SYSTEM;
+	return mend_by(&heap, modules, modules_len, side, bytes, bytes_len, ecis, ecis_len, mended);
+}
+
+uint8_t qrproved_draw(const uint8_t *modules, size_t modules_len, uint32_t side, uint32_t count, uint32_t drawing, uint32_t margin,
+                      uint8_t *text, size_t text_len, size_t *written)
+{
+	struct heap heap = SYSTEM;
+	return draw_by(&heap, modules, modules_len, side, count, drawing, margin, text, text_len, written);
+}
+
+uint8_t qrproved_parse_drawing(const uint8_t *text, size_t text_len, uint8_t *modules, size_t modules_len, struct qrproved_drawn *drawn)
+{
+	struct heap heap = SYSTEM;
+	return m_qrproved_parse_drawing(&heap, BYTES(text), text_len, modules, modules_len, BYTES(drawn));
+}
+#endif

@@ -1,0 +1,268 @@
+/* Makes the calls with memory of the caller, for tests/c: library_memory WHAT
+ *
+ * WHAT is `enough` or `least`. Both make symbols of some versions in all levels, rules and interpretations, of the longest inputs of
+ * many kinds that fit. Standard input has symbols with as many ECI headers as fit, each as its side and its modules. All are read and
+ * mended, drawn in each type and parsed, and series are made.
+ *
+ * `enough` makes each call with exactly as much memory as its macro says, at an odd address, and looks for the least memory with which
+ * it succeeds. The macro has to be above that by a tenth. With less, down to none, the call has to return MEMORY and to change nothing
+ * else. `least` prints for each version the most that such a call takes, and for the other calls the most in hundredths of the macro. */
+#define QRPROVED_CALLER_MEMORY
+#include "qrproved.h"
+#include <stdio.h>
+#include <stdlib.h>
+#include <string.h>
+
+enum { MARK = 7, MEMORY_MAX = 16000000, TEXT_MAX = 8000000, LEVELS = 4, RULES = 3, DRAWINGS = 4, VERSIONS = 40, KINDS = 12, SHORTER = 12 };
+enum call { ENCODE, SERIES, READ, MEND, DRAW, PARSE, CALLS };
+
+static const char *const NAMES[CALLS] = {"encode", "encode_series", "read", "mend", "draw", "parse_drawing"};
+static const uint32_t INTERPRETATIONS[] = {QRPROVED_INTERPRETATION_DEFAULT, 999999, QRPROVED_INTERPRETATION_GS1};
+
+static uint8_t memory[MEMORY_MAX + 1], input[QRPROVED_BYTES_MAX * 17], modules[QRPROVED_SERIES_MAX], damaged[QRPROVED_SYMBOL_MAX];
+static uint8_t out[TEXT_MAX], text[TEXT_MAX], kept[TEXT_MAX];
+static size_t input_len, text_len, most[CALLS][VERSIONS + 1];
+static uint32_t version, level, rule, interpretation, side, count, drawing;
+static int is_measured;
+
+/* What a call writes, besides the buffer `out`. */
+static union {
+	struct qrproved_symbol symbol;
+	struct qrproved_series series;
+	struct qrproved_content content;
+	struct qrproved_mended mended;
+	struct qrproved_drawn drawn;
+	size_t written;
+	uint8_t bytes[64];
+} told, kept_told;
+
+static uint8_t call_with(enum call call, uint8_t *place, size_t len)
+{
+	size_t area = (size_t)side * side;
+	switch (call) {
+	case ENCODE:
+		return qrproved_encode_in(place, len, input, input_len, 1, level, rule, interpretation, 0, out, QRPROVED_SYMBOL_MAX, &told.symbol);
+	case SERIES:
+		return qrproved_encode_series_in(place, len, input, input_len, version, level, rule, interpretation, out, QRPROVED_SERIES_MAX, &told.series);
+	case READ:
+		return qrproved_read_in(place, len, modules, area, side, out, QRPROVED_BYTES_MAX, NULL, 0, &told.content);
+	case MEND:
+		return qrproved_mend_in(place, len, damaged, area, side, out, QRPROVED_BYTES_MAX, NULL, 0, &told.mended);
+	case DRAW:
+		return qrproved_draw_in(place, len, modules, area * count, side, count, drawing, 4, out, sizeof out, &told.written);
+	default:
+		return qrproved_parse_drawing_in(place, len, text, text_len, out, QRPROVED_SERIES_MAX, &told.drawn);
+	}
+}
+
+/* The bytes of `out` that a call may write. */
+static size_t room_of(enum call call)
+{
+	const size_t rooms[CALLS] = {QRPROVED_SYMBOL_MAX, QRPROVED_SERIES_MAX, QRPROVED_BYTES_MAX, QRPROVED_BYTES_MAX, TEXT_MAX, QRPROVED_SERIES_MAX};
+	return rooms[call];
+}
+
+static size_t enough_for(enum call call)
+{
+	switch (call) {
+	case ENCODE:
+		return QRPROVED_ENCODE_MEMORY(version);
+	case SERIES:
+		return QRPROVED_ENCODE_SERIES_MEMORY(version, count);
+	case READ:
+		return QRPROVED_READ_MEMORY(version);
+	case MEND:
+		return QRPROVED_MEND_MEMORY(version);
+	case DRAW:
+		return QRPROVED_DRAW_MEMORY(drawing, side, count, 4);
+	default:
+		return QRPROVED_PARSE_DRAWING_MEMORY(side, count, 4);
+	}
+}
+
+static void fault(enum call call, const char *what, size_t len)
+{
+	printf("FAILED: %s, version %u, level %u, rule %u, interpretation %u, %u bytes of input, %u bytes of memory: %s\n", NAMES[call], (unsigned)version,
+	       (unsigned)level, (unsigned)rule, (unsigned)interpretation, (unsigned)input_len, (unsigned)len, what);
+	exit(1);
+}
+
+/* The least memory with which a call succeeds, found by halves. */
+static size_t least_for(enum call call)
+{
+	size_t too_little = 0, fits = MEMORY_MAX;
+	if (call_with(call, memory, MEMORY_MAX) != QRPROVED_DONE)
+		fault(call, "not done", MEMORY_MAX);
+	for (size_t step = 4096; fits == MEMORY_MAX; step *= 2)
+		if (step >= MEMORY_MAX || call_with(call, memory, step) == QRPROVED_DONE)
+			fits = step;
+		else
+			too_little = step;
+	while (fits - too_little > 16) {
+		size_t len = too_little + (fits - too_little) / 2;
+		if (call_with(call, memory, len) == QRPROVED_DONE)
+			fits = len;
+		else
+			too_little = len;
+	}
+	return fits;
+}
+
+static void want_unchanged(enum call call, uint8_t *place, size_t len)
+{
+	size_t room = room_of(call);
+	memset(out, MARK, room), memset(&told, MARK, sizeof told);
+	if (call_with(call, place, len) != QRPROVED_MEMORY)
+		fault(call, "is not MEMORY", len);
+	for (size_t i = 0; i < room; i++)
+		if (out[i] != MARK)
+			fault(call, "a buffer is changed", len);
+	for (size_t i = 0; i < sizeof told.bytes; i++)
+		if (told.bytes[i] != MARK)
+			fault(call, "the struct is changed", len);
+}
+
+static void try_call(enum call call)
+{
+	size_t least = least_for(call), enough = enough_for(call), room = room_of(call);
+	size_t number = call == ENCODE || call == READ || call == MEND ? least : least * 100 / enough;
+	most[call][version] = number > most[call][version] ? number : most[call][version];
+	if (is_measured)
+		return;
+	if (enough < least + least / 10)
+		fault(call, "takes more than ten elevenths of the macro", least);
+	memset(out, MARK, room), memset(&told, MARK, sizeof told);
+	if (call_with(call, memory, MEMORY_MAX) != QRPROVED_DONE)
+		fault(call, "not done", MEMORY_MAX);
+	memcpy(kept, out, room), kept_told = told;
+	memset(out, MARK, room), memset(&told, MARK, sizeof told);
+	memory[1 + enough] = MARK;
+	if (call_with(call, memory + 1, enough) != QRPROVED_DONE || memcmp(kept, out, room) || memcmp(&kept_told, &told, sizeof told))
+		fault(call, "another result", enough);
+	if (memory[1 + enough] != MARK)
+		fault(call, "a byte after the memory is changed", enough);
+	for (size_t k = 1; k <= SHORTER; k++)
+		want_unchanged(call, memory, (least - 17) * (SHORTER - k) / (SHORTER - 1));
+	want_unchanged(call, NULL, 0);
+}
+
+/* Fills the input: a kind below 4 has one mode, and the others have runs in turn, shorter with each kind. */
+static void fill(uint32_t kind)
+{
+	static const char *const MODES[] = {"31415926", "AEIOUX", "\x93\x5f\xe4\xaa", "aeiou,", "1\x1d""2\x1d", "A%B%"};
+	uint32_t left = 0, now = kind % 4, turn = 0;
+	for (size_t i = 0; i < sizeof input; i++, turn++) {
+		if (kind >= 4 && left-- == 0)
+			left = kind >= 10 ? turn % 3 : 26 / (kind - 3) + turn * turn % 5, now = (now + 1 + turn % 2) % 4, turn += left;
+		const char *mode = MODES[kind >= 4 && interpretation == QRPROVED_INTERPRETATION_GS1 && kind % 3 == 0 ? 4 + now % 2 : now];
+		input[i] = (uint8_t)mode[i % strlen(mode)];
+		if (i > 0 && input[i - 1] == 0x1D && (input[i] == 0x1D || input[i] == '%'))
+			input[i] = '1';
+	}
+}
+
+/* The longest input that fits the version, by halves. Returns whether there is one that fits no smaller version. */
+static int find_longest(void)
+{
+	size_t fits = 0, too_long = QRPROVED_BYTES_MAX + 1;
+	while (too_long - fits > 1) {
+		input_len = fits + (too_long - fits) / 2;
+		if (call_with(ENCODE, memory, MEMORY_MAX) == QRPROVED_DONE && told.symbol.version <= version)
+			fits = input_len;
+		else
+			too_long = input_len;
+	}
+	input_len = fits;
+	return fits > 0 && call_with(ENCODE, memory, MEMORY_MAX) == QRPROVED_DONE && told.symbol.version == version;
+}
+
+/* Reads the modules, and mends them with some of them inverted. */
+static void read_and_mend(void)
+{
+	size_t area = (size_t)side * side;
+	try_call(READ);
+	memcpy(damaged, modules, area);
+	for (size_t k = 0; k < 1 + version / 2; k++)
+		damaged[(k * 977 + 300) % area] ^= 1;
+	if (call_with(MEND, memory, MEMORY_MAX) != QRPROVED_DONE)
+		memcpy(damaged, modules, area);
+	try_call(MEND);
+}
+
+static void draw_and_parse(void)
+{
+	for (drawing = 0; drawing < DRAWINGS; drawing++) {
+		try_call(DRAW);
+		call_with(DRAW, memory, MEMORY_MAX);
+		text_len = told.written;
+		memcpy(text, out, text_len);
+		try_call(PARSE);
+	}
+}
+
+static void try_symbols(uint32_t kind)
+{
+	fill(kind);
+	if (!find_longest())
+		return;
+	try_call(ENCODE);
+	side = 17 + 4 * version, count = 1;
+	call_with(ENCODE, memory, MEMORY_MAX);
+	memcpy(modules, out, (size_t)side * side);
+	read_and_mend();
+	if (kind == 2 && level == 0 && rule == 0)
+		draw_and_parse();
+	if (kind % 5 || level % 3)
+		return;
+	input_len *= 3 + version % 12;
+	if (call_with(SERIES, memory, MEMORY_MAX) == QRPROVED_DONE) {
+		count = told.series.count;
+		memcpy(modules, out, (size_t)side * side * count);
+		try_call(SERIES);
+		if (kind == 5 && rule == 1 && version % 9 == 0)
+			draw_and_parse();
+	}
+}
+
+/* The symbols of standard input. */
+static void try_given(void)
+{
+	int given = getchar();
+	for (; given != EOF; given = getchar()) {
+		side = (uint32_t)given, version = (side - 17) / 4, level = rule = interpretation = 0, input_len = 0;
+		if (fread(modules, 1, (size_t)side * side, stdin) != (size_t)side * side)
+			exit(2);
+		read_and_mend();
+	}
+}
+
+static void tell_most(void)
+{
+	printf("version %u:", (unsigned)version);
+	for (int call = 0; call < CALLS; call++)
+		printf(" %s %u%s", NAMES[call], (unsigned)most[call][version], call < CALLS - 1 ? "," : "\n");
+	fflush(stdout);
+}
+
+int main(int argc, char **argv)
+{
+	is_measured = argc == 2 && !strcmp(argv[1], "least");
+	if (argc != 2 || (!is_measured && strcmp(argv[1], "enough")))
+		return 2;
+	try_given();
+	for (version = 1; version <= VERSIONS; version += version < 3 || version % 9 == 0 ? 1 : 3) {
+		for (level = 0; level < LEVELS; level++)
+			for (rule = 0; rule < RULES; rule++)
+				for (size_t k = 0; k < sizeof INTERPRETATIONS / sizeof *INTERPRETATIONS; k++) {
+					interpretation = INTERPRETATIONS[k];
+					for (uint32_t kind = 0; kind < KINDS && (rule < 2 || k != 1); kind++)
+						if (is_measured || (kind + version + level) % 4 == 0)
+							try_symbols(kind);
+				}
+		if (is_measured)
+			tell_most();
+	}
+	if (!is_measured)
+		puts("memory: as wanted");
+	return 0;
+}
