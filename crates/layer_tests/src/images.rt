@@ -92,7 +92,7 @@ fn pattern(alloc: Global) -> Result<Matrix, Fail> {
 #[test]
 fn one_module_is_one_pixel(rt: HostRuntime) -> Result<(), Fail> {
     let mut square = Matrix::new(rt.alloc(), 1)?;
-    square.fill(0, square.side(), 0, square.side(), true);
+    square.fill(0..1, 0..1, true);
     let settings = ImageSettings {
         format: Format::Png,
         scale: 1,
