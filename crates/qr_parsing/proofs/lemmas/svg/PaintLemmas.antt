@@ -1,5 +1,5 @@
 -- The bytes of the sheet of an SVG document while its boxes are painted.
-use Rattle.std.proofs.Common.{◌≡◌, ◌≤◌, ◌<◌, ◌≢◌, ◌+◌, ◌*◌, ◌/◌, ◌%◌, ◌∙◌, ◌++◌, ◌&&◌, ◌||◌, leb, ltb, ℕ, Bool, true, false, cond, eqb, List, ◌∷◌, length, drop, take, get_or, set, replicate, refl, sym, ap, arith, inl, inr}
+use Rattle.std.proofs.Common.{◌≡◌, ◌≤◌, ◌<◌, ◌≢◌, ◌+◌, ◌*◌, ◌/◌, ◌%◌, ◌∙◌, ◌++◌, ◌&&◌, ◌||◌, leb, ltb, ℕ, Bool, true, false, cond, eqb, List, ◌∷◌, length, drop, take, get_or, min, set, replicate, refl, sym, ap, arith, inl, inr}
 use Rattle.std.proofs.{lemmas.{Bool.{cases_lt, Decides.nat_tests}, Nat.{div-mul-add, mod-mul-add}}, Math.Seq.take-append_seam}
 use Rattle.std.proofs.lemmas.List.{length-set, get_or-set_same, get_or-set_other, FromFn.fill_by_all, get_or-replicate, length-replicate}
 use Rattle.qr_parsing.{specs.Steps.Svg.{is_in_boxes, painted_bytes}, proofs.lemmas.text.PlaceLemmas.place-in}
@@ -22,6 +22,21 @@ painted w h y x col bytes old some lt le fits before i in_i = elim (cases_lt i (
   where
     other : i ≢ y * w + col → get_or (set bytes (y * w + col) 1) i 0 ≡ cond (eqb (i / w) y && (leb x (i % w) && ltb (i % w) (col + 1))) 1 (get_or old i 0)
     other ne = rw (same-test w y x col i some ne) (get_or-set_other bytes (y * w + col) i 1 0 ne ∙ before i in_i)
+
+-- if a box ends after its first module, or the line does, and this module is painted, the box is painted
+pub painted-one : (w h y x n : ℕ) (old : List ℕ) → length old ≡ w * h → 0 < w → y < h → x < min (x + n) w → min (x + n) w ≤ x + 1
+    → (i : ℕ) → i < length old → get_or (set old (y * w + x) 1) i 0 ≡ cond (eqb (i / w) y && (leb x (i % w) && ltb (i % w) (x + n))) 1 (get_or old i 0)
+painted-one w h y x n old area some in_y some_n one i in_i =
+    let in_x : x < w = omega arith in
+    let place = place-in h w y x in_y in_x in
+    painted w h y x x old old some in_x (omega arith) (omega arith) (λ i l. none i) i in_i
+    ∙ ap (λ t. cond (eqb (i / w) y && t) 1 (get_or old i 0)) same
+  where
+    none : (i : ℕ) → get_or old i 0 ≡ cond (eqb (i / w) y && (leb x (i % w) && ltb (i % w) x)) 1 (get_or old i 0)
+    none i = let f : (eqb (i / w) y && (leb x (i % w) && ltb (i % w) x)) ≡ false = grind (arith, nat_tests) in rw f refl
+
+    same : (leb x (i % w) && ltb (i % w) (x + 1)) ≡ (leb x (i % w) && ltb (i % w) (x + n))
+    same = grind (arith, nat_tests)
 
 -- if the first two modules of a box are painted, the box is painted up to its third column
 pub painted-two : (w h y x : ℕ) (old : List ℕ) → length old ≡ w * h → 0 < w → y < h → x + 1 < w

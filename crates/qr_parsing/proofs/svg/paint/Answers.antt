@@ -1,5 +1,5 @@
 use Rattle.std.proofs.{Common.{rules, ◌≡◌, ◌<◌, ◌+◌, ◌*◌, ◌∙◌, length, set, arith}, lemmas.List.length-set}
-use Rattle.qr_parsing.proofs.lemmas.{text.PlaceLemmas.place-in, svg.PaintLemmas.{painted, painted-two}}
+use Rattle.qr_parsing.proofs.lemmas.{text.PlaceLemmas.place-in, svg.PaintLemmas.{painted, painted-one, painted-two}}
 use Rattle.qr_parsing.proofs.svg.paint.Goals as goal
 
 pub loop-col-init : goal.loop-col-init
@@ -21,3 +21,8 @@ loop-col-preserved c i lt =
     let same : length c.loop-col.bytes ≡ length c.args.bytes.now = search (rules, length-set) in
     let in_i : i < length c.loop-col.bytes = omega (arith, length-set c.loop-col.bytes (y * w + col) 1) in
     painted w c.args.height y c.args.dark.x col c.loop-col.bytes c.args.bytes.now c.requires.some in_col (omega arith) (omega arith) c.loop-col.invariant i in_i
+
+pub returns-else-x-end-2 : goal.returns-else-x-end-2
+returns-else-x-end-2 c i lt =
+    painted-one c.args.width c.args.height c.args.dark.y c.args.dark.x c.args.dark.modules c.args.bytes.now c.requires.area c.requires.some c.if-y-height.true (omega arith) (omega arith)
+    i (omega arith)
