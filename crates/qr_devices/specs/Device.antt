@@ -1,7 +1,7 @@
 -- What each read, write or flush adds to the counts `c` of a device, and which counts show a fault. `returned` is the
 -- result of the call. At most 999 interrupted reads or writes (EINTR) are tried again while one input is read or one
 -- text is written.
-use Rattle.std.specs.Prelude.{◌≡◌, ◌+◌, ◌-◌, ◌^◌, ◌≤◌, ◌++◌, ◌==◌, ◌||◌, ◌&&◌, ℕ, Bool, false, nat_lt, nat_le, min, max, List, Option, Result, Ok, Err, is_ok, if◌then◌else◌}
+use Rattle.std.specs.Prelude.{◌≡◌, ◌+◌, ◌-◌, ◌^◌, ◌≤◌, ◌++◌, ◌==◌, ◌||◌, ◌&&◌, ℕ, Bool, false, nat_lt, nat_le, min, max, List, drop, Option, Result, Ok, Err, MatchResult, is_ok, if◌then◌else◌}
 use Rattle.std.specs.Io.KnownBytes.{Appends}
 use Rattle.qr_devices.specs.declared.device.TheConstants.{INTERRUPTIONS_MAX}
 use Rattle.qr_devices.specs.declared.device.Trouble.{Trouble}
@@ -102,8 +102,16 @@ pub record Reader : Type 0 where
   pub remaining : Option (List ℕ)
   pub counts : ReadCounts
 
--- What contracts see of a `Sink`. `taken` are the bytes that it has accepted, or `None` if contracts do not know them
--- [own]
+-- What contracts see of a `Sink`. `taken` are the bytes that it has accepted, or `None` if contracts do not know them.
+-- `buffer` is the number by which contracts know the borrowed buffer that it writes into, or 0 if it has none. `rest`
+-- are the bytes of this buffer that it has not written yet [own]
 pub record Writer : Type 0 where
   pub taken : Option (List ℕ)
   pub counts : WriteCounts
+  pub buffer : ℕ
+  pub rest : List ℕ
+
+-- `old` are the bytes of a buffer that were not written before a write, and `new` those after it. The write returned
+-- `r`: it wrote as many bytes as it accepted [own]
+abbrev pub Overwrites : List ℕ → List ℕ → {E : Type 0} → Result ℕ E → Type 0
+Overwrites old new r = MatchResult r (λ n. new ≡ drop n old) (λ _. new ≡ old)

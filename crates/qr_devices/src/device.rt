@@ -5,7 +5,7 @@
 //!
 //! `Counted` makes a device of a type that implements the standard library's `Read` or `Write`.
 
-ghost use Rattle.std.specs.Prelude.{IfOk, length, ◌↔◌, ◌≡◌, ◌≤◌};
+ghost use Rattle.std.specs.Prelude.{IfOk, [], length, ◌↔◌, ◌≡◌, ◌≤◌};
 ghost use Rattle.std.specs.Io.KnownBytes.{Keeps, ReadConsumes, WriteAppends};
 ghost use Rattle.std.specs.IoError.{error_kind};
 ghost use Rattle.std.specs.declared.io.ErrorKind.{ErrorKind};
@@ -160,7 +160,7 @@ pub trait Source {
 
 /// A device to which bytes are written, and which counts each write and each flush with its result.
 pub trait Sink {
-    ghost use Rattle.qr_devices.specs.Device.{Writer};
+    ghost use Rattle.qr_devices.specs.Device.{Overwrites, Writer};
 
     // What contracts see of the device.
     ghost device: { Self → Writer };
@@ -169,12 +169,16 @@ pub trait Sink {
     fn write(&mut self, buf: &[u8]) -> Result<usize, Trouble>
         ensures bound { IfOk result (λ n. n ≤ length buf.now) }
         ensures bytes { WriteAppends (device self.old).taken (device self.new).taken result buf.now }
-        ensures counted { (device self.new).counts ≡ write_counted (length buf.now) result (device self.old).counts };
+        ensures counted { (device self.new).counts ≡ write_counted (length buf.now) result (device self.old).counts }
+        ensures buffer { (device self.new).buffer ≡ (device self.old).buffer }
+        ensures rest { Overwrites (device self.old).rest (device self.new).rest result };
 
     /// Makes the device pass on all bytes that it has accepted.
     fn flush(&mut self) -> Result<(), Trouble>
         ensures bytes { Keeps (device self.old).taken (device self.new).taken }
-        ensures counted { (device self.new).counts ≡ flush_counted result (device self.old).counts };
+        ensures counted { (device self.new).counts ≡ flush_counted result (device self.old).counts }
+        ensures buffer { (device self.new).buffer ≡ (device self.old).buffer }
+        ensures rest { (device self.new).rest ≡ (device self.old).rest };
 }
 
 fn trouble_of(error: io::Error) -> Trouble
@@ -230,7 +234,7 @@ impl<R: Read> Source for Counted<R> {
 }
 
 impl<W: Write> Sink for Counted<W> {
-    ghost device = { λ c. record { taken = W.contents c.inner; counts = c.writes } };
+    ghost device = { λ c. record { taken = W.contents c.inner; counts = c.writes; buffer = 0; rest = [] } };
 
     fn write(&mut self, buf: &[u8]) -> Result<usize, Trouble> {
         let answer = self.inner.write(buf).map_err(trouble_of);

@@ -3,7 +3,7 @@
 //!
 //! The bytes of the pen are in a `Piece`, which is memory of a fixed size to which bytes are appended.
 
-ghost use Rattle.std.specs.Prelude.{MatchResult, OnErr, OnOk, [], is_err, length, max, take, ◌++◌, ◌+◌, ◌<◌, ◌∷◌, ◌≡◌, ◌≤◌};
+ghost use Rattle.std.specs.Prelude.{MatchResult, OnErr, OnOk, [], drop, is_err, length, max, take, ◌++◌, ◌+◌, ◌<◌, ◌∷◌, ◌≡◌, ◌≤◌};
 ghost use Rattle.std.specs.Io.KnownBytes.{Appends};
 ghost use Rattle.qr_devices.specs.Device.{AppendsBeginning, IsWrittenWithin, counted, is_write_fault, no_writes};
 ghost use Rattle.qr_devices.specs.declared.device.TheConstants.{INTERRUPTIONS_MAX};
@@ -225,6 +225,8 @@ pub fn write_text<W: Sink>(text: &[u8], out: &mut W) -> Result<(), DrawFault>
     ensures within { (W.device out.old).counts ≡ no_writes → IsWrittenWithin (W.device out.new).counts }
     ensures offered { (W.device out.new).counts.offered ≤ max (W.device out.old).counts.offered WRITE_MAX }
     ensures flushes { (W.device out.new).counts.flushes ≡ (W.device out.old).counts.flushes }
+    ensures buffer { (W.device out.new).buffer ≡ (W.device out.old).buffer }
+    ensures rest { OnOk result ((W.device out.new).rest ≡ drop (length text.now) (W.device out.old).rest) }
 {
     send(out, text, 0)?;
     Ok(())

@@ -180,7 +180,7 @@ impl Sink for Trial {
     ghost use Rattle.qr_devices.specs.Device.{flush_counted, write_counted};
     ghost use Rattle.qr_devices.specs.Trial.{bytes_held, free_of, moved};
 
-    ghost device = { λ t. record { taken = Some (bytes_held t); counts = t.writes } };
+    ghost device = { λ t. record { taken = Some (bytes_held t); counts = t.writes; buffer = 0; rest = [] } };
 
     fn write(&mut self, buf: &[u8]) -> Result<usize, Trouble>
         ensures bound { IfOk result (λ n. n ≤ length buf.now) }

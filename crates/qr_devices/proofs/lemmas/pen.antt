@@ -1,16 +1,41 @@
 -- How the written parts of a text join.
 use Rattle.qr_devices.specs.Device.{AppendsBeginning, IsWrittenWithin, Writer, counted, is_write_fault, no_writes, write_counted}
 use Rattle.qr_devices.specs.declared.device.{Trouble.{Trouble, TheVariants.{Interrupted, Failed}}, WriteCounts.WriteCounts}
-use Rattle.qr_devices.specs.{Pen.Reserves, Writing.{Stops, Writes, IsWell}, declared.pen.{DrawFault.DrawFault, Pen.Pen}}
-use Rattle.std.proofs.Common.{◌≡◌, ◌++◌, ℕ, List, [], MatchResult, OnErr, OnOk, is_err, max, Result, Ok, Err, append_assoc, append-nil, arith, rules, ◌≤◌, ◌+◌, length, length-append, subst, ◌<◌, ◌^◌, zero, suc, ◌∷◌, true, ap, refl, take, drop}
-use Rattle.std.proofs.{KnownBytes.{Appends-trans, Appends-nil, Appends-kept}, Math.Seq.{take-add, take-append-add}}
+use Rattle.qr_devices.specs.{Pen.Reserves, Writing.{Sends, Stops, Writes, IsWell}, declared.pen.{DrawFault.DrawFault, Pen.Pen}}
+use Rattle.std.proofs.Common.{◌≡◌, ◌++◌, ℕ, List, [], MatchResult, OnErr, OnOk, is_err, max, Result, Ok, Err, append_assoc, append-nil, arith, rules, ◌≤◌, ◌+◌, ◌∙◌, length, length-append, subst, sym, ◌<◌, ◌^◌, zero, suc, ◌∷◌, true, ap, refl, take, drop}
+use Rattle.std.proofs.{KnownBytes.{Appends-trans, Appends-nil, Appends-kept}, Math.Seq.{drop-nil, take-add, take-append-add}}
 use Rattle.std.{proofs.lemmas.List.{nil_from_length, length-take-le, take-append-drop, take-append-le}, specs.Io.KnownBytes.{Appends, Keeps}}
 use borrow.Rule.Slice.PartMut.{put_mid}
+
+-- bytes that were left out in two steps
+pub drop-twice : (n m : ℕ) (xs : List ℕ) → drop m (drop n xs) ≡ drop (n + m) xs
+drop-twice zero m xs = ap (λ k. drop k xs) (omega arith)
+drop-twice (suc n) m [] = drop-nil m ∙ sym (drop-nil (suc n + m))
+drop-twice (suc n) m (x ∷ xs) = let e : suc n + m ≡ suc (n + m) = omega arith in rw e (drop-twice n m xs)
+
+-- the bytes of a buffer that are left after two parts
+left-twice : (old : List ℕ) (x y : List ℕ) → drop (length y) (drop (length x) old) ≡ drop (length (x ++ y)) old
+left-twice old x y = drop-twice (length x) (length y) old ∙ ap (λ k. drop k old) (sym (length-append x y))
+
+sends-on : (a b c : Writer) (h0 h1 h2 x y : List ℕ) → Sends a b (h0 ++ x) h1 → Sends b c (h1 ++ y) h2 → Sends a c (h0 ++ (x ++ y)) h2
+sends-on a b c h0 h1 h2 x y p q = record {
+  sent = p.sent ++ q.sent;
+  grows = Appends-trans a.taken b.taken c.taken p.sent q.sent p.grows q.grows;
+  whole = append_assoc p.sent q.sent h2 ∙ ap (λ l. p.sent ++ l) q.whole ∙ sym (append_assoc p.sent h1 y) ∙ ap (λ l. l ++ y) p.whole ∙ append_assoc h0 x y;
+  many = search (arith, length-append);
+  rest = q.rest ∙ ap (λ l. drop (length q.sent) l) p.rest ∙ left-twice a.rest p.sent q.sent;
+}
 
 -- if one part was written and then another, the two together were written
 pub writes-on : (a b c : Writer) (i j k : ℕ) (h0 h1 h2 x y : List ℕ)
     → Writes a b i j (h0 ++ x) h1 → Writes b c j k (h1 ++ y) h2 → Writes a c i k (h0 ++ (x ++ y)) h2
-writes-on a b c i j k h0 h1 h2 x y p q = search (arith, Appends-trans, append_assoc, length-append)
+writes-on a b c i j k h0 h1 h2 x y p q = record {
+  sends = sends-on a b c h0 h1 h2 x y p.sends q.sends;
+  well = λ w. q.well (p.well w);
+  offered = omega (arith, p.offered, q.offered);
+  flushes = q.flushes ∙ p.flushes;
+  buffer = q.buffer ∙ p.buffer;
+}
 
 -- if one part was written and the writer failed in the next, it failed in the two together
 pub writes-stop : (a b c : Writer) (i j : ℕ) (h0 h1 x y : List ℕ)
@@ -57,6 +82,8 @@ Written old new text r = record {
   within : old.counts ≡ no_writes → IsWrittenWithin new.counts;
   offered : new.counts.offered ≤ max old.counts.offered 1200;
   flushes : new.counts.flushes ≡ old.counts.flushes;
+  buffer : new.buffer ≡ old.buffer;
+  rest : OnOk r (new.rest ≡ drop (length text) old.rest);
 }
 
 -- if a text was written, or the writer failed in it, and no write was interrupted before, the promise of such a call
@@ -88,46 +115,47 @@ flushes-after v w len r e = grind arith
 pub sends-more : (a b c : Writer) (bytes : List ℕ) (at len n i j k : ℕ) → Writes a b i j (take at bytes) [] →
     n ≤ length (take len (drop at bytes)) → length (take len (drop at bytes)) ≤ 1200 → (n ≡ 0 → ⊥) →
     j ≡ k → Appends b.taken c.taken (take n (take len (drop at bytes))) →
-    c.counts ≡ write_counted (length (take len (drop at bytes))) (Ok n) b.counts →
+    c.counts ≡ write_counted (length (take len (drop at bytes))) (Ok n) b.counts → c.buffer ≡ b.buffer → c.rest ≡ drop n b.rest →
     Writes a c i k (take (at + n) bytes) []
-sends-more a b c bytes at len n i j k p le short some same q e =
+sends-more a b c bytes at len n i j k p le short some same q e kept left =
     let buf = take len (drop at bytes) in
     let z : length (take n buf) ≡ n = length-take-le n buf le in
+    let over : c.rest ≡ drop (length (take n buf)) b.rest = rw z left in
     let one : Writes b c j k (take n buf) [] = search (arith, append-nil, offered-after, flushes-after) in
     rw (take-add at n bytes, ← take-offered n len (drop at bytes) le) (writes-on a b c i j k [] [] [] (take at bytes) (take n buf) p one)
 
 -- after an interrupted write the same text was written, with one interruption more
 pub sends-again : (a b c : Writer) (text : List ℕ) (len i j : ℕ) → Writes a b i j text [] → len ≤ 1200 →
-    j + 1 < 1000 → Keeps b.taken c.taken → c.counts ≡ write_counted len (Err Interrupted) b.counts →
+    j + 1 < 1000 → Keeps b.taken c.taken → c.counts ≡ write_counted len (Err Interrupted) b.counts → c.buffer ≡ b.buffer → c.rest ≡ b.rest →
     Writes a c i (j + 1) text []
-sends-again a b c text len i j p short few q e = search arith
+sends-again a b c text len i j p short few q e kept left = search arith
 
 -- if the last write took no byte and is a fault, the writer failed in the text
 refused : (a b c : Writer) (text : List ℕ) (at len i j : ℕ) (r : Result ℕ Trouble) → Writes a b i j (take at text) [] → len ≤ 1200
-    → Keeps b.taken c.taken → c.counts ≡ write_counted len r b.counts → (b.counts.taken < 2 ^ 64 → c.counts.taken ≤ counted b.counts.taken)
+    → Keeps b.taken c.taken → c.counts ≡ write_counted len r b.counts → c.buffer ≡ b.buffer → (b.counts.taken < 2 ^ 64 → c.counts.taken ≤ counted b.counts.taken)
     → (IsWell b.counts j → is_write_fault c.counts ≡ true) → Stops a c i text
-refused a b c text at len i j r p short q e most fault =
+refused a b c text at len i j r p short q e kept most fault =
     let whole = writes-stop a b c i j [] [] (take at text) (drop at text) p (search (arith, Appends-kept, Appends-nil, offered-after, flushes-after)) in
     rw take-append-drop at whole
 
 -- if the write took no byte of a text that was not empty, the writer failed in the text
 pub refused-zero : (a b c : Writer) (text buf : List ℕ) (at n i j : ℕ) → n ≡ 0 → Writes a b i j (take at text) [] → 0 < length buf → length buf ≤ 1200
-    → Appends b.taken c.taken (take n buf) → c.counts ≡ write_counted (length buf) (Ok n) b.counts → Stops a c i text
-refused-zero a b c text buf at n i j none p some short q e =
-    refused a b c text at (length buf) i j (Ok n) p short (search (arith, append-nil)) e (λ fits. rw e (omega arith))
+    → Appends b.taken c.taken (take n buf) → c.counts ≡ write_counted (length buf) (Ok n) b.counts → c.buffer ≡ b.buffer → Stops a c i text
+refused-zero a b c text buf at n i j none p some short q e kept =
+    refused a b c text at (length buf) i j (Ok n) p short (search (arith, append-nil)) e kept (λ fits. rw e (omega arith))
     (λ h. search arith)
 
 -- if the write failed, the writer failed in the text
 pub refused-failed : (a b c : Writer) (text : List ℕ) (at len i j : ℕ) → Writes a b i j (take at text) [] →
-    len ≤ 1200 → Keeps b.taken c.taken → c.counts ≡ write_counted len (Err Failed) b.counts → Stops a c i text
-refused-failed a b c text at len i j p short q e =
-    refused a b c text at len i j (Err Failed) p short q e (λ fits. rw e (omega arith)) (λ h. rw (e, h.failed) refl)
+    len ≤ 1200 → Keeps b.taken c.taken → c.counts ≡ write_counted len (Err Failed) b.counts → c.buffer ≡ b.buffer → Stops a c i text
+refused-failed a b c text at len i j p short q e kept =
+    refused a b c text at len i j (Err Failed) p short q e kept (λ fits. rw e (omega arith)) (λ h. rw (e, h.failed) refl)
 
 -- if the write was interrupted for the 1,000th time, the writer failed in the text
 pub refused-interrupted : (a b c : Writer) (text : List ℕ) (at len i j : ℕ) → j ≡ 999 → Writes a b i j (take at text) [] → len ≤ 1200
-    → Keeps b.taken c.taken → c.counts ≡ write_counted len (Err Interrupted) b.counts → Stops a c i text
-refused-interrupted a b c text at len i j last p short q e =
-    refused a b c text at len i j (Err Interrupted) p short q e (λ fits. rw e (omega arith))
+    → Keeps b.taken c.taken → c.counts ≡ write_counted len (Err Interrupted) b.counts → c.buffer ≡ b.buffer → Stops a c i text
+refused-interrupted a b c text at len i j last p short q e kept =
+    refused a b c text at len i j (Err Interrupted) p short q e kept (λ fits. rw e (omega arith))
     (λ h. search arith)
 
 -- What is in a piece after a copy.

@@ -21,7 +21,7 @@ offers-init g c = search (rules, writes-none)
 pub returns-then-taken-eq0-clause-writes : goal.returns-then-taken-eq0-clause-writes
 returns-then-taken-eq0-clause-writes g c =
     let o = offered c.args.bytes.now c.offers.at c.min-len.result c.offers-test.true c.min-len.ensures in
-    refused-zero _ _ _ _ _ _ _ _ _ c.if-taken-eq0.true c.offers.invariant.writes o.0 o.1 c.in-Ok.ensures.bytes c.in-Ok.ensures.counted
+    refused-zero _ _ _ _ _ _ _ _ _ c.if-taken-eq0.true c.offers.invariant.writes o.0 o.1 c.in-Ok.ensures.bytes c.in-Ok.ensures.counted c.in-Ok.ensures.buffer
 
 pub offers-preserved-in-Ok : goal.offers-preserved-in-Ok
 offers-preserved-in-Ok g c =
@@ -29,7 +29,7 @@ offers-preserved-in-Ok g c =
       within = search rules;
       few = c.offers.invariant.few;
       writes = sends-more _ _ _ _ c.offers.at (c.offers.at + c.min-len.result - c.offers.at) _ _ _ _ c.offers.invariant.writes
-          c.in-Ok.ensures.bound (offered c.args.bytes.now c.offers.at c.min-len.result c.offers-test.true c.min-len.ensures).1 c.if-taken-eq0.false refl c.in-Ok.ensures.bytes c.in-Ok.ensures.counted;
+          c.in-Ok.ensures.bound (offered c.args.bytes.now c.offers.at c.min-len.result c.offers-test.true c.min-len.ensures).1 c.if-taken-eq0.false refl c.in-Ok.ensures.bytes c.in-Ok.ensures.counted c.in-Ok.ensures.buffer c.in-Ok.ensures.rest;
     }
 
 pub offers-preserved : goal.offers-preserved
@@ -39,16 +39,16 @@ offers-preserved g c =
       within = c.offers.invariant.within;
       few = few;
       writes = sends-again _ _ _ _ _ _ _ c.offers.invariant.writes (offered c.args.bytes.now c.offers.at c.min-len.result c.offers-test.true c.min-len.ensures).1 few
-          c.in-Err-Interrupted.ensures.bytes (rw c.in-Err-Interrupted.field-0-is at c.in-Err-Interrupted.ensures.counted);
+          c.in-Err-Interrupted.ensures.bytes (rw c.in-Err-Interrupted.field-0-is at c.in-Err-Interrupted.ensures.counted) c.in-Err-Interrupted.ensures.buffer c.in-Err-Interrupted.ensures.rest;
     }
 
 pub returns-then-interruptions-eq-INTERRUPTIONS_MAX-clause-writes :
     goal.returns-then-interruptions-eq-INTERRUPTIONS_MAX-clause-writes
 returns-then-interruptions-eq-INTERRUPTIONS_MAX-clause-writes g c =
     refused-interrupted _ _ _ _ _ _ _ _ c.if-interruptions-eq-INTERRUPTIONS_MAX.true c.offers.invariant.writes (offered c.args.bytes.now c.offers.at c.min-len.result c.offers-test.true c.min-len.ensures).1
-    c.in-Err-Interrupted.ensures.bytes (rw c.in-Err-Interrupted.field-0-is at c.in-Err-Interrupted.ensures.counted)
+    c.in-Err-Interrupted.ensures.bytes (rw c.in-Err-Interrupted.field-0-is at c.in-Err-Interrupted.ensures.counted) c.in-Err-Interrupted.ensures.buffer
 
 pub returns-in-Err-Failed-clause-writes : goal.returns-in-Err-Failed-clause-writes
 returns-in-Err-Failed-clause-writes g c =
     refused-failed _ _ _ _ _ _ _ _ c.offers.invariant.writes (offered c.args.bytes.now c.offers.at c.min-len.result c.offers-test.true c.min-len.ensures).1
-    c.in-Err-Failed.ensures.bytes (search rules)
+    c.in-Err-Failed.ensures.bytes (search rules) c.in-Err-Failed.ensures.buffer
