@@ -2,5 +2,10 @@ pub mod Drawing
 pub mod Raster
 pub mod Text
 pub mod Svg
+pub mod Measures
+pub mod Boxes
+pub mod Eps
+pub mod Pdf
+pub mod Document
 pub mod Laws
 pub mod Steps

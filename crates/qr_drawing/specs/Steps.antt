@@ -1,3 +1,5 @@
 -- What the code does step by step. Only private contracts use these definitions.
 pub mod Text
 pub mod Svg
+pub mod Document
+pub mod Pdf

@@ -2,7 +2,7 @@
 //! margin around them; a margin is at most 255 modules wide, and a symbol has at most 177 modules on a side. So a
 //! raster has fewer than 1,000 rows and columns.
 
-ghost use Rattle.std.specs.Prelude.{◌≡◌, ◌≤◌, ◌<◌, ◌+◌, max, is_err, length, map, OnOk, OnErr};
+ghost use Rattle.std.specs.Prelude.{◌≡◌, ◌≤◌, ◌<◌, ◌+◌, max, drop, is_err, length, map, OnOk, OnErr};
 ghost use Rattle.std.specs.Io.KnownBytes.{Appends};
 ghost use Rattle.qr_devices.specs.Device.{AppendsBeginning, IsWrittenWithin, counted, is_write_fault, no_writes};
 ghost use Rattle.qr_drawing.specs.Drawing.{HaveOneSide, drawn};
@@ -104,6 +104,8 @@ pub fn draw<S: HasSquare, W: Sink>(
     ensures within { (W.device out.old).counts ≡ no_writes → IsWrittenWithin (W.device out.new).counts }
     ensures offered { (W.device out.new).counts.offered ≤ max (W.device out.old).counts.offered WRITE_MAX }
     ensures flushes { (W.device out.new).counts.flushes ≡ (W.device out.old).counts.flushes }
+    ensures buffer { (W.device out.new).buffer ≡ (W.device out.old).buffer }
+    ensures rest { OnOk result ((W.device out.new).rest ≡ drop (length (drawn kind margin (map S.grid symbols.now))) (W.device out.old).rest) }
 {
     let mut pen = Pen::new();
     // When the calls of this `match` are done, the pen may still contain the last bytes of the drawing.

@@ -1,18 +1,30 @@
 //! Draws symbols as ASCII text, as UTF-8 text with two modules in each character, or as a Scalable Vector Graphics
-//! document. The drawing is written to a device in pieces, and no memory is allocated for it.
+//! document. For print it writes documents that say how large they are on paper: SVG with a size in millimetres,
+//! Encapsulated PostScript, and PDF. What is drawn is written to a device in pieces, and no memory is allocated for it.
 //!
 //! The files of `src`:
 //!
+//! - `boxes`: the boxes of EPS and PDF documents
+//! - `document`: the formats and settings of documents for print, and the call that writes them
 //! - `drawing`: the types of drawing, and rasters
-//! - `laws`: laws of drawings
+//! - `eps`: writes an EPS document
+//! - `laws`: laws of drawings and documents
+//! - `measures`: lengths in millimetres and points
+//! - `pdf`: writes a PDF document
 //! - `svg`: draws an SVG document
 //! - `text`: draws lines of text
 #![tactic(auto)]
 
+mod boxes;
+mod document;
 mod drawing;
+mod eps;
 pub mod laws;
+mod measures;
+mod pdf;
 mod svg;
 mod text;
 
+pub use document::{Document, DocumentSettings, write_document};
 pub use drawing::{Drawing, HasSquare, draw};
 pub use qr_devices::{DrawFault, WRITE_MAX, write_text};

@@ -23,7 +23,7 @@ const BOX_MAX: usize = 32;
 const HEAD_MAX: usize = 300;
 
 // The number of bytes after the last box.
-const TAIL: usize = 11;
+pub(crate) const TAIL: usize = 11;
 
 // `push_digit` and the three functions after it append numbers digit by digit, which takes fewer instructions than the
 // crate `itoa` does. They are used for the row of a box, and for its width if the box has ten modules or more. Smaller
@@ -69,7 +69,7 @@ fn push_three<const CAP: usize>(text: &mut Piece<CAP>, number: u16)
 }
 
 #[tactic(auto, using(crate::proofs::lemmas::svg::more_digits))]
-fn push_number<const CAP: usize>(text: &mut Piece<CAP>, number: u16)
+pub(crate) fn push_number<const CAP: usize>(text: &mut Piece<CAP>, number: u16)
     requires room { length text.old + 5 ≤ CAP }
     ensures items { text.new ≡ text.old ++ decimal number }
     ensures len { length text.new ≤ length text.old + 5 }
@@ -188,7 +188,7 @@ fn text_of_row(y: u16) -> Piece<8>
 }
 
 #[tactic(auto, unfolding(crate::specs::Svg::numbered))]
-fn push_numbered(text: &mut Piece<PEN_SIZE>, bytes: &[u8], number: u16)
+pub(crate) fn push_numbered(text: &mut Piece<PEN_SIZE>, bytes: &[u8], number: u16)
     requires room { length text.old + length bytes.now + 5 ≤ WRITE_MAX }
     ensures items { text.new ≡ text.old ++ numbered bytes.now number }
     ensures len { length text.new ≤ length text.old + length bytes.now + 5 }
@@ -210,7 +210,7 @@ fn push_opening(text: &mut Piece<PEN_SIZE>, width: u16, height: u16)
 }
 
 #[tactic(auto, unfolding(crate::specs::Svg::background))]
-fn push_background(text: &mut Piece<PEN_SIZE>, width: u16, height: u16)
+pub(crate) fn push_background(text: &mut Piece<PEN_SIZE>, width: u16, height: u16)
     requires room { length text.old + 80 ≤ WRITE_MAX }
     ensures items { text.new ≡ text.old ++ background width height }
     ensures len { length text.new ≤ length text.old + 80 }
@@ -234,7 +234,7 @@ fn push_head(text: &mut Piece<PEN_SIZE>, width: u16, height: u16)
 
 // Appends all that comes after the last box.
 #[tactic(auto, unfolding(crate::specs::Steps::Svg::tail, crate::specs::Svg::closing))]
-fn push_tail(text: &mut Piece<PEN_SIZE>)
+pub(crate) fn push_tail(text: &mut Piece<PEN_SIZE>)
     requires room { length text.old + TAIL ≤ WRITE_MAX }
     ensures items { text.new ≡ text.old ++ tail }
     ensures len { length text.new ≤ length text.old + TAIL }
@@ -287,7 +287,7 @@ fn put_symbol<W: Sink>(
 }
 
 // Writes the boxes of all symbols. Each symbol stands below the one before it.
-fn put_stack<S: HasSquare, W: Sink>(
+pub(crate) fn put_stack<S: HasSquare, W: Sink>(
     pen: &mut Pen,
     out: &mut W,
     symbols: &[S],

@@ -5,7 +5,7 @@ use Rattle.qr_drawing.specs.Svg.{numbered, background, begins_run, box_path, clo
 use Rattle.qr_drawing.specs.declared.svg.TheConstants.{SHORT_RUNS, TWO_DIGITS}
 use Rattle.qr_matrix.{proofs.Facts.{below-at, AreRunsFrom, all-runs, other-runs, run-colours, run-in}, specs.{DarkRuns.AreDarkRuns, Grid.{Grid, colour, light}}}
 use Rattle.qr_matrix.specs.{Sums.all_below, declared.dark_runs.Run.Run}
-use Rattle.std.proofs.Common.{◌≡◌, ℕ, ◌+◌, ◌/◌, ◌%◌, ◌<◌, ◌≤◌, ◌^◌, List, [], ◌∷◌, ◌++◌, get_or, nat_eq, true, refl, sym, ◌∙◌, ap, append_assoc, arith, ◌-◌, ◌*◌, ◌&&◌, leb, ltb, zero, suc, Bool, false, length, map, append-nil, inl, inr}
+use Rattle.std.proofs.Common.{◌≡◌, ℕ, ◌+◌, ◌/◌, ◌%◌, ◌<◌, ◌≤◌, ◌^◌, List, [], ◌∷◌, ◌++◌, get_or, nat_eq, true, refl, sym, ◌∙◌, ap, append_assoc, arith, ◌-◌, ◌*◌, ◌&&◌, leb, ltb, zero, suc, Bool, false, length, map, append-nil, inl, inr, if◌then◌else◌}
 use Rattle.std.proofs.{Math.Nat.suc-mul, lemmas.{Bool.{cases_lt, Decides.nat_tests}, Fmt.{decimal_digit, decimal_step}, List.{get_or-map, length-map}}}
 use Rattle.std.{proofs.lemmas.List.Elements.All-get_or, specs.{Cmp.Lexicographic.{pointwise, same_text}, Fmt.digits}}
 use Rattle.std.specs.{List.{flat_map, prefix_len, range_with_len}, Prelude.{decimal, codes}}
@@ -72,21 +72,30 @@ pub is_dark_at_below : (margin y x : ℕ) (g : Grid) → margin + g.side ≤ y �
 unfolding is_dark_at
 is_dark_at_below margin y x g a = grind (arith, nat_tests)
 
+-- the text that `box` makes of the run that begins in row `y` and column `x`, where `box` makes a text of the column and
+-- the length of a run
+unfoldable pub run_text : (ℕ → ℕ → List ℕ) → ℕ → Grid → ℕ → ℕ → List ℕ
+run_text box margin g y x = if begins_run margin g y x then box x (run_length margin g y x) else []
+
+-- the texts of the runs of a row
+abbrev pub row_text : (ℕ → ℕ → List ℕ) → ℕ → Grid → ℕ → List ℕ
+row_text box margin g y = texts_below (raster_width margin g) (run_text box margin g y)
+
 -- no run begins at a light place
-run_path-light : (top margin y x : ℕ) (g : Grid) → is_dark_at margin g y x ≡ false → run_path top margin g y x ≡ []
-unfolding run_path begins_run
-run_path-light top margin y x g e = rw e refl
+pub run_text-light : (box : ℕ → ℕ → List ℕ) (margin y x : ℕ) (g : Grid) → is_dark_at margin g y x ≡ false → run_text box margin g y x ≡ []
+unfolding run_text begins_run
+run_text-light box margin y x g e = rw e refl
 
 -- no run begins to the right of a dark place
-run_path-inner : (top margin y x : ℕ) (g : Grid) → 0 < x → is_dark_at margin g y (x - 1) ≡ true → run_path top margin g y x ≡ []
-unfolding run_path begins_run
-run_path-inner top margin y x g some dark = search arith
+run_text-inner : (box : ℕ → ℕ → List ℕ) (margin y x : ℕ) (g : Grid) → 0 < x → is_dark_at margin g y (x - 1) ≡ true → run_text box margin g y x ≡ []
+unfolding run_text begins_run
+run_text-inner box margin y x g some dark = search arith
 
 -- a run begins at a dark place if the place to its left is not dark
-run_path-first : (top margin y x : ℕ) (g : Grid) → is_dark_at margin g y x ≡ true → (0 < x → is_dark_at margin g y (x - 1) ≡ false)
-    → run_path top margin g y x ≡ box_path x (top + y) (run_length margin g y x)
-unfolding run_path begins_run
-run_path-first top margin y x g dark light = search arith
+run_text-first : (box : ℕ → ℕ → List ℕ) (margin y x : ℕ) (g : Grid) → is_dark_at margin g y x ≡ true → (0 < x → is_dark_at margin g y (x - 1) ≡ false)
+    → run_text box margin g y x ≡ box x (run_length margin g y x)
+unfolding run_text begins_run
+run_text-first box margin y x g dark light = search arith
 
 -- if d numbers from x on pass a test and the next does not, the longest prefix that passes has the length d
 prefix_len-range : (p : ℕ → Bool) (x d n : ℕ) → d ≤ n → ((k : ℕ) → x ≤ k → k < x + d → p k ≡ true) → (d < n → p (x + d) ≡ false)
@@ -99,6 +108,10 @@ prefix_len-range p x (suc d) (suc n) le pass stop =
     let f : x + 1 + d ≡ x + suc d = omega arith in
     rw (e, (prefix_len-range p (x + 1) d n (omega arith) (λ k a b. pass k (omega arith) (omega arith)) (λ lt. rw f (stop (omega arith))))) (omega arith)
 
+-- the text that `box` makes of a run of a symbol
+abbrev pub text_of : (ℕ → ℕ → List ℕ) → ℕ → Run → List ℕ
+text_of box margin run = box (margin + run.start) (run.end - run.start)
+
 -- the box around a run of row `row` of a symbol
 abbrev pub box_of : ℕ → ℕ → ℕ → Run → List ℕ
 box_of top margin row run = box_path (margin + run.start) (top + (margin + row)) (run.end - run.start)
@@ -109,7 +122,7 @@ pub box-is : (top margin row x y modules : ℕ) (run : Run) → x ≡ margin + r
 box-is top margin row x y modules run ex ey em = λ i. box_path (ex i) (ey i) (em i)
 
 -- in this module, `run` is the first of the runs of row `row` of a symbol from column `col` on
-module _ (top margin row col : ℕ) (g : Grid) (run : Run) (runs : List Run) (row_in : row < g.side) (are : AreRunsFrom g row col (run ∷ runs)) where
+module _ (box : ℕ → ℕ → List ℕ) (margin row col : ℕ) (g : Grid) (run : Run) (runs : List Run) (row_in : row < g.side) (are : AreRunsFrom g row col (run ∷ runs)) where
   -- the run begins at column `col` or later, is not empty, and ends in the row
   at : (col ≤ run.start) × (run.start < run.end) × (run.end ≤ g.side)
   at = run-in g row col run runs are
@@ -128,15 +141,14 @@ module _ (top margin row col : ℕ) (g : Grid) (run : Run) (runs : List Run) (ro
   all-dark : (k : ℕ) → margin + run.start ≤ k → k < margin + run.end → is_dark_at margin g (margin + row) k ≡ true
   all-dark k a b = search (arith, at, here)
 
-  -- the places before the run have no paths
-  light-run : texts_below (margin + run.start) (run_path top margin g (margin + row)) ≡ texts_below (margin + col) (run_path top margin g (margin + row))
-  light-run = search (arith, at, texts_below-same, run_path-light, here)
+  -- the places before the run have no texts
+  light-run : texts_below (margin + run.start) (run_text box margin g (margin + row)) ≡ texts_below (margin + col) (run_text box margin g (margin + row))
+  light-run = search (arith, at, texts_below-same, run_text-light, here)
 
-  -- the places after the run's first have no paths
-  dark-run : texts_below (margin + run.end) (run_path top margin g (margin + row)) ≡ texts_below (margin + run.start + 1) (run_path top margin g (margin + row))
-  dark-run = search (arith, at, texts_below-same, run_path-inner, all-dark)
+  -- the places after the run's first have no texts
+  dark-run : texts_below (margin + run.end) (run_text box margin g (margin + row)) ≡ texts_below (margin + run.start + 1) (run_text box margin g (margin + row))
+  dark-run = search (arith, at, texts_below-same, run_text-inner, all-dark)
 
-  -- the place before the run is not dark
   -- the length of the run is that of the definition
   dark-length : run_length margin g (margin + row) (margin + run.start) ≡ run.end - run.start
   unfolding run_length
@@ -145,51 +157,57 @@ module _ (top margin row col : ℕ) (g : Grid) (run : Run) (runs : List Run) (ro
       let e : margin + run.start + (run.end - run.start) ≡ margin + run.end = omega arith in
       prefix_len-range (is_dark_at margin g (margin + row)) _ _ _ (omega arith) (λ k a b. all-dark k a (omega arith)) (λ lt. rw e (here (margin + run.end) (omega arith) (omega arith) ∙ grind (arith, nat_tests)))
 
-  -- the paths up to the end of the run are those up to column `col` and its box
+  -- the texts up to the end of the run are those up to column `col` and its text
   run-added : (0 < col → colour g row col ≡ false)
-      → texts_below (margin + run.end) (run_path top margin g (margin + row)) ≡ texts_below (margin + col) (run_path top margin g (margin + row)) ++ box_of top margin row run
+      → texts_below (margin + run.end) (run_text box margin g (margin + row)) ≡ texts_below (margin + col) (run_text box margin g (margin + row)) ++ text_of box margin run
   run-added light =
-      search (arith, at, run_path-first, all-dark, here, run-colours, is_dark_at-left, dark-length, dark-run, texts_below-more, light-run)
+      search (arith, at, run_text-first, all-dark, here, run-colours, is_dark_at-left, dark-length, dark-run, texts_below-more, light-run)
 
--- there are no paths to the left of the symbol
-row-begins : (top margin y : ℕ) (g : Grid) → texts_below (margin + 0) (run_path top margin g y) ≡ []
-row-begins top margin y g = search (arith, texts_below-none, run_path-light, is_dark_at-left)
+-- there are no texts to the left of the symbol
+row-begins : (box : ℕ → ℕ → List ℕ) (margin y : ℕ) (g : Grid) → texts_below (margin + 0) (run_text box margin g y) ≡ []
+row-begins box margin y g = search (arith, texts_below-none, run_text-light, is_dark_at-left)
 
--- there are no paths in the rest of a row if that rest is light
-row-ends : (top margin row col : ℕ) (g : Grid) → row < g.side → col ≤ g.side → ((c : ℕ) → col ≤ c → colour g row c ≡ false)
-    → row_path top margin g (margin + row) ≡ texts_below (margin + col) (run_path top margin g (margin + row))
-unfolding row_path
-row-ends top margin row col g row_in le light =
+-- there are no texts in the rest of a row if that rest is light
+row-ends : (box : ℕ → ℕ → List ℕ) (margin row col : ℕ) (g : Grid) → row < g.side → col ≤ g.side → ((c : ℕ) → col ≤ c → colour g row c ≡ false)
+    → row_text box margin g (margin + row) ≡ texts_below (margin + col) (run_text box margin g (margin + row))
+row-ends box margin row col g row_in le light =
     texts_below-same _ _ _ (omega arith)
-    (λ k a b. run_path-light top margin (margin + row) k g (elim (cases_lt k (margin + g.side)) [
+    (λ k a b. run_text-light box margin (margin + row) k g (elim (cases_lt k (margin + g.side)) [
       | inl lt ↦
           let e : margin + (k - margin) ≡ k = omega arith in
           search (arith, is_dark_at-inside)
       | inr ge ↦ is_dark_at-right margin (margin + row) k g ge
     ]))
 
--- the paths of a row are those up to column `col` and the boxes of the runs from there on
-boxes-from : (top margin row col : ℕ) (g : Grid) (runs : List Run) → row < g.side → col ≤ g.side → (0 < col → colour g row col ≡ false) → AreRunsFrom g row col runs
-    → row_path top margin g (margin + row) ≡ texts_below (margin + col) (run_path top margin g (margin + row)) ++ flat_map (box_of top margin row) runs
-boxes-from top margin row col g [] row_in le light are = search (arith, row-ends, append-nil)
-boxes-from top margin row col g (run ∷ runs) row_in le light are =
+-- the texts of a row are those up to column `col` and those of the runs from there on
+texts-from : (box : ℕ → ℕ → List ℕ) (margin row col : ℕ) (g : Grid) (runs : List Run) → row < g.side → col ≤ g.side → (0 < col → colour g row col ≡ false) → AreRunsFrom g row col runs
+    → row_text box margin g (margin + row) ≡ texts_below (margin + col) (run_text box margin g (margin + row)) ++ flat_map (text_of box margin) runs
+texts-from box margin row col g [] row_in le light are = search (arith, row-ends, append-nil)
+texts-from box margin row col g (run ∷ runs) row_in le light are =
     let w = run-in g row col run runs are in
-    boxes-from top margin row run.end g runs row_in w.2 (λ _. run-colours g row col run runs are run.end (omega arith) (omega arith) ∙ grind (arith, nat_tests))
+    texts-from box margin row run.end g runs row_in w.2 (λ _. run-colours g row col run runs are run.end (omega arith) (omega arith) ∙ grind (arith, nat_tests))
     (other-runs g row col run runs are)
-    ∙ (ap (λ l. l ++ flat_map (box_of top margin row) runs) (run-added top margin row col g run runs row_in are light)
-    ∙ append_assoc _ (box_of top margin row run) (flat_map (box_of top margin row) runs))
+    ∙ (ap (λ l. l ++ flat_map (text_of box margin) runs) (run-added box margin row col g run runs row_in are light)
+    ∙ append_assoc _ (text_of box margin run) (flat_map (text_of box margin) runs))
+
+-- the texts of a row are those of its runs
+pub row-texts : (box : ℕ → ℕ → List ℕ) (margin row : ℕ) (g : Grid) (runs : List Run) → row < g.side → AreDarkRuns g row runs
+    → row_text box margin g (margin + row) ≡ flat_map (text_of box margin) runs
+row-texts box margin row g runs row_in are =
+    texts-from box margin row 0 g runs row_in (omega arith) (λ some. absurd (omega arith)) (all-runs g row runs are)
+    ∙ ap (λ l. l ++ flat_map (text_of box margin) runs) (row-begins box margin (margin + row) g)
 
 -- the paths of a row are the boxes of its runs
 pub row-boxes : (top margin row : ℕ) (g : Grid) (runs : List Run) → row < g.side → AreDarkRuns g row runs
     → row_path top margin g (margin + row) ≡ flat_map (box_of top margin row) runs
-row-boxes top margin row g runs row_in are =
-    boxes-from top margin row 0 g runs row_in (omega arith) (λ some. absurd (omega arith)) (all-runs g row runs are)
-    ∙ ap (λ l. l ++ flat_map (box_of top margin row) runs) (row-begins top margin (margin + row) g)
+unfolding row_path run_path run_text
+row-boxes top margin row g runs row_in are = row-texts (λ x modules. box_path x (top + (margin + row)) modules) margin row g runs row_in are
 
 -- a light row has no paths
 row_path-light : (top margin y : ℕ) (g : Grid) → ((x : ℕ) → is_dark_at margin g y x ≡ false) → row_path top margin g y ≡ []
-unfolding row_path texts_below
-row_path-light top margin y g none = search (arith, texts_below-none, run_path-light)
+unfolding row_path run_path run_text
+row_path-light top margin y g none =
+    texts_below-none (raster_width margin g) _ (λ x lt. run_text-light (λ x modules. box_path x (top + y) modules) margin y x g (none x))
 
 -- there are no paths above the square of a symbol
 pub symbol-begins : (top margin : ℕ) (g : Grid) → texts_below (margin + 0) (row_path top margin g) ≡ []

@@ -1,6 +1,6 @@
 -- Cells of a text, computed from the colours of their modules. Where the modules are given as the bits of a number, 1
 -- is dark. The modules belong to the raster of the square `g` with the margin `margin`.
-use Rattle.std.specs.Prelude.{◌≡◌, ℕ, ◌+◌, ◌*◌, ◌<◌, Bool, false, not, List}
+use Rattle.std.specs.Prelude.{◌≡◌, ℕ, ◌+◌, ◌*◌, ◌<◌, Bool, not, List}
 use Rattle.qr_matrix.specs.Grid.{Grid}
 use Rattle.qr_matrix.specs.BitRow.{has_bit}
 use Rattle.qr_matrix.specs.Raster.{is_dark_at}

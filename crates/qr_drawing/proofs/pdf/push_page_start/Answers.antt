@@ -1,0 +1,15 @@
+use Rattle.{qr_drawing.specs.Pdf.page_start, std.proofs.Common.{append_assoc}}
+use Rattle.qr_drawing.proofs.pdf.push_page_start.Goals as goal
+
+pub returns-clause-items : goal.returns-clause-items
+unfolding page_start
+returns-clause-items c = rw (
+  c.push_all-2.ensures.items,
+  c.push_numbered-2.ensures.items,
+  c.push_numbered.ensures.items,
+  c.push_points-2.ensures.items,
+  c.push_all.ensures.items,
+  c.push_points.ensures.items,
+  c.from-2.ensures,
+  c.from.ensures,
+) (simp append_assoc)

@@ -1,0 +1,97 @@
+-- The PDF document of symbols, with a page for each. A module is `micrometres` micrometres wide and high. The document
+-- consists of a header, objects, a table of the places of these objects, and a trailer (ISO 32000-1, 7.5).
+use Rattle.std.specs.Prelude.{ℕ, ◌+◌, ◌-◌, ◌*◌, ◌/◌, ◌%◌, ◌==◌, if◌then◌else◌, List, ◌++◌, codes, decimal, length}
+use Rattle.qr_matrix.specs.Grid.{Grid}
+use Rattle.qr_matrix.specs.Raster.{raster_width}
+use Rattle.qr_drawing.specs.Boxes.{symbol_lines}
+use Rattle.qr_drawing.specs.Measures.{last_digits, points}
+use Rattle.qr_drawing.specs.Raster.{texts_below}
+use Rattle.qr_drawing.specs.Svg.{numbered, square_at}
+
+-- The first line, which names the version of PDF (ISO 32000-1, 7.5.2)
+unfoldable pub pdf_header : List ℕ
+pdf_header = codes "%PDF-1.4\n"
+
+-- The first object: the catalog, which names the page tree (ISO 32000-1, 7.7.2)
+unfoldable pub catalog : List ℕ
+catalog = codes "<</Type/Catalog/Pages 2 0 R>>"
+
+-- The second object: the page tree, which names the pages. Each page is followed by its content, so the pages are the
+-- objects 3, 5, 7 and so on (ISO 32000-1, 7.7.3.2)
+unfoldable pub page_tree : ℕ → List ℕ
+page_tree pages =
+    codes "<</Type/Pages/Kids[3 0 R" ++ texts_below (pages - 1) (λ k. numbered (codes " ") (5 + 2 * k) ++ codes " 0 R")
+    ++ numbered (codes "]/Count ") pages ++ codes ">>"
+
+-- A page that is as large as the raster, and whose content is the object with the number `content` (ISO 32000-1,
+-- 7.7.3.3)
+unfoldable pub page : ℕ → ℕ → ℕ → List ℕ
+page micrometres width content =
+    codes "<</Type/Page/Parent 2 0 R/MediaBox[0 0 " ++ points (width * micrometres) ++ codes " " ++ points (width * micrometres)
+    ++ numbered (codes "]/Resources<<>>/Contents ") content ++ codes " 0 R>>"
+
+-- The commands that make a module the unit and the page white, and choose black (ISO 32000-1, 8.3.4, 8.5.2, 8.6.8)
+unfoldable pub page_start : ℕ → ℕ → List ℕ
+page_start micrometres width =
+    points micrometres ++ codes " 0 0 " ++ points micrometres ++ numbered (codes " 0 0 cm\n1 g 0 0 ") width
+    ++ numbered (codes " ") width ++ codes " re f\n0 g\n"
+
+-- The content of a page: the boxes of a symbol, which are filled together (ISO 32000-1, 8.5.3.1)
+unfoldable pub page_content : ℕ → ℕ → Grid → List ℕ
+page_content micrometres margin g =
+    page_start micrometres (raster_width margin g) ++ symbol_lines (codes " 1 re\n") 0 margin g ++ codes "f\n"
+
+-- What comes before the bytes of a stream that has `length` bytes (ISO 32000-1, 7.3.8)
+unfoldable pub stream_start : ℕ → List ℕ
+stream_start length = numbered (codes "<</Length ") length ++ codes ">>\nstream\n"
+
+-- A stream (ISO 32000-1, 7.3.8)
+unfoldable pub stream : List ℕ → List ℕ
+stream text = stream_start (length text) ++ text ++ codes "endstream"
+
+-- What the object with the index `i`, counted from 0, contains. Its number is `i + 1` [own]
+unfoldable pub object_content : ℕ → ℕ → List Grid → ℕ → List ℕ
+object_content micrometres margin squares i =
+    let g = square_at squares ((i - 2) / 2) in
+    if i == 0 then catalog else (if i == 1 then page_tree (length squares)
+    else (if i % 2 == 0 then page micrometres (raster_width margin g) (i + 2) else stream (page_content micrometres margin g)))
+
+-- The beginning of an object (ISO 32000-1, 7.3.10)
+unfoldable pub object_start : ℕ → List ℕ
+object_start number = decimal number ++ codes " 0 obj\n"
+
+-- The object with this number (ISO 32000-1, 7.3.10)
+unfoldable pub numbered_object : ℕ → List ℕ → List ℕ
+numbered_object number content = object_start number ++ content ++ codes "\nendobj\n"
+
+-- The object with the index `i` [own]
+unfoldable pub object : ℕ → ℕ → List Grid → ℕ → List ℕ
+object micrometres margin squares i = numbered_object (i + 1) (object_content micrometres margin squares i)
+
+-- The header and the first `n` objects [own]
+unfoldable pub objects_below : ℕ → ℕ → List Grid → ℕ → List ℕ
+objects_below micrometres margin squares n = pdf_header ++ texts_below n (object micrometres margin squares)
+
+-- The line of the table for an object that has `offset` bytes of the document before it (ISO 32000-1, 7.5.4)
+unfoldable pub place_line : ℕ → List ℕ
+place_line offset = last_digits 10 offset ++ codes " 00000 n \n"
+
+-- The line of the table for the object with the index `i` [own]
+unfoldable pub place_of : ℕ → ℕ → List Grid → ℕ → List ℕ
+place_of micrometres margin squares i = place_line (length (objects_below micrometres margin squares i))
+
+-- The table with the lines of `n` objects. Its first line is for an object that is free (ISO 32000-1, 7.5.4)
+unfoldable pub table_of : ℕ → List ℕ → List ℕ
+table_of n lines = numbered (codes "xref\n0 ") (n + 1) ++ codes "\n0000000000 65535 f \n" ++ lines
+
+-- The trailer of a document with `n` objects and then, after `start` bytes, the table (ISO 32000-1, 7.5.5)
+unfoldable pub trailer : ℕ → ℕ → List ℕ
+trailer n start =
+    numbered (codes "trailer\n<</Size ") (n + 1) ++ codes "/Root 1 0 R>>\nstartxref\n" ++ decimal start ++ codes "\n%%EOF\n"
+
+-- The PDF document of the symbols, with a page for each that is as large as its raster [own]
+unfoldable pub pdf_document : ℕ → ℕ → List Grid → List ℕ
+pdf_document micrometres margin squares =
+    let n = 2 + 2 * length squares in
+    let objects = objects_below micrometres margin squares n in
+    objects ++ table_of n (texts_below n (place_of micrometres margin squares)) ++ trailer n (length objects)
