@@ -7,5 +7,10 @@ pub mod stream
 pub mod lines
 pub mod sums
 pub mod png
+pub mod texts
+pub mod bitmap_lines
+pub mod buffer
+pub mod printing
+pub mod runs
 pub mod pbm
 pub mod laws

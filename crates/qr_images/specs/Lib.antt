@@ -3,8 +3,16 @@ pub mod Bits
 pub mod Deflate
 pub mod Png
 pub mod Pbm
+pub mod EscPos
+pub mod Labels
+pub mod Tspl
+pub mod Zpl
 pub mod Image
+pub mod BitmapLines
 pub mod Codes
+pub mod Packing
+pub mod Printing
 pub mod Writing
 pub mod Laws
+pub mod PrinterLaws
 pub mod Steps

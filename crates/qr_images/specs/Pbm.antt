@@ -21,12 +21,13 @@ pub record Bitmap : Type 0 where
 abbrev pub is_black : Bitmap → ℕ → ℕ → Bool
 is_black p y x = slice_index_or p.lines (y * ((p.width + 7) / 8) + x / 8) 0 / 2 ^ (7 - x % 8) % 2 == 1
 
--- The bitmap that a file shows: `P4`, the width, the height, and the lines from the top down (netpbm, pbm)
+-- The bitmap that a file shows: `P4`, the width and the height, which are not 0, and the lines from the top down
+-- (netpbm, pbm)
 unfoldable pub bitmap : List ℕ → Option Bitmap
 bitmap bytes =
     let width = leading 0 (drop 3 bytes) in
     let height = leading 0 (drop 1 width.1) in
     let lines = drop 1 height.1 in
     if same (take 3 bytes) (codes "P4\n") && (same (take 1 width.1) (codes " ") && (same (take 1 height.1) (codes "\n")
-    && (nat_le 1 width.0 && length lines == height.0 * ((width.0 + 7) / 8))))
+    && (nat_le 1 width.0 && nat_le 1 height.0 && length lines == height.0 * ((width.0 + 7) / 8))))
     then Some (record { width = width.0; height = height.0; lines = lines }) else None

@@ -2,4 +2,6 @@
 pub mod Checksums
 pub mod Codes
 pub mod Lines
+pub mod Pixels
+pub mod Runs
 pub mod Stream

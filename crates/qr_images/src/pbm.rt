@@ -2,16 +2,15 @@
 
 ghost use Rattle.std.specs.Prelude.{◌≡◌, ◌≤◌, ◌++◌, decimal, length};
 ghost use Rattle.qr_devices.specs.Pen.{Puts};
-ghost use Rattle.qr_images.specs.Image.{black_line, black_lines};
 ghost use Rattle.qr_images.specs.Steps.Stream.{WritesAll};
 ghost use Rattle.qr_images.specs.Writing.{bitmap_head, pbm_file};
 
+use crate::bitmap_lines::put_lines;
 use crate::image::ImageSettings;
 use crate::lines::width;
-use crate::pixels::{Place, next_byte};
+use crate::modules::Modules;
 use itoa::Buffer;
 use qr_devices::{DrawFault, Pen, Sink, WRITE_MAX};
-use qr_matrix::Matrix;
 
 // Writes what comes before the lines.
 fn put_bitmap_head<W: Sink>(pen: &mut Pen, out: &mut W, width: u16) -> Result<(), DrawFault>
@@ -28,53 +27,9 @@ fn put_bitmap_head<W: Sink>(pen: &mut Pen, out: &mut W, width: u16) -> Result<()
     Ok(())
 }
 
-// Writes a line that shows row `row` of the raster.
-fn put_black_line<W: Sink>(
-    pen: &mut Pen,
-    out: &mut W,
-    square: &Matrix,
-    settings: &ImageSettings,
-    row: u32,
-) -> Result<(), DrawFault>
-    requires some { 1 ≤ settings.now.scale }
-    requires scale { settings.now.scale ≤ 100 }
-    requires margin { settings.now.margin ≤ 100 }
-    ensures { Puts (W.device out.old) (W.device out.new) pen.old pen.new (black_line settings.now square.now row) result }
-{
-    let count = width(square, settings).div_ceil(8);
-    let mut place = Place {
-        column: 0,
-        left: u32::from(settings.scale),
-    };
-    for done in 0..count {
-        pen.reserve(out, 1)?;
-        let byte = next_byte(square, settings, row, &mut place);
-        pen.piece.push(255 - byte);
-    }
-    Ok(())
-}
-
-// Writes all lines.
-fn put_black_lines<W: Sink>(
-    pen: &mut Pen,
-    out: &mut W,
-    square: &Matrix,
-    settings: &ImageSettings,
-) -> Result<(), DrawFault>
-    requires some { 1 ≤ settings.now.scale }
-    requires scale { settings.now.scale ≤ 100 }
-    requires margin { settings.now.margin ≤ 100 }
-    ensures { Puts (W.device out.old) (W.device out.new) pen.old pen.new (black_lines settings.now square.now) result }
-{
-    for y in 0..width(square, settings) {
-        put_black_line(pen, out, square, settings, y / u32::from(settings.scale))?;
-    }
-    Ok(())
-}
-
 /// Writes the PBM file of the square.
 pub(crate) fn write_pbm<W: Sink>(
-    square: &Matrix,
+    square: &Modules,
     settings: &ImageSettings,
     out: &mut W,
 ) -> Result<(), DrawFault>
@@ -85,6 +40,14 @@ pub(crate) fn write_pbm<W: Sink>(
 {
     let mut pen = Pen::new();
     put_bitmap_head(&mut pen, out, width(square, settings) as u16)?;
-    put_black_lines(&mut pen, out, square, settings)?;
+    put_lines(
+        &mut pen,
+        out,
+        square,
+        settings,
+        true,
+        0,
+        width(square, settings),
+    )?;
     pen.reserve(out, WRITE_MAX)
 }

@@ -9,3 +9,9 @@ pub mod FileLemmas
 pub mod PixelLemmas
 pub mod LawLemmas
 pub mod BitmapLemmas
+pub mod DotLemmas
+pub mod EscPosLemmas
+pub mod LabelLemmas
+pub mod TsplLemmas
+pub mod ZplLemmas
+pub mod LengthLemmas

@@ -1,10 +1,12 @@
 -- The modules of a raster, and the pixels of a row, one by one.
-use Rattle.std.proofs.Common.{◌≡◌, ℕ, zero, suc, ◌+◌, ◌-◌, ◌*◌, ◌/◌, ◌%◌, ◌^◌, ◌<◌, ◌≤◌, refl, ap, ◌∙◌, arith, Bool, true, false, not, ◌&&◌, if◌then◌else◌}
-use Rattle.std.proofs.lemmas.Bool.{Decides.nat_tests}
-use Rattle.std.proofs.Math.Nat.{pow-le-pow_right, pow-suc, mul-add-div_right, div-eq_of_lt}
+use Rattle.std.proofs.Common.{◌≡◌, ℕ, zero, suc, ◌+◌, ◌-◌, ◌*◌, ◌/◌, ◌%◌, ◌^◌, ◌<◌, ◌≤◌, refl, ap, sym, ◌∙◌, inl, inr, arith, Bool, true, false, not, eqb, if◌then◌else◌, List, [], get_or, length}
+use Rattle.std.proofs.lemmas.Bool.{Decides.nat_tests, cases_lt, le-leb, lt-leb}
+use Rattle.std.proofs.Math.ListN.{get_or-eq_default}
+use Rattle.std.proofs.Math.Nat.{pow-le-pow_right, pow-suc, mul_assoc, mul-add-div_right, div-eq_of_lt}
+use Rattle.std.proofs.lemmas.Nat.{pow_pos}
 use Rattle.qr_matrix.specs.{Grid.{Grid, colour}, Raster.is_dark_at}
 use Rattle.qr_images.specs.Image.{bit, byte_of}
-use mir.Val.{bool_byte}
+use Rattle.qr_images.specs.Steps.Pixels.{is_dark_in}
 
 -- the margin above is light
 pub dark_above : (margin y x : ℕ) (g : Grid) → y < margin → is_dark_at margin g y x ≡ false
@@ -32,6 +34,56 @@ pub dark_inside : (margin y x : ℕ) (g : Grid) → margin ≤ y → y < margin 
 unfolding is_dark_at
 dark_inside margin y x g a b c d = grind (arith, nat_tests)
 
+-- ---- the modules of a row between its margins
+
+-- a row without modules is light
+pub none-in : (margin x : ℕ) → is_dark_in margin [] x ≡ false
+unfolding is_dark_in
+none-in margin x = grind (arith, nat_tests)
+
+out-of-margin : (margin x : ℕ) (cells : List ℕ) → margin ≤ x → is_dark_in margin cells x ≡ not (eqb (get_or cells (x - margin) 0) 0)
+unfolding is_dark_in
+out-of-margin margin x cells l = rw (le-leb margin x l) refl
+
+in-margin : (margin x : ℕ) (cells : List ℕ) → x < margin → is_dark_in margin cells x ≡ false
+unfolding is_dark_in
+in-margin margin x cells l = rw (lt-leb margin x l) refl
+
+-- after its modules a row is light
+past-cells : (margin x : ℕ) (cells : List ℕ) → margin ≤ x → length cells ≤ x - margin → is_dark_in margin cells x ≡ false
+past-cells margin x cells l m = out-of-margin margin x cells l ∙ rw (get_or-eq_default cells 0 {n = x - margin} m) refl
+
+-- a row of the square
+pub row-in : (margin y : ℕ) (g : Grid) (cells : List ℕ) → margin ≤ y → y < margin + g.side → length cells ≡ g.side
+    → ((x : ℕ) → x < g.side → not (eqb (get_or cells x 0) 0) ≡ colour g (y - margin) x) → (x : ℕ) → is_dark_in margin cells x ≡ is_dark_at margin g y x
+row-in margin y g cells l m e each x = elim (cases_lt x margin) [
+  | inl left ↦ in-margin margin x cells left ∙ sym (dark_left margin y x g left)
+  | inr on ↦ elim (cases_lt (x - margin) g.side) [
+    | inl inside ↦ out-of-margin margin x cells on ∙ each (x - margin) inside ∙ sym (dark_inside margin y x g l m on (omega arith))
+    | inr past ↦ past-cells margin x cells on (omega arith) ∙ sym (dark_right margin y x g (omega arith))
+  ]
+]
+
+-- a column after the margin, counted from there, and one in the margin, which is then far too great
+pub counted-from : (margin x : ℕ) → margin < 256 → x < 4294967296 → (x + (4294967296 - margin)) % 4294967296 < 177
+    → (margin ≤ x) × ((x + (4294967296 - margin)) % 4294967296 ≡ x - margin)
+counted-from margin x few small near = elim (cases_lt x margin) [
+  | inl left ↦ absurd (omega arith)
+  | inr on ↦ (on, omega arith)
+]
+
+-- the module of such a column
+pub cell-dark : (margin x k : ℕ) (cells : List ℕ) → margin ≤ x → k ≡ x - margin → not (eqb (get_or cells k 0) 0) ≡ is_dark_in margin cells x
+cell-dark margin x k cells on e = rw e (sym (out-of-margin margin x cells on))
+
+-- a column without a module
+pub cell-none : (margin x : ℕ) (cells : List ℕ) → margin < 256 → x < 4294967296 → length cells ≤ (x + (4294967296 - margin)) % 4294967296
+    → is_dark_in margin cells x ≡ false
+cell-none margin x cells few small far = elim (cases_lt x margin) [
+  | inl left ↦ in-margin margin x cells left
+  | inr on ↦ past-cells margin x cells on (omega arith)
+]
+
 -- The number whose binary digits are the first `n` of `p`
 unfoldable pub digits_of : (ℕ → Bool) → ℕ → ℕ
 digits_of p zero = 0
@@ -48,40 +100,66 @@ pub no-digits : (p : ℕ → Bool) → digits_of p 0 ≡ 0
 unfolding digits_of
 no-digits p = refl
 
-pub digits-more : (p : ℕ → Bool) (n : ℕ) → digits_of p (n + 1) ≡ digits_of p n * 2 + (if p n then 1 else 0)
+digits-suc : (p : ℕ → Bool) (n : ℕ) → digits_of p (suc n) ≡ digits_of p n * 2 + (if p n then 1 else 0)
 unfolding digits_of
-digits-more p n = let e : n + 1 ≡ suc n = omega arith in rw e refl
+digits-suc p n = refl
 
-pub one-more : (b n : ℕ) → n < 8 → b < 2 ^ n → (b % 128 ≡ b) × (b * 2 + 1 < 2 ^ (n + 1))
-one-more b n l m =
-    let some : 0 < 2 = omega arith in
-    let le : n ≤ 7 = omega arith in
-    let top : 2 ^ n ≤ 2 ^ 7 = pow-le-pow_right some le in
-    let e : n + 1 ≡ suc n = omega arith in
-    let d : 2 ^ (n + 1) ≡ 2 ^ n * 2 = ap (λ k. 2 ^ k) e ∙ pow-suc 2 n in
-    (omega arith, omega arith)
+digits-next : (p : ℕ → Bool) (n : ℕ) (b : Bool) → digits_of p n < 2 ^ n → digits_of p n * 2 + (if b then 1 else 0) < 2 ^ suc n
+digits-next p n true l = rw (pow-suc 2 n) (omega arith)
+digits-next p n false l = rw (pow-suc 2 n) (omega arith)
 
-pub step : (P : ℕ → Bool) (byte done f : ℕ) (black : Bool) → byte ≡ digits_of P done → byte % 128 ≡ byte → P done ≡ not black → f ≡ (if not black then 1 else 0)
-    → byte % 128 * 2 + f ≡ digits_of P (done + 1)
-step P byte done f black e m p g = rw (digits-more P done, m, p, g, e) refl
+none-more : (d : ℕ) (b : Bool) → d ≡ d * 2 ^ 0 + (if b then 2 ^ 0 - 1 else 0)
+none-more d true = omega arith
+none-more d false = omega arith
 
--- the pixel of a place is that of its module
-pub pixel-at : (dark : ℕ → Bool) (scale start done column left : ℕ) (black : Bool) → 1 ≤ left → left ≤ scale → column * scale + (scale - left) ≡ start + done
-    → black ≡ dark column → not (dark ((start + done) / scale)) ≡ not black
-pixel-at dark scale start done column left black a b e d =
-    let rest = scale - left in
+one-appended : (d m : ℕ) (b : Bool) → 0 < m → (d * m + (if b then m - 1 else 0)) * 2 + (if b then 1 else 0) ≡ d * (m * 2) + (if b then m * 2 - 1 else 0)
+one-appended d m true l = let e : d * (m * 2) ≡ d * m * 2 = sym (mul_assoc d m 2) in rw e (omega arith)
+one-appended d m false l = let e : d * (m * 2) ≡ d * m * 2 = sym (mul_assoc d m 2) in rw e (omega arith)
+
+-- digits have a bound
+pub digits-small : (p : ℕ → Bool) (n : ℕ) → digits_of p n < 2 ^ n
+unfolding digits_of
+digits-small p zero = omega arith
+digits-small p (suc n) = digits-next p n (p n) (digits-small p n)
+
+-- digits of one value, appended at once
+pub many-more : (p : ℕ → Bool) (b : Bool) (n t : ℕ) → ((j : ℕ) → j < t → p (n + j) ≡ b)
+    → digits_of p (n + t) ≡ digits_of p n * 2 ^ t + (if b then 2 ^ t - 1 else 0)
+many-more p b n zero each =
+    let e : n + 0 ≡ n = omega arith in
+    rw e (none-more (digits_of p n) b)
+many-more p b n (suc t) each =
+    let e : n + suc t ≡ suc (n + t) = omega arith in
+    let less : (j : ℕ) → j < t → p (n + j) ≡ b = λ j l. each j (omega arith) in
+    let here : p (n + t) ≡ b = each t (omega arith) in
+    rw (e, digits-suc p (n + t), here, many-more p b n t less, pow-suc 2 t) (one-appended (digits_of p n) (2 ^ t) b (pow_pos t))
+
+-- each of the pixels that are left of a module has its colour
+pub pixels-at : (dark : ℕ → Bool) (scale start done column left : ℕ) (black : Bool) → left ≤ scale → column * scale + (scale - left) ≡ start + done
+    → black ≡ dark column → (j : ℕ) → j < left → not (dark ((start + (done + j)) / scale)) ≡ not black
+pixels-at dark scale start done column left black within e d j l =
+    let rest = scale - left + j in
     let some : 0 < scale = omega arith in
     let low : rest / scale ≡ 0 = div-eq_of_lt (omega arith) in
     let q : (column * scale + rest) / scale ≡ column = mul-add-div_right some column rest ∙ omega arith in
-    rw (← e, q, d) refl
+    let f : start + (done + j) ≡ column * scale + rest = omega arith in
+    rw (f, q, d) refl
 
-pub byte-is : (b : Bool) → bool_byte b ≡ (if b then 1 else 0)
-byte-is true = refl
-byte-is false = refl
+-- eight pixels of a row of the square
+pub bytes-shown : (margin row start scale : ℕ) (cells : List ℕ) (g : Grid) → ((x : ℕ) → is_dark_in margin cells x ≡ is_dark_at margin g row x)
+    → byte_of (λ j. not (is_dark_in margin cells ((start + j) / scale))) ≡ byte_of (λ j. not (is_dark_at margin g row ((start + j) / scale)))
+unfolding byte_of
+bytes-shown margin row start scale cells g same =
+    rw (same ((start + 0) / scale), same ((start + 1) / scale), same ((start + 2) / scale), same ((start + 3) / scale), same ((start + 4) / scale),
+      same ((start + 5) / scale), same ((start + 6) / scale), same ((start + 7) / scale)) refl
 
-pub byte-low : (b : Bool) → bool_byte b ≤ 1
-byte-low true = omega arith
-byte-low false = omega arith
+-- at most eight digits are a byte
+pub digits-in : (p : ℕ → Bool) (n byte : ℕ) → n ≤ 8 → byte ≡ digits_of p n → byte < 256
+digits-in p n byte few e =
+    let some : 0 < 2 = omega arith in
+    let top : 2 ^ n ≤ 2 ^ 8 = pow-le-pow_right some few in
+    let small = digits-small p n in
+    omega arith
 
 -- ---- bits inverted
 

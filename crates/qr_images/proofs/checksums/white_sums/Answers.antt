@@ -1,4 +1,4 @@
-use Rattle.std.proofs.Common.{◌≡◌, refl, arith}
+use Rattle.std.proofs.Common.{◌≡◌, arith}
 use Rattle.qr_images.proofs.lemmas.checksums.AdlerLemmas.{white-first, white-more}
 use Rattle.qr_images.proofs.checksums.white_sums.Goals as goal
 

@@ -1,7 +1,7 @@
 -- A bitmap is read back.
-use Rattle.std.proofs.Common.{◌≡◌, ℕ, zero, suc, ◌+◌, ◌-◌, ◌*◌, ◌/◌, ◌%◌, ◌^◌, ◌<◌, ◌≤◌, refl, sym, ap, ◌∙◌, inl, inr, arith, List, [], ◌∷◌, ◌++◌, Bool, true, false, eqb, leb, get_or, length, append_assoc, Some, codes}
-use Rattle.std.{proofs.{lemmas.Fmt.{decimal_digit, decimal_step}, lemmas.Bool.{cases_lt, eq-eqb, le-leb}, lemmas.Bool.Decides.nat_tests}, specs.Prelude.decimal}
-use Rattle.qr_matrix.specs.{Grid.Grid, Raster.{is_dark_at, raster_width}}
+use Rattle.std.proofs.Common.{◌≡◌, ℕ, zero, suc, ◌+◌, ◌-◌, ◌*◌, ◌/◌, ◌%◌, ◌^◌, ◌<◌, ◌≤◌, refl, ap, ◌∙◌, inl, inr, arith, List, [], ◌∷◌, ◌++◌, true, eqb, leb, get_or, length, append_assoc, Some}
+use Rattle.std.{proofs.{lemmas.Fmt.{decimal_digit, decimal_step}, lemmas.Bool.{cases_lt, eq-eqb, le-leb}}, specs.Prelude.decimal}
+use Rattle.qr_matrix.specs.{Grid.Grid, Raster.{is_dark_at}}
 use Rattle.qr_images.specs.Image.{black_byte, black_line, black_lines, image_width, joined_below, line_length}
 use Rattle.qr_images.specs.Laws.{BitmapsAreReadBack}
 use Rattle.qr_images.specs.Pbm.{bitmap, leading}
@@ -22,7 +22,7 @@ leading-digit m d rest lt =
     rw (low, high, e) refl
 
 -- a number is read from its digits, after which something else comes
-leading-by : (f n : ℕ) (rest : List ℕ) → n < f → n ≤ 99999 → leading 0 (decimal n ++ rest) ≡ leading n rest
+pub leading-by : (f n : ℕ) (rest : List ℕ) → n < f → n < 2 ^ 64 → leading 0 (decimal n ++ rest) ≡ leading n rest
 leading-by zero n rest lt le = absurd (omega arith)
 leading-by (suc f) n rest lt le = elim (cases_lt n 10) [
   | inl l ↦
@@ -44,7 +44,7 @@ leading-newline n rest = refl
 
 -- ---- lines
 
-black-length : (s : ImageSettings) (g : Grid) (r : ℕ) → length (black_line s g r) ≡ line_length s g
+pub black-length : (s : ImageSettings) (g : Grid) (r : ℕ) → length (black_line s g r) ≡ line_length s g
 unfolding black_line
 black-length s g r = joined-length (line_length s g) 1 (λ k. black_byte s g r k ∷ []) (λ k. refl) ∙ omega arith
 
@@ -55,8 +55,8 @@ black-at s g r k l =
     let found = get-joined (line_length s g) 1 k 0 (λ k. black_byte s g r k ∷ []) (λ k. refl) l (omega arith) in
     rw e at found
 
--- each pixel shows its module
-black-back : (s : ImageSettings) (g : Grid) (y x : ℕ) → y < image_width s g → x < image_width s g
+-- each pixel shows its module, also those that fill the last byte of a line
+pub black-back : (s : ImageSettings) (g : Grid) (y x : ℕ) → y < image_width s g → x < 8 * line_length s g
     → eqb (get_or (black_lines s g) (y * line_length s g + x / 8) 0 / 2 ^ (7 - x % 8) % 2) 1 ≡ is_dark_at s.margin g (y / s.scale) (x / s.scale)
 unfolding black_lines
 black-back s g y x ly lx =
@@ -69,7 +69,7 @@ black-back s g y x ly lx =
     let pixel = byte-back (λ j. is_dark_at s.margin g r ((8 * (x / 8) + j) / s.scale)) (x % 8) low in
     rw here (pixel ∙ rw back refl)
 
-lines-length : (s : ImageSettings) (g : Grid) → length (black_lines s g) ≡ image_width s g * line_length s g
+pub lines-length : (s : ImageSettings) (g : Grid) → length (black_lines s g) ≡ image_width s g * line_length s g
 unfolding black_lines
 lines-length s g = joined-length (image_width s g) (line_length s g) (λ y. black_line s g (y / s.scale)) (λ j. black-length s g (j / s.scale))
 
@@ -81,8 +81,8 @@ unfolding bitmap bitmap_head same
 bitmap-back w lines some most long =
     let rest : List ℕ = 32 ∷ (decimal w ++ (10 ∷ lines)) in
     let e : (decimal w ++ (32 ∷ (decimal w ++ 10 ∷ []))) ++ lines ≡ decimal w ++ rest = simp append_assoc in
-    let width : leading 0 (decimal w ++ rest) ≡ (w, rest) = leading-by (suc w) w rest (omega arith) most ∙ leading-space w (decimal w ++ (10 ∷ lines)) in
-    let height : leading 0 (decimal w ++ (10 ∷ lines)) ≡ (w, 10 ∷ lines) = leading-by (suc w) w (10 ∷ lines) (omega arith) most ∙ leading-newline w lines in
+    let width : leading 0 (decimal w ++ rest) ≡ (w, rest) = leading-by (suc w) w rest (omega arith) (omega arith) ∙ leading-space w (decimal w ++ (10 ∷ lines)) in
+    let height : leading 0 (decimal w ++ (10 ∷ lines)) ≡ (w, 10 ∷ lines) = leading-by (suc w) w (10 ∷ lines) (omega arith) (omega arith) ∙ leading-newline w lines in
     let one : leb 1 w ≡ true = le-leb 1 w some in
     let all : eqb (length lines) (w * ((w + 7) / 8)) ≡ true = eq-eqb _ _ long in
     rw (e, width, height, one, all) refl
@@ -93,4 +93,4 @@ bitmaps-read s g some scale margin least most =
     let i : IsImage s g = record { some = some; scale = scale; margin = margin; least = least; most = most } in
     let w = width-in s g i in
     let whole = bitmap-back (image_width s g) (black_lines s g) w.0 (omega (arith, w.1)) (lines-length s g) in
-    (_, whole, record { width = refl; height = refl; pixels = λ y x ly lx. black-back s g y x ly lx })
+    (_, whole, record { width = refl; height = refl; pixels = λ y x ly lx. black-back s g y x ly (omega arith) })

@@ -1,14 +1,17 @@
-use Rattle.std.proofs.Common.{◌≡◌, ◌≤◌, ◌<◌, ◌+◌, ◌-◌, ◌*◌, ◌/◌, ◌^◌, not}
-use Rattle.qr_matrix.specs.Raster.{is_dark_at}
+use Rattle.std.proofs.Common.{◌≡◌, ◌≤◌, ◌+◌, ◌-◌, ◌*◌, ◌/◌, not}
+use Rattle.qr_images.specs.Steps.Pixels.{is_dark_in}
 use Rattle.qr_images.proofs.lemmas.pixels.{digits_of}
 use Rattle.qr_images.proofs.pixels.next_byte.Given as goal
 
 abbrev pub invariant-loop-done : goal.invariant-loop-done
 invariant-loop-done l = record {
-  value : l.byte ≡ digits_of (λ j. not (is_dark_at l.settings.margin l.square l.row ((l.fn.place.column * l.settings.scale + (l.settings.scale - l.fn.place.left) + j) / l.settings.scale))) l.done;
-  small : l.byte < 2 ^ l.done;
+  value : l.byte ≡ digits_of (λ j. not (is_dark_in l.settings.margin l.cells ((l.fn.place.column * l.settings.scale + (l.settings.scale - l.fn.place.left) + j) / l.settings.scale))) l.done;
+  within8 : l.done ≤ 8;
   next : l.at.column * l.settings.scale + (l.settings.scale - l.at.left) ≡ l.fn.place.column * l.settings.scale + (l.settings.scale - l.fn.place.left) + l.done;
   left : 1 ≤ l.at.left;
   within : l.at.left ≤ l.settings.scale;
   far : l.at.column ≤ l.fn.place.column + l.done;
 }
+
+abbrev pub decreases-loop-done : goal.decreases-loop-done
+decreases-loop-done l = 8 - l.done

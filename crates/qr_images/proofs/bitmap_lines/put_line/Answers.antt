@@ -1,9 +1,9 @@
-use Rattle.std.proofs.{Common.{arith, ◌≡◌, ◌≤◌, ◌+◌, ◌-◌, ◌∷◌, [], ◌∙◌, ap}, lemmas.Result.err_from_is_err_and}
+use Rattle.std.proofs.{Common.{arith, ◌≡◌, ◌≤◌, ◌+◌, ◌-◌, ◌*◌, ◌∷◌, [], ◌∙◌, ap}, lemmas.Result.err_from_is_err_and}
 use Rattle.qr_devices.proofs.Facts.{formed}
-use Rattle.qr_matrix.specs.Raster.{is_dark_at, raster_width}
-use Rattle.qr_images.specs.Image.{black_byte, black_line, line_length}
-use Rattle.qr_images.proofs.lemmas.{lines.{black-here, column-in}, pbm.{put-failed-before, put-more, put-start}}
-use Rattle.qr_images.proofs.pbm.put_black_line.Goals as goal
+use Rattle.qr_matrix.specs.Raster.{raster_width}
+use Rattle.qr_images.specs.{BitmapLines.{toned, toned_line}, Image.{black_byte, line_length}}
+use Rattle.qr_images.proofs.lemmas.{lines.{black-here, column-in}, pixels.bytes-shown, bitmap_lines.{put-failed-before, put-more, put-start}}
+use Rattle.qr_images.proofs.bitmap_lines.put_line.Goals as goal
 
 pub loop-done-init : goal.loop-done-init
 loop-done-init g c = record {
@@ -15,12 +15,13 @@ loop-done-init g c = record {
 }
 
 pub returns-in_err-reserve : goal.returns-in_err-reserve
-unfolding black_line
+unfolding toned_line
 returns-in_err-reserve g c =
     let s = c.args.settings.now in
     let g0 = c.args.square.now in
     let count : c.div_ceil-count.result ≡ line_length s g0 = omega (arith, c.div_ceil-count.ensures, c.width.ensures.value) in
-    rw ((err_from_is_err_and c.from_residual.result c.from_residual.ensures.1).1) (put-failed-before _ _ _ _ _ _ _ (λ k. black_byte s g0 c.args.row k ∷ []) c.loop-done.done (line_length s g0) (omega arith) c.loop-done.invariant.writes c.in_err-reserve.ensures.writes)
+    rw ((err_from_is_err_and c.from_residual.result c.from_residual.ensures.1).1)
+    (put-failed-before _ _ _ _ _ _ _ (λ k. toned c.args.black (black_byte s g0 c.args.row k) ∷ []) c.loop-done.done (line_length s g0) (omega arith) c.loop-done.invariant.writes c.in_err-reserve.ensures.writes)
 
 pub loop-done-preserved : goal.loop-done-preserved
 loop-done-preserved g c =
@@ -28,11 +29,12 @@ loop-done-preserved g c =
     let g0 = c.args.square.now in
     let inv = c.loop-done.invariant in
     let count : c.div_ceil-count.result ≡ line_length s g0 = omega (arith, c.div_ceil-count.ensures, c.width.ensures.value) in
-    let here = black-here s g0 c.args.row _ c.loop-done.done c.next_byte-byte.result inv.at c.next_byte-byte.ensures.value in
+    let shown = bytes-shown s.margin c.args.row (c.loop-done.place.column * s.scale + (s.scale - c.loop-done.place.left)) s.scale c.cells_of-cells.result.now g0 c.cells_of-cells.ensures.dark in
+    let here = c.in_tone.ensures ∙ ap (toned c.args.black) (black-here s g0 c.args.row _ c.loop-done.done c.next_byte-byte.result inv.at (c.next_byte-byte.ensures.value ∙ shown)) in
     let wide : c.loop-done.place.column ≤ raster_width s.margin g0 + 8 =
     column-in c.loop-done.place.column s.scale (s.scale - c.loop-done.place.left) (raster_width s.margin g0) c.loop-done.done c.requires.some inv.at (omega arith) in
     record {
-      writes = put-more _ _ _ _ _ _ _ _ _ _ (λ k. black_byte s g0 c.args.row k ∷ []) c.loop-done.done (ap (λ b. b ∷ []) here) inv.writes (formed _ _ _ _ _ _ _ _ c.in_ok-reserve.ensures.writes c.push.ensures.items);
+      writes = put-more _ _ _ _ _ _ _ _ _ _ (λ k. toned c.args.black (black_byte s g0 c.args.row k) ∷ []) c.loop-done.done (ap (λ b. b ∷ []) here) inv.writes (formed _ _ _ _ _ _ _ _ c.in_ok-reserve.ensures.writes c.push.ensures.items);
       at = omega (arith, c.next_byte-byte.ensures.next, inv.at);
       left = c.next_byte-byte.ensures.left;
       within = c.next_byte-byte.ensures.within;
@@ -40,7 +42,7 @@ loop-done-preserved g c =
     }
 
 pub returns : goal.returns
-unfolding black_line
+unfolding toned_line
 returns g c =
     let s = c.args.settings.now in
     let count : c.div_ceil-count.result ≡ line_length s c.args.square.now = omega (arith, c.div_ceil-count.ensures, c.width.ensures.value) in

@@ -1,8 +1,0 @@
-use Rattle.std.proofs.Common.{◌/◌, ◌++◌}
-use Rattle.qr_devices.specs.Writing.{Writes}
-use Rattle.qr_images.specs.Image.{black_line, joined_below}
-use Rattle.qr_images.proofs.pbm.put_black_lines.Given as goal
-
-abbrev pub invariant-loop-y : goal.invariant-loop-y
-invariant-loop-y g l = Writes (g.W.Sink.device l.fn.out) (g.W.Sink.device l.out) l.fn.pen.interrupted l.pen.interrupted
-    (l.fn.pen.piece ++ joined_below l.y (λ y. black_line l.settings l.square (y / l.settings.scale))) l.pen.piece
