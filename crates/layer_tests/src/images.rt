@@ -1,11 +1,10 @@
-//! Tests of images. The files that are expected were made by a program in Python that shares no code with `qr_images`,
-//! and other programs were seen to read them.
+//! Tests of images. The files that are expected were made by a program in Python that shares no code with `qr_images`.
+//! Other programs were seen to read the PNG and PBM files, and a second program in Python those for printers. No printer
+//! was tried.
 
 use crate::checks::check_eq;
 use qr_devices::{Faults, Trial};
-use qr_images::{Format, ImageSettings, write_image};
-use qr_matrix::Matrix;
-use std::alloc::Global;
+use qr_images::{Format, ImageSettings, Modules, fill_image, image_len, write_image};
 use std::test::Fail;
 
 // A dark module, one pixel wide, without a margin.
@@ -78,42 +77,79 @@ static BITMAP: [u8; 39] = [
     0x80, 0x00, 0x00, 0x00, 0x00, 0x00, 0x00,
 ];
 
+// The same for a receipt printer.
+static RECEIPT: [u8; 38] = [
+    0x1D, 0x76, 0x30, 0x00, 0x02, 0x00, 0x0F, 0x00, 0x00, 0x00, 0x00, 0x00, 0x00, 0x00, 0x1C, 0x00,
+    0x1C, 0x00, 0x1C, 0x00, 0x00, 0x70, 0x00, 0x70, 0x00, 0x70, 0x1F, 0x80, 0x1F, 0x80, 0x1F, 0x80,
+    0x00, 0x00, 0x00, 0x00, 0x00, 0x00,
+];
+
+// The same for a label printer that reads TSPL, 12 dots from the left and 345 from the upper edge.
+static TSPL_LABEL: [u8; 53] = [
+    0x42, 0x49, 0x54, 0x4D, 0x41, 0x50, 0x20, 0x31, 0x32, 0x2C, 0x33, 0x34, 0x35, 0x2C, 0x32, 0x2C,
+    0x31, 0x35, 0x2C, 0x30, 0x2C, 0xFF, 0xFF, 0xFF, 0xFF, 0xFF, 0xFF, 0xE3, 0xFF, 0xE3, 0xFF, 0xE3,
+    0xFF, 0xFF, 0x8F, 0xFF, 0x8F, 0xFF, 0x8F, 0xE0, 0x7F, 0xE0, 0x7F, 0xE0, 0x7F, 0xFF, 0xFF, 0xFF,
+    0xFF, 0xFF, 0xFF, 0x0D, 0x0A,
+];
+
+// The same for a label printer that reads ZPL, fifty dots for a module.
+static ZPL_LABEL: [u8; 312] = [
+    0x5E, 0x58, 0x41, 0x0A, 0x5E, 0x46, 0x4F, 0x31, 0x32, 0x2C, 0x33, 0x34, 0x35, 0x5E, 0x47, 0x46,
+    0x41, 0x2C, 0x38, 0x30, 0x30, 0x30, 0x2C, 0x38, 0x30, 0x30, 0x30, 0x2C, 0x33, 0x32, 0x2C, 0x2C,
+    0x3A, 0x3A, 0x3A, 0x3A, 0x3A, 0x3A, 0x3A, 0x3A, 0x3A, 0x3A, 0x3A, 0x3A, 0x3A, 0x3A, 0x3A, 0x3A,
+    0x3A, 0x3A, 0x3A, 0x3A, 0x3A, 0x3A, 0x3A, 0x3A, 0x3A, 0x3A, 0x3A, 0x3A, 0x3A, 0x3A, 0x3A, 0x3A,
+    0x3A, 0x3A, 0x3A, 0x3A, 0x3A, 0x3A, 0x3A, 0x3A, 0x3A, 0x3A, 0x3A, 0x3A, 0x3A, 0x3A, 0x3A, 0x3A,
+    0x3A, 0x52, 0x30, 0x33, 0x52, 0x46, 0x67, 0x59, 0x30, 0x3A, 0x3A, 0x3A, 0x3A, 0x3A, 0x3A, 0x3A,
+    0x3A, 0x3A, 0x3A, 0x3A, 0x3A, 0x3A, 0x3A, 0x3A, 0x3A, 0x3A, 0x3A, 0x3A, 0x3A, 0x3A, 0x3A, 0x3A,
+    0x3A, 0x3A, 0x3A, 0x3A, 0x3A, 0x3A, 0x3A, 0x3A, 0x3A, 0x3A, 0x3A, 0x3A, 0x3A, 0x3A, 0x3A, 0x3A,
+    0x3A, 0x3A, 0x3A, 0x3A, 0x3A, 0x3A, 0x3A, 0x3A, 0x3A, 0x3A, 0x67, 0x57, 0x30, 0x33, 0x52, 0x46,
+    0x54, 0x30, 0x3A, 0x3A, 0x3A, 0x3A, 0x3A, 0x3A, 0x3A, 0x3A, 0x3A, 0x3A, 0x3A, 0x3A, 0x3A, 0x3A,
+    0x3A, 0x3A, 0x3A, 0x3A, 0x3A, 0x3A, 0x3A, 0x3A, 0x3A, 0x3A, 0x3A, 0x3A, 0x3A, 0x3A, 0x3A, 0x3A,
+    0x3A, 0x3A, 0x3A, 0x3A, 0x3A, 0x3A, 0x3A, 0x3A, 0x3A, 0x3A, 0x3A, 0x3A, 0x3A, 0x3A, 0x3A, 0x3A,
+    0x3A, 0x3A, 0x3A, 0x52, 0x30, 0x33, 0x67, 0x4A, 0x46, 0x43, 0x67, 0x4C, 0x30, 0x3A, 0x3A, 0x3A,
+    0x3A, 0x3A, 0x3A, 0x3A, 0x3A, 0x3A, 0x3A, 0x3A, 0x3A, 0x3A, 0x3A, 0x3A, 0x3A, 0x3A, 0x3A, 0x3A,
+    0x3A, 0x3A, 0x3A, 0x3A, 0x3A, 0x3A, 0x3A, 0x3A, 0x3A, 0x3A, 0x3A, 0x3A, 0x3A, 0x3A, 0x3A, 0x3A,
+    0x3A, 0x3A, 0x3A, 0x3A, 0x3A, 0x3A, 0x3A, 0x3A, 0x3A, 0x3A, 0x3A, 0x3A, 0x3A, 0x3A, 0x2C, 0x3A,
+    0x3A, 0x3A, 0x3A, 0x3A, 0x3A, 0x3A, 0x3A, 0x3A, 0x3A, 0x3A, 0x3A, 0x3A, 0x3A, 0x3A, 0x3A, 0x3A,
+    0x3A, 0x3A, 0x3A, 0x3A, 0x3A, 0x3A, 0x3A, 0x3A, 0x3A, 0x3A, 0x3A, 0x3A, 0x3A, 0x3A, 0x3A, 0x3A,
+    0x3A, 0x3A, 0x3A, 0x3A, 0x3A, 0x3A, 0x3A, 0x3A, 0x3A, 0x3A, 0x3A, 0x3A, 0x3A, 0x3A, 0x3A, 0x3A,
+    0x5E, 0x46, 0x53, 0x0A, 0x5E, 0x58, 0x5A, 0x0A,
+];
+
 // Three by three modules: #.. ..# ##.
-fn pattern(alloc: Global) -> Result<Matrix, Fail> {
-    let mut square = Matrix::new(alloc, 3)?;
-    for (row, col) in [(0, 0), (1, 2), (2, 0), (2, 1)] {
-        if row < square.side() && col < square.side() {
-            square.set(row, col, true);
-        }
-    }
-    Ok(square)
-}
+static PATTERN: [u8; 9] = [1, 0, 0, 0, 0, 1, 1, 1, 0];
+
+// The settings of a PNG file that does not say how large it is.
+static PLAIN: ImageSettings = ImageSettings {
+    format: Format::Png,
+    scale: 1,
+    margin: 0,
+    pixels_a_metre: 0,
+    left: 0,
+    top: 0,
+};
+
+// The settings of the file `FOURFOLD`.
+static SIZED: ImageSettings = ImageSettings {
+    scale: 4,
+    margin: 4,
+    pixels_a_metre: 11811,
+    ..PLAIN
+};
 
 #[test]
 fn one_module_is_one_pixel(rt: HostRuntime) -> Result<(), Fail> {
-    let mut square = Matrix::new(rt.alloc(), 1)?;
-    square.fill(0..1, 0..1, true);
-    let settings = ImageSettings {
-        format: Format::Png,
-        scale: 1,
-        margin: 0,
-        pixels_a_metre: 0,
-    };
+    let square = Modules::new(&[1], 1);
     let mut out = Trial::writer(rt.alloc(), 1000, Faults::NONE)?;
-    write_image(&square, &settings, &mut out)?;
+    write_image(&square, &PLAIN, &mut out)?;
     check_eq!(rt; out.bytes(), ONE_PIXEL.as_slice());
     Ok(())
 }
 
 #[test]
 fn a_narrow_image_has_no_copies(rt: HostRuntime) -> Result<(), Fail> {
-    let square = pattern(rt.alloc())?;
-    let settings = ImageSettings {
-        format: Format::Png,
-        scale: 1,
-        margin: 1,
-        pixels_a_metre: 0,
-    };
+    let square = Modules::new(&PATTERN, 3);
+    let settings = ImageSettings { margin: 1, ..PLAIN };
     let mut out = Trial::writer(rt.alloc(), 1000, Faults::NONE)?;
     write_image(&square, &settings, &mut out)?;
     check_eq!(rt; out.bytes(), NARROW.as_slice());
@@ -122,27 +158,20 @@ fn a_narrow_image_has_no_copies(rt: HostRuntime) -> Result<(), Fail> {
 
 #[test]
 fn a_size_is_written(rt: HostRuntime) -> Result<(), Fail> {
-    let square = pattern(rt.alloc())?;
-    let settings = ImageSettings {
-        format: Format::Png,
-        scale: 4,
-        margin: 4,
-        pixels_a_metre: 11811,
-    };
+    let square = Modules::new(&PATTERN, 3);
     let mut out = Trial::writer(rt.alloc(), 1000, Faults::NONE)?;
-    write_image(&square, &settings, &mut out)?;
+    write_image(&square, &SIZED, &mut out)?;
     check_eq!(rt; out.bytes(), FOURFOLD.as_slice());
     Ok(())
 }
 
 #[test]
 fn five_pixels_a_module(rt: HostRuntime) -> Result<(), Fail> {
-    let square = pattern(rt.alloc())?;
+    let square = Modules::new(&PATTERN, 3);
     let settings = ImageSettings {
-        format: Format::Png,
         scale: 5,
         margin: 4,
-        pixels_a_metre: 0,
+        ..PLAIN
     };
     let mut out = Trial::writer(rt.alloc(), 1000, Faults::NONE)?;
     write_image(&square, &settings, &mut out)?;
@@ -152,20 +181,17 @@ fn five_pixels_a_module(rt: HostRuntime) -> Result<(), Fail> {
 
 #[test]
 fn a_large_image_has_several_parts(rt: HostRuntime) -> Result<(), Fail> {
-    let mut square = Matrix::new(rt.alloc(), 60)?;
-    for row in 0..60u8 {
-        for col in 0..60u8 {
-            let (r, c) = (u32::from(row), u32::from(col));
-            if row < square.side() && col < square.side() {
-                square.set(row, col, (r * r + 3 * c) % 7 < 3);
-            }
+    let mut modules = [0u8; 3600];
+    for row in 0..60usize {
+        for col in 0..60usize {
+            modules[60 * row + col] = u8::from((row * row + 3 * col) % 7 < 3);
         }
     }
+    let square = Modules::new(&modules, 60);
     let settings = ImageSettings {
-        format: Format::Png,
         scale: 7,
         margin: 2,
-        pixels_a_metre: 0,
+        ..PLAIN
     };
     let mut out = Trial::writer(rt.alloc(), 20000, Faults::NONE)?;
     write_image(&square, &settings, &mut out)?;
@@ -183,31 +209,109 @@ fn a_large_image_has_several_parts(rt: HostRuntime) -> Result<(), Fail> {
 
 #[test]
 fn a_device_that_is_full_stops_the_image(rt: HostRuntime) -> Result<(), Fail> {
-    let square = pattern(rt.alloc())?;
-    let settings = ImageSettings {
-        format: Format::Png,
-        scale: 4,
-        margin: 4,
-        pixels_a_metre: 11811,
-    };
+    let square = Modules::new(&PATTERN, 3);
     let mut out = Trial::writer(rt.alloc(), 100, Faults::NONE)?;
-    let result = write_image(&square, &settings, &mut out);
+    let result = write_image(&square, &SIZED, &mut out);
     check_eq!(rt; result.is_err(), true);
     check_eq!(rt; out.bytes(), &FOURFOLD[..100]);
     Ok(())
 }
 
 #[test]
+fn an_image_fills_a_buffer(rt: HostRuntime) -> Result<(), Fail> {
+    let square = Modules::new(&PATTERN, 3);
+    check_eq!(rt; image_len(&square, &SIZED), 166);
+    let mut buffer = [7u8; 166];
+    if image_len(&square, &SIZED) == 166 {
+        fill_image(&square, &SIZED, &mut buffer);
+    }
+    check_eq!(rt; buffer.as_slice(), FOURFOLD.as_slice());
+    Ok(())
+}
+
+#[test]
 fn a_bitmap_is_not_compressed(rt: HostRuntime) -> Result<(), Fail> {
-    let square = pattern(rt.alloc())?;
+    let square = Modules::new(&PATTERN, 3);
     let settings = ImageSettings {
         format: Format::Pbm,
         scale: 3,
         margin: 1,
-        pixels_a_metre: 0,
+        ..PLAIN
     };
     let mut out = Trial::writer(rt.alloc(), 1000, Faults::NONE)?;
     write_image(&square, &settings, &mut out)?;
     check_eq!(rt; out.bytes(), BITMAP.as_slice());
+    Ok(())
+}
+
+#[test]
+fn a_receipt_is_a_command(rt: HostRuntime) -> Result<(), Fail> {
+    let square = Modules::new(&PATTERN, 3);
+    let settings = ImageSettings {
+        format: Format::EscPos,
+        scale: 3,
+        margin: 1,
+        ..PLAIN
+    };
+    let mut out = Trial::writer(rt.alloc(), 20000, Faults::NONE)?;
+    write_image(&square, &settings, &mut out)?;
+    check_eq!(rt; out.bytes(), RECEIPT.as_slice());
+    Ok(())
+}
+
+#[test]
+fn a_high_receipt_has_several_bands(rt: HostRuntime) -> Result<(), Fail> {
+    let square = Modules::new(&PATTERN, 3);
+    let settings = ImageSettings {
+        format: Format::EscPos,
+        scale: 60,
+        margin: 1,
+        ..PLAIN
+    };
+    let mut out = Trial::writer(rt.alloc(), 20000, Faults::NONE)?;
+    write_image(&square, &settings, &mut out)?;
+    let mut sum: u64 = 0;
+    let mut sums: u64 = 0;
+    for byte in out.bytes() {
+        sum = sum.wrapping_add(u64::from(*byte));
+        sums = sums.wrapping_add(sum);
+    }
+    check_eq!(rt; out.bytes().len(), 11416);
+    check_eq!(rt; sum, 446266, "the sum of the bytes");
+    check_eq!(rt; sums, 2272986780, "the sum of the sums of the first byte, of the first two, and so on");
+    Ok(())
+}
+
+#[test]
+fn a_label_says_where_its_image_is(rt: HostRuntime) -> Result<(), Fail> {
+    let square = Modules::new(&PATTERN, 3);
+    let settings = ImageSettings {
+        format: Format::Tspl,
+        scale: 3,
+        margin: 1,
+        left: 12,
+        top: 345,
+        ..PLAIN
+    };
+    let mut out = Trial::writer(rt.alloc(), 1000, Faults::NONE)?;
+    write_image(&square, &settings, &mut out)?;
+    check_eq!(rt; out.bytes(), TSPL_LABEL.as_slice());
+    Ok(())
+}
+
+#[test]
+fn a_label_is_packed(rt: HostRuntime) -> Result<(), Fail> {
+    let square = Modules::new(&PATTERN, 3);
+    let settings = ImageSettings {
+        format: Format::Zpl,
+        scale: 50,
+        margin: 1,
+        left: 12,
+        top: 345,
+        ..PLAIN
+    };
+    let mut out = Trial::writer(rt.alloc(), 1000, Faults::NONE)?;
+    write_image(&square, &settings, &mut out)?;
+    check_eq!(rt; out.bytes(), ZPL_LABEL.as_slice());
     Ok(())
 }

@@ -1,10 +1,11 @@
-//! Tests of the public functions of `qr_layout`, `qr_field`, `qr_matrix`, `qr_bits` and `qr_images`. 1-M stands for
-//! version 1 and level M.
+//! Tests of the public functions of `qr_layout`, `qr_field`, `qr_matrix`, `qr_bits` and `qr_images`, and of the
+//! documents of `qr_drawing`. 1-M stands for version 1 and level M.
 //!
 //! The files of `src`:
 //!
 //! - `checks`: the macros `check!` and `check_eq!`
 //! - `codewords`: data codewords, made and parsed
+//! - `documents`: documents for print
 //! - `field`: the field, and error correction codewords
 //! - `gs1`: GS1 data and ECIs
 //! - `images`: images
@@ -20,6 +21,8 @@
 mod checks;
 #[cfg(test)]
 mod codewords;
+#[cfg(test)]
+mod documents;
 #[cfg(test)]
 mod field;
 #[cfg(test)]

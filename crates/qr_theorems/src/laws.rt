@@ -22,9 +22,11 @@ ghost use Rattle.qr_mending.specs.declared.erasures.Changes.{Changes};
 ghost use Rattle.qr_mending.specs.declared.format.FormatCopy.{FormatCopy};
 ghost use Rattle.qr_theorems.specs.Damage.{AreDamagedSquares, DifferInFewModules};
 ghost use Rattle.qr_theorems.specs.Distance.{DamagedMessagesAreOne, MessagesLieApart, SymbolsLieApart};
+ghost use Rattle.qr_theorems.specs.Images.{ImagesAreRead};
 ghost use Rattle.qr_theorems.specs.Laws.{OutputsReadBack};
 
 use qr_bits::Rule;
+use qr_images::laws::files_are_read_back;
 use qr_layout::{Level, Version};
 use qr_matrix::Matrix;
 use qr_mending::{Mended, mend_series, mend_symbol, mend_symbol_with_unknown};
@@ -156,4 +158,13 @@ pub fn damaged_series_are_mended(alloc: Global, damaged: &[Matrix]) -> Result<Ve
         → MatchResult result (λ bytes. bytes.items ≡ x) (λ e. e ≡ ReadFault.Memory) }
 {
     mend_series(alloc, damaged)
+}
+
+/// From the bytes of a PNG file to the bytes of the input: the file that `write_image` of `qr_images` writes for a symbol,
+/// read by the rules of PNG, is a picture, and reading the square in this picture yields the bytes of the input, the
+/// interpretation, the segments of fewest bits, and the structured append header, if the symbol has one.
+pub fn images_are_read(version: Version)
+    ensures { ImagesAreRead version }
+{
+    files_are_read_back();
 }

@@ -35,14 +35,25 @@ pub record HoldsText (text before after : List ℕ) (len : ℕ) : Type 0 where
   pub holds : after ≡ text ++ drop (length text) before
   pub told : len ≡ length text
 
--- The numbers are in range, but `modules` has fewer bytes than the squares have modules [own]
-pub record HasFewModules (modules : List ℕ) (side count drawing margin : ℕ) : Type 0 where
-  pub settings : AreDrawingSettings side count drawing margin
+-- The numbers are in range, which `Settings` states, but `modules` has fewer bytes than `count` squares of `side` rows
+-- have modules [own]
+pub record LacksModules (Settings : Type 0) (modules : List ℕ) (side count : ℕ) : Type 0 where
+  pub settings : Settings
   pub few : length modules < count * (side * side)
+
+-- The numbers are in range, which `Settings` states, and `modules` has enough bytes, but `text`, the buffer for
+-- `written`, is shorter than this text [own]
+pub record LacksTextRoom (Settings : Type 0) (modules : List ℕ) (side count : ℕ) (written text : List ℕ) : Type 0 where
+  pub settings : Settings
+  pub whole : count * (side * side) ≤ length modules
+  pub room : length text < length written
+
+-- The numbers are in range, but `modules` has fewer bytes than the squares have modules [own]
+abbrev pub HasFewModules : (modules : List ℕ) (side count drawing margin : ℕ) → Type 0
+HasFewModules modules side count drawing margin = LacksModules (AreDrawingSettings side count drawing margin) modules side count
 
 -- The numbers are in range and `modules` has enough bytes, but `text`, the buffer for the drawing, is shorter than the
 -- drawing [own]
-pub record HasNoTextRoom (modules : List ℕ) (side count drawing margin : ℕ) (text : List ℕ) : Type 0 where
-  pub settings : AreDrawingSettings side count drawing margin
-  pub whole : count * (side * side) ≤ length modules
-  pub room : length text < length (drawing_of_bytes side count drawing margin modules)
+abbrev pub HasNoTextRoom : (modules : List ℕ) (side count drawing margin : ℕ) (text : List ℕ) → Type 0
+HasNoTextRoom modules side count drawing margin text =
+    LacksTextRoom (AreDrawingSettings side count drawing margin) modules side count (drawing_of_bytes side count drawing margin modules) text

@@ -8,4 +8,6 @@ pub mod Interpretation
 pub mod Reading
 pub mod Mending
 pub mod Drawing
+pub mod Document
+pub mod Image
 pub mod Parsing

@@ -47,7 +47,12 @@ fn drawing_settings_of(side: u32, count: u32, drawing: u32, margin: u32) -> Opti
     })
 }
 
-fn squares_of(alloc: Global, modules: &[u8], side: u8, count: u8) -> Result<Vec<Matrix>, AllocError>
+pub(crate) fn squares_of(
+    alloc: Global,
+    modules: &[u8],
+    side: u8,
+    count: u8,
+) -> Result<Vec<Matrix>, AllocError>
     requires least { 1 ≤ side }
     requires most { side ≤ 177 }
     requires room { count * (side * side) ≤ length modules.now }
@@ -64,7 +69,7 @@ fn squares_of(alloc: Global, modules: &[u8], side: u8, count: u8) -> Result<Vec<
 
 // Returns a writer that accepts as many bytes as a `Vec` can have. It has the same type as in `parse_drawing`, so that
 // the library contains the code of `draw` only once.
-fn without_bound(alloc: Global) -> Bounded
+pub(crate) fn without_bound(alloc: Global) -> Bounded
     ensures empty { result.bytes.items ≡ [] }
     ensures most { result.most ≡ 18446744073709551615 }
 {

@@ -10,9 +10,11 @@ ghost use Rattle.qr_bits.specs.declared.interpretation.Item.{Item};
 ghost use Rattle.qr_bits.specs.Interpretation.{MayAllowKanji};
 ghost use Rattle.qr_bits.specs.declared.modes.Mode.{Mode};
 ghost use Rattle.qrproved.specs.Modules.{byte_of};
+ghost use Rattle.qrproved.specs.Document.{AreDocumentSettings, format_of};
 ghost use Rattle.qrproved.specs.Drawing.{drawing_of, AreDrawingSettings};
 ghost use Rattle.qrproved.specs.Mending.{spent_in, square_of_unknown, wrong_in};
 ghost use Rattle.qr_matrix.specs.Grid.{colour};
+ghost use Rattle.qr_drawing.specs.declared.document.Document.{Document};
 ghost use Rattle.qr_drawing.specs.declared.drawing.Drawing.{Drawing};
 ghost use Rattle.qrproved.specs.Interpretation.{TellsFnc1, TellsKanji};
 ghost use Rattle.qrproved.specs.Room.{mode_of};
@@ -78,4 +80,14 @@ pub fn numbers()
         → (side ≤ 177) × (count ≤ 16) × (drawing ≤ 3) × (margin ≤ 100) }
     ensures unknown { colour (square_of_unknown 2 (0 ∷ 2 ∷ 0 ∷ 0 ∷ [])) 0 1 ≡ true }
     ensures known { colour (square_of_unknown 2 (0 ∷ 2 ∷ 1 ∷ 3 ∷ [])) 1 1 ≡ false }
+{}
+
+/// As a format of documents, 0 to 2 are SVG with a size, EPS and PDF. A document is made of 1 to 16 squares of 1 to 177
+/// rows, with a margin of 0 to 100 modules, and a module is 1 micrometre to 1 metre wide.
+pub fn numbers_of_documents()
+    ensures formats { map format_of (0 ∷ 1 ∷ 2 ∷ []) ≡ Document.Svg ∷ Document.Eps ∷ Document.Pdf ∷ [] }
+    ensures most { AreDocumentSettings 177 16 2 100 1000000 }
+    ensures least { AreDocumentSettings 1 1 0 0 1 }
+    ensures range { (side count format margin micrometres : ℕ) → AreDocumentSettings side count format margin micrometres
+        → (side ≤ 177) × (count ≤ 16) × (format ≤ 2) × (margin ≤ 100) × (micrometres ≤ 1000000) }
 {}

@@ -1,13 +1,13 @@
 //! A library for C, and for each language that can call C functions. In the comments of this crate a call is one of the
 //! library's functions, which `include/qrproved.h` declares. The calls encode an input as a symbol or a series, read
-//! symbols, mend damaged ones, draw squares of modules, parse drawings, and say how much fits a symbol. A call writes
-//! modules, bytes, ECI headers and texts to buffers of the caller, and numbers to a struct or a variable of the caller.
-//! It keeps no memory, so there is nothing to free.
+//! symbols, mend damaged ones, draw squares of modules, write them as documents for print or as images, parse
+//! drawings, and say how much fits a symbol. A call writes modules, bytes, ECI headers, texts and files to buffers of the
+//! caller, and numbers to a struct or a variable of the caller. It keeps no memory, so there is nothing to free.
 //!
 //! The contracts of the calls hold if the caller fulfils the conditions under 'What the caller owes' in
 //! `docs/LIBRARY.md`. If a buffer is longer than the result, the bytes after the result stay as they are. On each
 //! status but 0 the buffers, structs and variables of the caller are unchanged. There is one exception: if a buffer is
-//! too short, `qrproved_draw` still sets `written`.
+//! too short, `qrproved_draw` and `qrproved_image` still set `written`.
 //!
 //! If a call cannot do what it is asked for, it returns the status of the first cause that applies, in the order in
 //! which its comment lists the causes. If memory is refused, it returns `MEMORY`. The comment also names the causes
@@ -16,8 +16,10 @@
 //! The files of `src`:
 //!
 //! - `checks`: the macros `check!` and `check_eq!` for tests
+//! - `document`: the call that writes documents for print
 //! - `drawing`: the call that draws squares of modules
 //! - `encoding`: the call that encodes an input as one symbol
+//! - `image`: the call that writes the image of a square as a file
 //! - `interpretation`: ECI headers and FNC1, as numbers for C
 //! - `laws`: laws about the calls and their numbers
 //! - `mending`: the call that reads a damaged symbol and measures its damage
@@ -34,8 +36,10 @@
 
 #[cfg(test)]
 mod checks;
+mod document;
 mod drawing;
 mod encoding;
+mod image;
 mod interpretation;
 pub mod laws;
 mod mending;
@@ -50,8 +54,10 @@ mod settings;
 mod status;
 mod version;
 
+pub use document::qrproved_document;
 pub use drawing::qrproved_draw;
 pub use encoding::{QrprovedSymbol, qrproved_encode};
+pub use image::qrproved_image;
 pub use interpretation::QrprovedEci;
 pub use mending::{QrprovedMended, qrproved_mend};
 pub use parsing::{QrprovedDrawn, qrproved_parse_drawing};

@@ -8,6 +8,7 @@
 //!
 //! - `checking`: the jobs that read and mend symbols
 //! - `digest`: a number that depends on all results of a job
+//! - `images`: the job of programs that write images
 //! - `library`: the job of programs that call the library
 //! - `printing`: the jobs of the command
 //! - `random`: numbers that depend only on a seed
@@ -16,6 +17,7 @@
 
 mod checking;
 mod digest;
+mod images;
 mod library;
 mod printing;
 mod random;
@@ -26,7 +28,7 @@ use std::alloc::{AllocError, Global};
 use std::env;
 use std::process::ExitCode;
 
-static NAMES: [&str; 7] = [
+static NAMES: [&str; 8] = [
     "labels",
     "large",
     "series",
@@ -34,6 +36,7 @@ static NAMES: [&str; 7] = [
     "proofread",
     "mend",
     "library",
+    "images",
 ];
 
 // Does a job. Returns `None` if no job has this name.
@@ -52,6 +55,7 @@ fn job(
         "proofread" => Some(checking::proofread(alloc, count, seed, digest)),
         "mend" => Some(checking::mend(alloc, count, seed, digest)),
         "library" => Some(library::library(alloc, count, seed, digest)),
+        "images" => Some(images::images(alloc, count, seed, digest)),
         _ => None,
     }
 }

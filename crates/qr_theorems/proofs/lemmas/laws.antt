@@ -5,3 +5,4 @@ pub mod DamageLemmas
 pub mod ModuleLemmas
 pub mod FewModuleLemmas
 pub mod SeriesLemmas
+pub mod ImageLemmas

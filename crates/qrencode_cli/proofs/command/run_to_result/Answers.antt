@@ -66,7 +66,7 @@ returns-then-is_err g c =
     inl (
       c.match-settings.job,
       prepared g (goal.at.returns-then-is_err g c).Joined-settings,
-      rw (← c.deref.ensures.value) (draws-unflushed _ _ _ _ c.flush.result d.ok d.fault d.taken d.within d.offered d.flushes
+      rw (← c.deref.ensures.value) (draws-unflushed _ _ _ _ c.flush.result d.ok d.fault d.taken d.within d.offered d.flushes d.buffer d.rest
           c.flush.ensures.bytes c.flush.ensures.counted c.if-is_err.ensures.negation),
     )
 
@@ -76,6 +76,6 @@ returns g c =
     inl (
       c.match-settings.job,
       prepared g (goal.at.returns g c).Joined-settings,
-      rw (← c.deref.ensures.value) (draws-whole _ _ _ _ c.flush.result d.ok d.fault d.taken d.within d.offered d.flushes
+      rw (← c.deref.ensures.value) (draws-whole _ _ _ _ c.flush.result d.ok d.fault d.taken d.within d.offered d.flushes d.buffer d.rest
           c.flush.ensures.bytes c.flush.ensures.counted c.if-is_err.ensures.negation),
     )

@@ -4,7 +4,7 @@ use Rattle.qr_devices.specs.Device.{AppendsBeginning, IsWrittenWithin, Reader, W
 use Rattle.{qr_devices.specs.declared.{device.Trouble.Trouble, pen.{DrawFault.DrawFault, TheConstants.WRITE_MAX}}}
 use Rattle.qrencode_cli.{proofs.lemmas.command.AskingLemmas.same-fault, specs.Command.{DrawnWhole, ErrorHolds, HasDrawing, IsFault, OutputHolds, Runs}}
 use Rattle.qrencode_cli.specs.{Fault.fault_line, Steps.Command.{Attempts, Draws, IsEarly, drawing_of_job}, declared.fault.Fault.Fault}
-use Rattle.std.proofs.Common.{◌≤◌, arith, ◌≡◌, ℕ, List, [], Option, Result, Ok, Err, OnOk, OnErr, IfErr, MatchResult, if◌then◌else◌, inl, is_err, is_ok, max, true, false, inr, refl, append-nil, length}
+use Rattle.std.proofs.Common.{◌≤◌, arith, ◌≡◌, ℕ, List, [], drop, Option, Result, Ok, Err, OnOk, OnErr, IfErr, MatchResult, if◌then◌else◌, inl, is_err, is_ok, max, true, false, inr, refl, append-nil, length}
 use Rattle.std.{proofs.{KnownBytes.Appends-kept, lemmas.Bool.false≢true}, specs.Io.KnownBytes.{Appends, Keeps}}
 use Rattle.qrencode_cli.specs.declared.fault.Fault.TheVariants as fault
 
@@ -18,7 +18,7 @@ draws-part old new drawing part well most within offered flushes = search arith
 module _ (old mid new : Writer) (drawing : List ℕ) (f : Result (Unit {0}) Trouble) (all : Appends old.taken mid.taken drawing)
     (well : old.counts ≡ no_writes → is_write_fault mid.counts ≡ false) (many : old.counts ≡ no_writes → mid.counts.taken ≡ counted (length drawing))
     (within : old.counts ≡ no_writes → IsWrittenWithin mid.counts) (offered : mid.counts.offered ≤ max old.counts.offered WRITE_MAX)
-    (flushes : mid.counts.flushes ≡ old.counts.flushes) (keeps : Keeps mid.taken new.taken) (e : new.counts ≡ flush_counted f mid.counts) where
+    (flushes : mid.counts.flushes ≡ old.counts.flushes) (buffer : mid.buffer ≡ old.buffer) (left : mid.rest ≡ drop (length drawing) old.rest) (keeps : Keeps mid.taken new.taken) (e : new.counts ≡ flush_counted f mid.counts) where
   -- the writer received the whole drawing, and `f` says whether the flush succeeded
   drawn-whole : DrawnWhole (is_ok f) old new drawing
   drawn-whole = search (arith, Appends-kept)

@@ -1,0 +1,182 @@
+//! The call that writes the image of a square of modules as a file.
+
+ghost use Rattle.std.specs.Prelude.{◌≡◌, ◌≢◌, ◌*◌, ◌<◌, ◌≤◌, ◌^◌, ◌↔◌, ◌⊎◌, length, SomeIff};
+ghost use Rattle.qrproved.specs.Drawing.{HoldsText};
+ghost use Rattle.qrproved.specs.Image.{AreImageSettings, AreSettings, HasFewImageModules, HasNoImageRoom, format_of, image_of_bytes, settings_of};
+
+use crate::modules::area;
+use crate::settings::between;
+use crate::status::{DONE, ROOM, SETTINGS};
+use qr_images::{Format, ImageSettings, Modules, fill_image, image_len, image_room};
+
+fn format_of(number: u32) -> Option<Format>
+    ensures { SomeIff result (number < 5) (format_of number) }
+{
+    match number {
+        0 => Some(Format::Png),
+        1 => Some(Format::Pbm),
+        2 => Some(Format::EscPos),
+        3 => Some(Format::Tspl),
+        4 => Some(Format::Zpl),
+        _ => None,
+    }
+}
+
+fn image_settings_of(
+    format: u32,
+    scale: u32,
+    margin: u32,
+    pixels_a_metre: u32,
+    left: u32,
+    top: u32,
+) -> Option<ImageSettings>
+    ensures { SomeIff result (AreSettings format scale margin pixels_a_metre left top)
+        (settings_of format scale margin pixels_a_metre left top) }
+{
+    if pixels_a_metre >= 0x8000_0000 || left > 32000 || top > 32000 {
+        return None;
+    }
+    Some(ImageSettings {
+        format: format_of(format)?,
+        scale: between(scale, 1, 100)?,
+        margin: between(margin, 0, 100)?,
+        pixels_a_metre,
+        left: left as u16,
+        top: top as u16,
+    })
+}
+
+/// Writes the image of a square of modules to `image`, as a file (ISO/IEC 18004:2015, 6.3.8). The square has `side`
+/// rows, and need not be a symbol. `modules` begins with its modules, row by row. A module is light if it is 0, and
+/// otherwise dark. `format` is 0 to 4 for PNG, PBM, ESC/POS, TSPL and ZPL. Each module is `scale` pixels wide and high, and around the
+/// square is a light margin of `margin` modules. `pixels_a_metre` is how many pixels of the printed image a metre has,
+/// or 0 if the file is not to say it. `left` and `top` are how far the image is from the edges of a label, in dots.
+/// Formats that cannot say one of these leave it out.
+///
+/// On status 0 `image` begins with the file, and `written` is its length in bytes.
+///
+/// # Errors
+///
+/// The first of these that applies: `SETTINGS` (`side` is not 1 to 177, `format` more than 4, `scale` not 1 to 100,
+/// `margin` more than 100, `pixels_a_metre` not below 2^31, or `left` or `top` more than 32,000), `ROOM` with `written` 0 (`modules` is too short), and
+/// `ROOM` with the file's length in `written` (`image` is too short). No memory is requested.
+#[unsafe(no_mangle)]
+pub extern "C" fn qrproved_image(
+    modules: &[u8],
+    side: u32,
+    format: u32,
+    scale: u32,
+    margin: u32,
+    pixels_a_metre: u32,
+    left: u32,
+    top: u32,
+    image: &mut [u8],
+    written: &mut usize,
+) -> u8
+    ensures done { result ≡ DONE → (AreImageSettings side format scale margin pixels_a_metre left top)
+        × (side * side ≤ length modules.now)
+        × HoldsText (image_of_bytes side format scale margin pixels_a_metre left top modules.now) image.old image.new written.new }
+    ensures unchanged { result ≢ DONE → image.new ≡ image.old }
+    ensures settings { (result ≡ SETTINGS) ↔ (AreImageSettings side format scale margin pixels_a_metre left top → ⊥) }
+    ensures room { (result ≡ ROOM) ↔ ((HasFewImageModules modules.now side format scale margin pixels_a_metre left top)
+        ⊎ HasNoImageRoom modules.now side format scale margin pixels_a_metre left top image.old) }
+    ensures few { HasFewImageModules modules.now side format scale margin pixels_a_metre left top → written.new ≡ 0 }
+    ensures needed { HasNoImageRoom modules.now side format scale margin pixels_a_metre left top image.old
+        → written.new ≡ length (image_of_bytes side format scale margin pixels_a_metre left top modules.now) }
+    ensures written { result ≡ SETTINGS → written.new ≡ written.old }
+    ensures status { (result ≡ DONE) ⊎ (result ≡ SETTINGS) ⊎ (result ≡ ROOM) }
+{
+    let Some(side) = between(side, 1, 177) else {
+        return SETTINGS;
+    };
+    let Some(settings) = image_settings_of(format, scale, margin, pixels_a_metre, left, top) else {
+        return SETTINGS;
+    };
+    if modules.len() < area(side) {
+        *written = 0;
+        return ROOM;
+    }
+    let square = Modules::new(modules, side);
+    // The bytes of the file are counted only if it may have no room.
+    if (image.len() as u64) < image_room(&square, &settings) {
+        let len = image_len(&square, &settings);
+        *written = len as usize;
+        if (image.len() as u64) < len {
+            return ROOM;
+        }
+    }
+    *written = fill_image(&square, &settings, image);
+    DONE
+}
+
+#[cfg(test)]
+mod tests {
+    use super::*;
+    use crate::checks::{check, check_eq};
+    use std::test::Fail;
+
+    // A square of two rows.
+    static SQUARE: [u8; 4] = [1, 0, 0, 200];
+
+    // Two lines of six pixels: three for each module.
+    static BITMAP: [u8; 13] = *b"P4\n6 6\n\xE0\xE0\xE0\x1C\x1C\x1C";
+
+    #[test]
+    fn a_bitmap(rt: HostRuntime) -> Result<(), Fail> {
+        let mut image = [7u8; 15];
+        let mut written = 9;
+        let status = qrproved_image(&SQUARE, 2, 1, 3, 0, 0, 0, 0, &mut image, &mut written);
+        check_eq!(rt; (status, written), (DONE, 13));
+        check!(rt; image.starts_with(&BITMAP));
+        check!(rt; image.ends_with(&[7, 7]));
+        Ok(())
+    }
+
+    #[test]
+    fn refused_images(rt: HostRuntime) -> Result<(), Fail> {
+        let rows = [
+            (
+                "side 0",
+                (0u32, 1u32, 3u32, 0u32, 0u32),
+                13usize,
+                SETTINGS,
+                9usize,
+            ),
+            ("side 178", (178, 1, 3, 0, 0), 13, SETTINGS, 9),
+            ("format 5", (2, 5, 3, 0, 0), 13, SETTINGS, 9),
+            ("scale 0", (2, 1, 0, 0, 0), 13, SETTINGS, 9),
+            ("scale 101", (2, 1, 101, 0, 0), 13, SETTINGS, 9),
+            ("margin 101", (2, 1, 3, 101, 0), 13, SETTINGS, 9),
+            (
+                "2^31 pixels a metre",
+                (2, 1, 3, 0, 1 << 31),
+                13,
+                SETTINGS,
+                9,
+            ),
+            ("three rows", (3, 1, 3, 0, 0), 13, ROOM, 0),
+            ("one byte too few", (2, 1, 3, 0, 0), 12, ROOM, 13),
+        ];
+        for (name, (side, format, scale, margin, pixels), room, wanted, told) in rows {
+            let mut image = [7u8; 13];
+            let mut written = 9;
+            check!(rt; room <= image.len());
+            let status = qrproved_image(
+                &SQUARE,
+                side,
+                format,
+                scale,
+                margin,
+                pixels,
+                0,
+                0,
+                &mut image[..room],
+                &mut written,
+            );
+            check_eq!(rt; status, wanted, "{name}");
+            check_eq!(rt; written, told, "{name}");
+            check!(rt; image.iter().all(|byte| *byte == 7), "{name}");
+        }
+        Ok(())
+    }
+}
