@@ -11,8 +11,10 @@
 ## make uninstall      removes what make install installed, by the same PREFIX and NAME
 ## make uninstall-lib  removes what make install-lib installed
 ## make wheel          the package for Python, in python/out
+## make wheels         the packages for Python for all systems, and their sources, in python/out
 ## make wasm           the library as WebAssembly, in out/wasm (needs binaryen)
 ## make c              the library as one C file for other machines, in out/c
+## make everywhere     the library for Windows, musl and macOS, and the program for Windows, in out/everywhere
 ## make crate          the crate for Rust with this C file inside, in out/crate
 ## make npm            the package for JavaScript, in out/npm
 ## make page           the web page, in out/web
@@ -64,7 +66,7 @@ MANUAL = $(DESTDIR)$(MANDIR)/man1/$(NAME).1
 LIBRARY = crates/qrproved
 LIBRARY_FLAGS = --cpu $(CPU)
 LIBRARY_OUT = $(if $(CROSS),$(OUT)/lib,$(LIBRARY)/out/lib)
-SONAME = libqrproved.so.0
+SONAME = libqrproved.so.1
 LIBRARIES = $(DESTDIR)$(LIBDIR)
 INCLUDES = $(DESTDIR)$(INCLUDEDIR)
 PYTHON = python3
@@ -82,14 +84,15 @@ GLUE = $(if $(CROSS),$(wildcard ports/*.c),$(KIT_C)/libos_c.a $(KIT_C)/liblibc_c
 
 # Not empty if the first file is missing or older than the sources of the second, a crate, or than one of the files after these.
 is_old = $(shell top=. && . tools/current && is_current '$(1)' $(2) || echo old)$(if $(3),$(shell find $(3) -newer '$(1)' 2>&1))
-library_is_old = $(shell test "$$(cat '$(1)/flags' 2>/dev/null)" = '$(2)' || echo flags)$(call is_old,$(1)/flags,qrproved,$(PORTS))
+library_is_old = $(shell test -e '$(1)/$(SONAME)' && test "$$(cat '$(1)/flags' 2>/dev/null)" = '$(2)' || echo flags)$(call is_old,$(1)/flags,qrproved,$(PORTS))
 PORTS = $(if $(CROSS),$(wildcard ports/*.c))
 
 # What is old of that which the goals want.
+OF_MODULE = module wasm c everywhere wheels sdist crate npm page
 wants = $(filter $(1),$(or $(MAKECMDGOALS),all))
-OLD_PROGRAM := $(if $(call wants,all static install bench),$(call is_old,$(PROGRAM),qrencode,$(PORTS)))
-OLD_LIBRARY := $(if $(call wants,lib prove-lib module wasm c crate npm page bench),$(call library_is_old,$(LIBRARY_OUT),$(LIBRARY_FLAGS)))
-OLD_HWCAPS := $(if $(HWCAPS),$(if $(call wants,lib module wasm c crate npm page bench),$(call library_is_old,$(HWCAPS_OUT),--cpu $(HWCAPS))))
+OLD_PROGRAM := $(if $(call wants,all static install everywhere wheels bench),$(call is_old,$(PROGRAM),qrencode,$(PORTS)))
+OLD_LIBRARY := $(if $(call wants,lib prove-lib $(OF_MODULE) bench),$(call library_is_old,$(LIBRARY_OUT),$(LIBRARY_FLAGS)))
+OLD_HWCAPS := $(if $(HWCAPS),$(if $(call wants,lib $(OF_MODULE) bench),$(call library_is_old,$(HWCAPS_OUT),--cpu $(HWCAPS))))
 
 all: $(if $(OLD_PROGRAM),$(if $(CROSS),cross,prove))
 
@@ -232,13 +235,13 @@ endif
 wheel:
 	$(PYTHON) python/backend.py "$(LIBRARY_OUT)/$(SONAME)" "$(WHEELS)"
 
-# The library's LLVM code, of which WebAssembly and C are made.
+# The library's LLVM code, of which WebAssembly, C and the libraries for other systems are made.
 MODULE = out/module/qrproved.ll
 module_is_old = $(call is_old,$(MODULE),qrproved,ports/module)
 module: $(if $(module_is_old),build-module)
 
 build-module: lib
-	ports/module $(MODULE)
+	ports/module qrproved $(MODULE)
 
 # The library as WebAssembly, the package for JavaScript with it inside, and the page with both inside.
 WASM = out/wasm/qrproved.wasm
@@ -253,6 +256,25 @@ c: $(if $(module_is_old)$(shell find $(MODULE) ports/c include/qrproved.h -newer
 
 build-c: module
 	ports/c/build $(MODULE) out/c
+
+# The library for other systems of 64 bits, and for Windows the program, of the program's LLVM code.
+EVERYWHERE = out/everywhere
+PROGRAM_MODULE = out/module/qrencode.ll
+program_module_is_old = $(call is_old,$(PROGRAM_MODULE),qrencode,ports/module)
+everywhere: $(if $(module_is_old)$(program_module_is_old)$(shell find $(MODULE) $(PROGRAM_MODULE) ports/everywhere -newer $(EVERYWHERE)/made 2>&1),build-everywhere)
+
+build-everywhere: module $(if $(program_module_is_old),build-program-module)
+	ports/everywhere/build $(MODULE) $(PROGRAM_MODULE) $(EVERYWHERE)
+
+build-program-module: all
+	ports/module qrencode $(PROGRAM_MODULE)
+
+# The packages for Python for all systems, and the source distribution, which pip compiles where none of them fits.
+wheels: everywhere sdist
+	set -e; for library in $(EVERYWHERE)/*/libqrproved.* $(EVERYWHERE)/*/qrproved.dll; do $(PYTHON) python/backend.py $$library "$(WHEELS)"; done
+
+sdist: c
+	$(PYTHON) python/backend.py --sources $(C_FILE) "$(WHEELS)"
 
 # The crate for Cargo with the C file inside.
 CRATE = out/crate/qrproved
@@ -273,5 +295,5 @@ bench: all lib
 	bench/library
 	bench/memory
 
-.PHONY: all bench build-c build-module build-wasm c check check-each clean crate cross help install install-lib lib module npm page print-pc \
-    prove-lib static test uninstall uninstall-lib wasm wheel
+.PHONY: all bench build-c build-everywhere build-module build-program-module build-wasm c check check-each clean crate cross everywhere help \
+    install install-lib lib module npm page print-pc prove-lib sdist static test uninstall uninstall-lib wasm wheel wheels

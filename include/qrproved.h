@@ -1,12 +1,12 @@
 /* QR Code symbols (ISO/IEC 18004:2015, QR Code Model 2): calls that encode an input as a symbol or as a series of symbols,
- * draw symbols as text or as SVG, parse such drawings, read symbols, mend damaged ones, and say how much fits a symbol. The
- * calls are proved to meet their contracts, which are in crates/qrproved; docs/LIBRARY.md says what the contracts mean for a
- * caller. tests/library compares this file with the exports of the library.
+ * draw symbols as text or as SVG, write their images as files, parse drawings, read symbols, mend damaged ones, and say how
+ * much fits a symbol. The calls are proved to meet their contracts, which are in crates/qrproved; docs/LIBRARY.md says what
+ * the contracts mean for a caller. tests/library compares this file with the exports of the library.
  *
  * A module is a byte in a buffer of the caller, in which the modules are row by row, from the top left. The buffer does not
- * contain the quiet zone, which is the four light modules that a drawing needs on each side; qrproved_draw adds a margin,
- * whose width the caller passes. After a call the library keeps no state, no file and no lock. A call allocates memory by
- * malloc and realloc, and frees all of it before it returns.
+ * contain the quiet zone, which is the four light modules that a drawing needs on each side; qrproved_draw and
+ * qrproved_image add a margin, whose width the caller passes. After a call the library keeps no state, no file and no lock. A
+ * call allocates memory by malloc and realloc, and frees all of it before it returns; qrproved_image allocates none.
  *
  * At each call the caller has to meet these conditions:
  * - each pointer with a length beside it points to as many bytes as the length says, or for `ecis` to as many structs; each
@@ -40,7 +40,9 @@ extern "C" {
 #define QRPROVED_BYTES_MAX 7089    /* bytes that suffice for the content of any symbol: so many digits fit version 40, level L */
 #define QRPROVED_ECIS_MAX 1970     /* structs that suffice for the ECI headers of any symbol: version 40, level L has 23,648
                                     * bits of data, and each header takes at least 12 of them */
-#define QRPROVED_MARGIN_MAX 100    /* the widest light margin on each side of a drawing, in modules */
+#define QRPROVED_MARGIN_MAX 100    /* the widest light margin on each side of a drawing or an image, in modules */
+#define QRPROVED_SCALE_MAX 100     /* the most pixels of a module on each side of an image */
+#define QRPROVED_PLACE_MAX 32000   /* how far an image may be from an edge of a label, in dots of the printer */
 #define QRPROVED_WRONG_FORMAT_MAX 3 /* wrong modules of a copy of the format information that a scanner can correct */
 
 /* The levels of error correction, by which about 7, 15, 25 or 30 % of a symbol's codewords can be restored. */
@@ -81,10 +83,22 @@ extern "C" {
 #define QRPROVED_UTF8 2   /* text: a character shows two modules, one above the other; its filled half is light */
 #define QRPROVED_SVG 3    /* a whole SVG document, in which a module is one unit wide */
 
+/* The formats of images. */
+#define QRPROVED_PNG 0    /* Portable Network Graphics (ISO/IEC 15948), in grey with one bit a pixel */
+#define QRPROVED_PBM 1    /* a raw bitmap of netpbm, P4 */
+#define QRPROVED_ESCPOS 2 /* the command GS v 0 of ESC/POS, for receipt printers, in bands of at most 255 lines */
+#define QRPROVED_TSPL 3   /* the command BITMAP of TSPL, for label printers; it goes between the commands CLS and PRINT */
+#define QRPROVED_ZPL 4    /* a label in ZPL, for label printers, with the square as an image */
+
+/* The formats of documents for print, which qrproved_document writes. Each document says how large it is on paper. */
+#define QRPROVED_SVG_MM 0 /* the SVG document of qrproved_draw, with its width and height in millimetres */
+#define QRPROVED_EPS 1    /* Encapsulated PostScript */
+#define QRPROVED_PDF 2    /* PDF 1.4, with a page for each square */
+
 /* The statuses, of which each call except qrproved_version returns one. The comment at each call has the exact causes of its
  * statuses, in the order in which the call checks them. On every status but 0 the caller's buffers and struct are unchanged;
- * but on ROOM qrproved_draw sets the number `written`. Later versions may add statuses, and do not change the meaning of
- * these. */
+ * but on ROOM qrproved_draw, qrproved_document and qrproved_image set the number `written`. Later versions may add statuses, and
+ * do not change the meaning of these. */
 #define QRPROVED_DONE 0     /* the result is written */
 #define QRPROVED_EMPTY 1    /* the input has no byte */
 #define QRPROVED_TOO_LONG 2 /* the input fits no version from the smallest allowed version on */
@@ -422,6 +436,57 @@ QRPROVED_CALL(9)
 uint8_t qrproved_draw(const uint8_t *modules, size_t modules_len, uint32_t side, uint32_t count, uint32_t drawing,
                       uint32_t margin, uint8_t *text, size_t text_len, size_t *written);
 
+/* Writes the image of a square of modules as a file. Each module is a square of `scale` by `scale` pixels, and around the square
+ * is a light margin. The buffer `modules` contains the modules, in the order in which qrproved_encode writes them. Any byte but 0
+ * is a dark module, and bytes after the last module are ignored. A square need not be a symbol. The call leaves the rest of the
+ * buffer `image` unchanged. It allocates no memory.
+ *
+ * side    number of modules on a side, from 1 to 177
+ * format  QRPROVED_PNG to QRPROVED_ZPL
+ * scale   pixels of a module on each side, from 1 to QRPROVED_SCALE_MAX
+ * margin  number of light modules on each side of the square, from 0 to QRPROVED_MARGIN_MAX; a scanner needs 4
+ * pixels_a_metre  how many pixels of the printed image a metre has, below 2^31, or 0 if the file is not to say it: 11,811 for
+ *         300 pixels an inch. Only PNG can say it
+ * left, top  how far the image is from the left and the upper edge of a label, in dots of the printer, from 0 to
+ *         QRPROVED_PLACE_MAX. Only TSPL and ZPL can say it
+ * image   the buffer for the file; it may be NULL if image_len is 0, to ask only for the length of the file
+ * written  on DONE, and on ROOM because of image_len, the call sets it to the length of the file; on ROOM because of modules_len
+ *         it sets it to 0; on SETTINGS it is unchanged
+ *
+ * Returns the first of these statuses whose cause applies:
+ *   SETTINGS  side, format, scale, margin, pixels_a_metre, left or top is out of its range
+ *   ROOM      modules_len is less than side times side
+ *   ROOM      image_len is less than the length of the file
+ *   DONE      the call succeeded
+ */
+QRPROVED_CALL(12)
+uint8_t qrproved_image(const uint8_t *modules, size_t modules_len, uint32_t side, uint32_t format, uint32_t scale, uint32_t margin,
+                       uint32_t pixels_a_metre, uint32_t left, uint32_t top, uint8_t *image, size_t image_len, size_t *written);
+
+/* Writes squares of modules as a document for print, which says how large it is on paper. The squares all have the same side. An
+ * SVG or EPS document has them one below the other, and a PDF document has a page for each. The buffers are as in qrproved_draw.
+ *
+ * side         number of modules on a side, from 1 to 177
+ * count        number of squares, from 1 to QRPROVED_COUNT_MAX
+ * format       QRPROVED_SVG_MM, QRPROVED_EPS or QRPROVED_PDF
+ * margin       number of light modules on each side of each square, from 0 to QRPROVED_MARGIN_MAX; a scanner needs 4
+ * micrometres  width of a module in micrometres, from 1 to 1,000,000
+ * text         the buffer for the document; it may be NULL if text_len is 0, to ask only for the length of the document
+ * written      on DONE, and on ROOM because of text_len, the call sets it to the length of the document; on ROOM because of
+ *              modules_len it sets it to 0; on every other status it is unchanged
+ *
+ * Returns the first of these statuses whose cause applies:
+ *   SETTINGS  side, count, format, margin or micrometres is out of its range
+ *   ROOM      modules_len is less than count times side times side
+ *   ROOM      text_len is less than the length of the document
+ *   DONE      the call succeeded
+ * If memory is refused, the call returns MEMORY in place of any status after the first ROOM. The call makes the document in
+ * memory that it allocates, and copies it to the buffer `text` when it is complete.
+ */
+QRPROVED_CALL(10)
+uint8_t qrproved_document(const uint8_t *modules, size_t modules_len, uint32_t side, uint32_t count, uint32_t format,
+                          uint32_t margin, uint32_t micrometres, uint8_t *text, size_t text_len, size_t *written);
+
 /* Parses a drawing, and writes the modules of its squares: modules[(k * side + row) * side + column] is the module of square
  * k in this row and column, where the first square has the number 0. In this order qrproved_read and qrproved_mend take the
  * modules of one square, and qrproved_draw those of all squares. Bytes of the buffer after the last module are unchanged.
@@ -489,6 +554,7 @@ uint8_t qrproved_room(uint32_t version, uint32_t level, uint32_t mode, uint32_t 
 #define QRPROVED_MEND_MEMORY(version) (QRPROVED_READ_MEMORY(version) + 2500 + 700 * (size_t)(version))
 #define QRPROVED_DRAW_MEMORY(drawing, side, count, margin) \
 	(3000 + (size_t)(count) * ((drawing) == QRPROVED_SVG ? 18 * (size_t)(side) * (side) : 5 * QRPROVED_AREA(side, margin)))
+#define QRPROVED_DOCUMENT_MEMORY(side, count) (5000 + (size_t)(count) * (1500 + 18 * (size_t)(side) * (side)))
 #define QRPROVED_PARSE_DRAWING_MEMORY(side, count, margin) \
 	(4500 + (size_t)(count) * (16 * (size_t)(side) * (side) + 4 * QRPROVED_AREA(side, margin)))
 #define QRPROVED_AREA(side, margin) (((size_t)(side) + 2 * (size_t)(margin)) * ((size_t)(side) + 2 * (size_t)(margin)))
@@ -511,6 +577,10 @@ uint8_t qrproved_mend_in(void *memory, size_t memory_len, const uint8_t *modules
 QRPROVED_CALL(11)
 uint8_t qrproved_draw_in(void *memory, size_t memory_len, const uint8_t *modules, size_t modules_len, uint32_t side,
                          uint32_t count, uint32_t drawing, uint32_t margin, uint8_t *text, size_t text_len, size_t *written);
+QRPROVED_CALL(12)
+uint8_t qrproved_document_in(void *memory, size_t memory_len, const uint8_t *modules, size_t modules_len, uint32_t side,
+                             uint32_t count, uint32_t format, uint32_t margin, uint32_t micrometres, uint8_t *text,
+                             size_t text_len, size_t *written);
 QRPROVED_CALL(7)
 uint8_t qrproved_parse_drawing_in(void *memory, size_t memory_len, const uint8_t *text, size_t text_len, uint8_t *modules,
                                   size_t modules_len, struct qrproved_drawn *drawn);

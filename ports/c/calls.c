@@ -131,7 +131,7 @@ static uint8_t mend_by(struct heap *heap, const uint8_t *modules, size_t modules
 	return status;
 }
 
-/* The length of a drawing is written as a number of 64 bits, and only with these two statuses. */
+/* The length of a drawing or document is written as a number of 64 bits, and only with these two statuses. */
 static uint8_t draw_by(struct heap *heap, const uint8_t *modules, size_t modules_len, uint32_t side, uint32_t count, uint32_t drawing,
                        uint32_t margin, uint8_t *text, size_t text_len, size_t *written)
 {
@@ -142,7 +142,29 @@ static uint8_t draw_by(struct heap *heap, const uint8_t *modules, size_t modules
 	return status;
 }
 
+static uint8_t document_by(struct heap *heap, const uint8_t *modules, size_t modules_len, uint32_t side, uint32_t count, uint32_t format,
+                           uint32_t margin, uint32_t micrometres, uint8_t *text, size_t text_len, size_t *written)
+{
+	union slot len = {{0}};
+	uint8_t status = m_qrproved_document(heap, BYTES(modules), modules_len, side, count, format, margin, micrometres, text, text_len, len.b);
+	if (status == QRPROVED_DONE || status == QRPROVED_ROOM)
+		*written = (size_t)load_64(len.b);
+	return status;
+}
+
 uint32_t qrproved_version(void) { return m_qrproved_version(); }
+
+/* The call takes no memory. */
+uint8_t qrproved_image(const uint8_t *modules, size_t modules_len, uint32_t side, uint32_t format, uint32_t scale, uint32_t margin,
+                       uint32_t pixels_a_metre, uint32_t left, uint32_t top, uint8_t *image, size_t image_len, size_t *written)
+{
+	union slot len = {{0}};
+	uint8_t status = m_qrproved_image(BYTES(modules), modules_len, side, format, scale, margin, pixels_a_metre, left, top, image,
+	                                  image_len, len.b);
+	if (status == QRPROVED_DONE || status == QRPROVED_ROOM)
+		*written = (size_t)load_64(len.b);
+	return status;
+}
 
 uint8_t qrproved_room(uint32_t version, uint32_t level, uint32_t mode, uint32_t interpretation, uint32_t header, uint32_t *count)
 {
@@ -191,6 +213,13 @@ uint8_t qrproved_draw_in(void *memory, size_t memory_len, const uint8_t *modules
 	return draw_by(&heap, modules, modules_len, side, count, drawing, margin, text, text_len, written);
 }
 
+uint8_t qrproved_document_in(void *memory, size_t memory_len, const uint8_t *modules, size_t modules_len, uint32_t side, uint32_t count,
+                             uint32_t format, uint32_t margin, uint32_t micrometres, uint8_t *text, size_t text_len, size_t *written)
+{
+	struct heap heap = heap_of(memory, memory_len);
+	return document_by(&heap, modules, modules_len, side, count, format, margin, micrometres, text, text_len, written);
+}
+
 uint8_t qrproved_parse_drawing_in(void *memory, size_t memory_len, const uint8_t *text, size_t text_len, uint8_t *modules,
                                   size_t modules_len, struct qrproved_drawn *drawn)
 {
@@ -236,6 +265,13 @@ uint8_t qrproved_draw(const uint8_t *modules, size_t modules_len, uint32_t side,
 {
 	struct heap heap = SYSTEM;
 	return draw_by(&heap, modules, modules_len, side, count, drawing, margin, text, text_len, written);
+}
+
+uint8_t qrproved_document(const uint8_t *modules, size_t modules_len, uint32_t side, uint32_t count, uint32_t format, uint32_t margin,
+                          uint32_t micrometres, uint8_t *text, size_t text_len, size_t *written)
+{
+	struct heap heap = SYSTEM;
+	return document_by(&heap, modules, modules_len, side, count, format, margin, micrometres, text, text_len, written);
 }
 
 uint8_t qrproved_parse_drawing(const uint8_t *text, size_t text_len, uint8_t *modules, size_t modules_len, struct qrproved_drawn *drawn)

@@ -12,6 +12,7 @@ pub const SYMBOL_MAX: usize = 31329;
 pub const SERIES_MAX: usize = 501264;
 pub const BYTES_MAX: usize = 7089;
 pub const ECIS_MAX: usize = 1970;
+pub const SCALE_MAX: u8 = 100;
 pub const WRONG_FORMAT_MAX: u8 = 3;
 
 /// Interpretations; a smaller number is that of an ECI.
@@ -156,6 +157,34 @@ extern "C" {
         count: Setting,
         drawing: Setting,
         margin: Setting,
+        text: *mut c_uchar,
+        text_len: usize,
+        written: *mut usize,
+    ) -> u8;
+
+    pub fn qrproved_image(
+        modules: *const c_uchar,
+        modules_len: usize,
+        side: Setting,
+        format: Setting,
+        scale: Setting,
+        margin: Setting,
+        pixels_a_metre: Setting,
+        left: Setting,
+        top: Setting,
+        image: *mut c_uchar,
+        image_len: usize,
+        written: *mut usize,
+    ) -> u8;
+
+    pub fn qrproved_document(
+        modules: *const c_uchar,
+        modules_len: usize,
+        side: Setting,
+        count: Setting,
+        format: Setting,
+        margin: Setting,
+        micrometres: Setting,
         text: *mut c_uchar,
         text_len: usize,
         written: *mut usize,

@@ -234,6 +234,62 @@ impl Drawing {
     ];
 }
 
+/// The format of a document for print, with its number in the header.
+#[derive(Clone, Copy, Debug, PartialEq, Eq, Hash)]
+#[non_exhaustive]
+pub enum Document {
+    /// An SVG document as [`draw`] makes it, with a width and a height in millimetres.
+    Svg = 0,
+    /// Encapsulated PostScript.
+    Eps = 1,
+    /// PDF 1.4, with a page for each symbol.
+    Pdf = 2,
+}
+
+/// The format of an image, with its number in the header.
+#[derive(Clone, Copy, Debug, PartialEq, Eq, Hash)]
+#[non_exhaustive]
+pub enum Format {
+    /// Portable Network Graphics (ISO/IEC 15948), in grey with one bit a pixel.
+    Png = 0,
+    /// A raw bitmap of netpbm (P4).
+    Pbm = 1,
+    /// The command `GS v 0` of ESC/POS, the language of receipt printers.
+    EscPos = 2,
+    /// The command `BITMAP` of TSPL, the language of TSC's and many other label printers. It goes between the commands `SIZE`,
+    /// `CLS` and `PRINT` of a label.
+    Tspl = 3,
+    /// A label in ZPL, the language of Zebra's and most other label printers, with the symbol as an image.
+    Zpl = 4,
+}
+
+/// How an image is written.
+#[derive(Clone, Copy, Debug, PartialEq, Eq, Hash)]
+pub struct ImageOptions {
+    /// The pixels of a module on each side, or the dots of a printer, from 1 to 100: 8.
+    pub scale: u8,
+    /// Light modules on each side, from 0 to 100: 4, which a scanner needs.
+    pub margin: u8,
+    /// How many pixels of the printed image a metre has, below 2^31, or 0 if the file is not to say it. Only PNG can say it.
+    pub pixels_a_metre: u32,
+    /// How far the image is from the left edge of the label, in dots, from 0 to 32,000. Only ZPL and TSPL can say it.
+    pub left: u16,
+    /// How far the image is from the upper edge of the label, in dots, from 0 to 32,000. Only ZPL and TSPL can say it.
+    pub top: u16,
+}
+
+impl Default for ImageOptions {
+    fn default() -> ImageOptions {
+        ImageOptions {
+            scale: 8,
+            margin: 4,
+            pixels_a_metre: 0,
+            left: 0,
+            top: 0,
+        }
+    }
+}
+
 /// A symbol: its version, its level, its modules, and its mask if it is known.
 #[derive(Clone, Debug, PartialEq, Eq, Hash)]
 pub struct Symbol {
@@ -294,6 +350,34 @@ impl Symbol {
             "no module at row {row} and column {column}: the side is {side}"
         );
         self.modules[row * side + column] != 0
+    }
+
+    /// Returns the most dots that a module can have on each side if the symbol is at most `mm` millimetres wide with its margin, on
+    /// a printer of `dpi` dots an inch, and how wide it then is in millimetres. The dots are what [`ImageOptions::scale`] takes.
+    ///
+    /// ```
+    /// # use qrproved::{encode, Level, Options, Version};
+    /// let symbol = encode(b"Shelf 12", Version::MIN, Level::M, &Options::default())?;
+    /// let (dots, width) = symbol.printed_size(20.0, 203.0, 4)?;
+    /// assert_eq!((dots, format!("{width:.3}")), (5, "18.143".to_string()));
+    /// # Ok::<(), qrproved::Error>(())
+    /// ```
+    ///
+    /// # Errors
+    ///
+    /// [`Error::Settings`] if not even modules of one dot are narrow enough, or if a number is not above 0 and at most 100,000.
+    pub fn printed_size(&self, mm: f64, dpi: f64, margin: u8) -> Result<(u8, f64), Error> {
+        if !(mm > 0.0 && mm <= MM_MAX && dpi > 0.0 && dpi <= MM_MAX) {
+            return Err(Error::Settings);
+        }
+        let modules = (self.side() + 2 * usize::from(margin)) as f64;
+        // (a width that was computed from dots has room for them, whatever was rounded)
+        let most = (mm * dpi / MM_OF_INCH / modules + 1e-9).floor();
+        let dots = most.min(f64::from(c::SCALE_MAX)) as u8;
+        if dots == 0 {
+            return Err(Error::Settings);
+        }
+        Ok((dots, MM_OF_INCH * modules * f64::from(dots) / dpi))
     }
 }
 
@@ -632,6 +716,103 @@ pub fn draw(symbols: &[Symbol], drawing: Drawing, margin: u8) -> Result<Vec<u8>,
     draw_squares(&squares, first.side(), drawing, margin)
 }
 
+/// Returns a document for print with symbols of one version. An SVG or EPS document has them one below the other, and a PDF has a
+/// page for each. Each has `margin` light modules on each side; a scanner needs 4. A module is `micrometres` wide, from 1 to
+/// 1,000,000.
+///
+/// # Errors
+///
+/// [`Error::Settings`] if there are not 1 to 16 symbols, or not all of one version, if the margin is above 100, or if `micrometres`
+/// is out of its range; [`Error::Memory`].
+pub fn document(
+    symbols: &[Symbol],
+    format: Document,
+    margin: u8,
+    micrometres: u32,
+) -> Result<Vec<u8>, Error> {
+    check_library();
+    let first = symbols.first().ok_or(Error::Settings)?;
+    if symbols.iter().any(|it| it.version != first.version) {
+        return Err(Error::Settings);
+    }
+    let modules = symbols
+        .iter()
+        .map(Symbol::modules)
+        .collect::<Vec<_>>()
+        .concat();
+    let count = symbols.len().try_into().map_err(|_| Error::Settings)?;
+    let call = |text: *mut u8, len: usize| {
+        let mut written = 0;
+        // SAFETY: the version is checked, each length is that of its slice, or 0 beside a null pointer, and only the
+        // call has `text` and `written`.
+        let status = unsafe {
+            c::qrproved_document(
+                modules.as_ptr(),
+                modules.len(),
+                first.side() as c::Setting,
+                count,
+                format as c::Setting,
+                c::Setting::from(margin),
+                micrometres,
+                text,
+                len,
+                &mut written,
+            )
+        };
+        (status, written)
+    };
+    match call(std::ptr::null_mut(), 0) {
+        (status, needed) if status == Error::Room.status() => filled(needed, call),
+        (status, _) => Err(Error::of_status(status).unwrap_or(Error::Settings)),
+    }
+}
+
+/// Returns the image of a symbol as a file.
+///
+/// ```
+/// use qrproved::{encode, image, Format, ImageOptions, Level, Options, Version};
+///
+/// let symbol = encode(b"Shelf 12", Version::MIN, Level::M, &Options::default())?;
+/// let file = image(&symbol, Format::Png, &ImageOptions::default())?;
+/// assert!(file.starts_with(b"\x89PNG"));
+/// # Ok::<(), qrproved::Error>(())
+/// ```
+///
+/// # Errors
+///
+/// [`Error::Settings`] if a number of `options` is out of its range; [`Error::Memory`].
+pub fn image(symbol: &Symbol, format: Format, options: &ImageOptions) -> Result<Vec<u8>, Error> {
+    check_library();
+    let modules = symbol.modules();
+    let call = |image: *mut u8, len: usize| {
+        let mut written = 0;
+        // SAFETY: the version is checked, each length is that of its slice, or 0 beside a null pointer, and only the
+        // call has `image` and `written`.
+        let status = unsafe {
+            c::qrproved_image(
+                modules.as_ptr(),
+                modules.len(),
+                symbol.side() as c::Setting,
+                format as c::Setting,
+                c::Setting::from(options.scale),
+                c::Setting::from(options.margin),
+                options.pixels_a_metre,
+                c::Setting::from(options.left),
+                c::Setting::from(options.top),
+                image,
+                len,
+                &mut written,
+            )
+        };
+        (status, written)
+    };
+    // The library writes a PNG file in one run if there is surely room for it, which this is up to scale 8.
+    match filled(4096 + 3 * modules.len(), call) {
+        Err(Error::Room) => filled(call(std::ptr::null_mut(), 0).1, call),
+        done => done,
+    }
+}
+
 /// Returns the drawing of squares that all have the side `side`, as [`draw`] returns that of symbols. A square need not
 /// be a symbol. Each byte but 0 is a dark module, and bytes past the last module of a square are ignored.
 ///
@@ -724,30 +905,26 @@ pub fn parse_drawing(text: &[u8]) -> Result<Drawn, Error> {
 }
 
 /// Returns the SVG document of symbols of one version, as [`draw`] does, with a size: it is `mm` millimetres wide with its margin.
-/// Few scanners read modules under 0.25 mm.
+/// A module has whole micrometres, so the width may differ from `mm` by half a micrometre for each module. Few scanners read
+/// modules under 0.25 mm.
 ///
 /// # Errors
 ///
-/// As [`draw`]; [`Error::Settings`] also if `mm` is not above 0 and at most 100,000.
+/// As [`draw`]; [`Error::Settings`] also if `mm` is not above 0 and at most 100,000, or if a module is not from 0.001 to 1,000 mm
+/// wide.
 pub fn draw_svg(symbols: &[Symbol], margin: u8, mm: f64) -> Result<Vec<u8>, Error> {
     if !(mm > 0.0 && mm <= MM_MAX) {
         return Err(Error::Settings);
     }
-    let document = draw(symbols, Drawing::Svg, margin)?;
-    let place = document
-        .windows(SVG_START.len())
-        .position(|it| it == SVG_START)
-        .expect("a document of the library has an svg element");
-    let (before, after) = document.split_at(place + SVG_START.len());
-    let height = mm * symbols.len() as f64;
-    let size = format!("width=\"{mm}mm\" height=\"{height}mm\" ");
-    Ok([before, size.as_bytes(), after].concat())
+    let first = symbols.first().ok_or(Error::Settings)?;
+    let modules = first.side() + 2 * usize::from(margin);
+    let micrometres = (1000.0 * mm / modules as f64).round() as u32;
+    document(symbols, Document::Svg, margin, micrometres)
 }
 
-/// The greatest width in millimetres.
+/// The greatest width in millimetres, and the most dots an inch.
 const MM_MAX: f64 = 100_000.0;
-/// How the element of an SVG document begins, before its attributes.
-const SVG_START: &[u8] = b"<svg ";
+const MM_OF_INCH: f64 = 25.4;
 
 /// Returns a buffer for so many bytes or structs.
 fn buffer<T: Clone + Default>(room: usize) -> Result<Vec<T>, Error> {

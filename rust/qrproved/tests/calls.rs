@@ -1,8 +1,8 @@
 //! What the crate adds to the library: its types, and its refusals. The symbols themselves are compared by tests/library.
 use qrproved::{
-    draw, draw_squares, draw_svg, encode, encode_series, mend, parse_drawing, read, room, Content,
-    Drawing, Eci, Error, Fnc1, Header, Interpretation, Level, Mode, Options, Rule, SettingError,
-    TextError, Version,
+    document, draw, draw_squares, draw_svg, encode, encode_series, image, mend, parse_drawing,
+    read, room, Content, Document, Drawing, Eci, Error, Fnc1, Format, Header, ImageOptions,
+    Interpretation, Level, Mode, Options, Rule, SettingError, TextError, Version,
 };
 
 /// What the command has: the level that is asked for.
@@ -198,6 +198,62 @@ fn damage_is_measured() {
     );
     assert_eq!(mended.spent(), 0.25);
     assert!(!mended.is_sound());
+}
+
+#[test]
+fn images_and_documents() {
+    let symbol = encode(b"Shelf 12", Version::MIN, Level::L, &PLAIN).unwrap();
+    let options = ImageOptions {
+        scale: 2,
+        left: 3,
+        ..ImageOptions::default()
+    };
+    let starts: [(Format, &[u8]); 5] = [
+        (Format::Png, b"\x89PNG"),
+        (Format::Pbm, b"P4\n58 58\n"),
+        (Format::EscPos, &[0x1D, 0x76, 0x30, 0, 8, 0, 58, 0]),
+        (Format::Tspl, b"BITMAP 3,0,8,58,0,"),
+        (Format::Zpl, b"^XA\n^FO3,0^GFA,464,464,8,"),
+    ];
+    for (format, start) in starts {
+        assert!(
+            image(&symbol, format, &options).unwrap().starts_with(start),
+            "{format:?}"
+        );
+    }
+    let wrong = ImageOptions {
+        scale: 101,
+        ..options
+    };
+    assert_eq!(image(&symbol, Format::Png, &wrong), Err(Error::Settings));
+    for (mm, dpi, dots) in [
+        (14.515, 203.0, 4),
+        (18.142, 203.0, 4),
+        (18.143, 203.0, 5),
+        (9.822, 300.0, 4),
+        (4.911, 600.0, 4),
+        (1000.0, 600.0, 100),
+    ] {
+        let (found, width) = symbol.printed_size(mm, dpi, 4).unwrap();
+        assert_eq!(found, dots, "{mm} mm at {dpi}");
+        assert!((width - f64::from(dots) * 29.0 * 25.4 / dpi).abs() < 1e-9);
+    }
+    for (mm, dpi) in [
+        (3.0, 203.0),
+        (0.0, 203.0),
+        (20.0, 0.0),
+        (f64::NAN, 203.0),
+        (20.0, 100_001.0),
+    ] {
+        assert_eq!(symbol.printed_size(mm, dpi, 4), Err(Error::Settings));
+    }
+    let pages = document(&[symbol.clone(), symbol.clone()], Document::Pdf, 4, 500).unwrap();
+    assert!(pages.starts_with(b"%PDF-1.4\n") && pages.ends_with(b"%%EOF\n"));
+    assert_eq!(document(&[], Document::Eps, 4, 500), Err(Error::Settings));
+    assert_eq!(
+        document(&[symbol], Document::Svg, 4, 0),
+        Err(Error::Settings)
+    );
 }
 
 /// A module of each of the first five codewords of version 1. In the symbol of eight digits the first three are dark.
@@ -713,17 +769,26 @@ fn squares_are_drawn() {
 fn a_document_has_a_size() {
     let symbols = vec![encode(b"A", Version::MIN, Level::L, &PLAIN).unwrap(); 2];
     for (count, mm, size) in [
-        (1, 29.0, "width=\"29mm\" height=\"29mm\""),
-        (2, 12.5, "width=\"12.5mm\" height=\"25mm\""),
+        (1, 29.0, "width=\"29.000mm\" height=\"29.000mm\""),
+        // a 29th of 12.5 mm is 431.03 micrometres
+        (2, 12.5, "width=\"12.499mm\" height=\"24.998mm\""),
     ] {
         let plain = draw(&symbols[..count], Drawing::Svg, 4).unwrap();
         let sized = draw_svg(&symbols[..count], 4, mm).unwrap();
         let wanted = String::from_utf8(plain)
             .unwrap()
-            .replace("<svg ", &format!("<svg {size} "));
+            .replace(" viewBox=", &format!(" {size} viewBox="));
         assert_eq!(String::from_utf8(sized).unwrap(), wanted);
     }
-    for mm in [0.0, -1.0, 100_001.0, f64::INFINITY, f64::NAN] {
+    for mm in [
+        0.0,
+        -1.0,
+        0.01,
+        29_015.0,
+        100_001.0,
+        f64::INFINITY,
+        f64::NAN,
+    ] {
         assert_eq!(draw_svg(&symbols, 4, mm), Err(Error::Settings));
     }
     assert_eq!(draw_svg(&[], 4, 29.0), Err(Error::Settings));
