@@ -2,7 +2,7 @@
  * The calls of the module, as include/qrproved.h states them. A pointer, a length and a size is a BigInt there, and a struct lies
  * in memory as in C. Before each call the heap is given back, so no block of an earlier call may be used.
  */
-import { INTERPRETATIONS, LIMITS, MODES, MODES_OF_RULES } from './common.js';
+import { DOCUMENTS, FORMATS, INTERPRETATIONS, LIMITS, MODES, MODES_OF_RULES } from './common.js';
 import { OutOfMemoryError, nameOf, throwFor, tooLong, tooMany } from './errors.js';
 import { base64 } from './module.js';
 
@@ -87,6 +87,7 @@ const COUNTS = ['level', 'mask', 'wrongFormatModules', 'wrongFormatLeast', 'chan
   'worstUnknownWrong'];
 const COUNTS_AT = 28;
 const MODULE_LIKELY = 8; // more bytes than most drawings have for each module
+const IMAGE_LIKELY = 4096; // bytes, and 3 for each module: room for every PNG file up to scale 8, which is then written in one run
 
 /** Asks how many characters of a mode fit a symbol of version 40; returns the status and the number. */
 function room(level, mode, interpretation) {
@@ -185,20 +186,38 @@ export function parsedOf(text) {
   });
 }
 
+/** Calls `write` with a buffer, and once more if it says that it needs a longer one; returns the address of the text and its length. */
+function written(likely, write) {
+  const told = take(8), length = () => Number(struct(told, 8).getBigUint64(0, true));
+  let room = likely, text = take(room), status = write(BigInt(text), BigInt(room), BigInt(told));
+  if (nameOf(status) === 'ROOM') {
+    room = length();
+    text = take(room);
+    status = write(BigInt(text), BigInt(room), BigInt(told));
+  }
+  throwFor(status);
+  return [text, length()];
+}
+
 export function drawn(modules, side, count, drawing, margin) {
   return run(() => {
-    const from = put(modules), written = take(8);
-    const draw = (text, room) => call('qrproved_draw', BigInt(from), BigInt(modules.length), side, count, drawing, margin, BigInt(text),
-      BigInt(room), BigInt(written));
-    const length = () => Number(struct(written, 8).getBigUint64(0, true));
-    let room = MODULE_LIKELY * modules.length, text = take(room), status = draw(text, room);
-    if (nameOf(status) === 'ROOM') {
-      // The call has said how much room the drawing needs.
-      room = length();
-      text = take(room);
-      status = draw(text, room);
-    }
-    throwFor(status);
-    return UTF8.decode(bytesAt(text, length()));
+    const given = [BigInt(put(modules)), BigInt(modules.length), side, count, drawing, margin];
+    return UTF8.decode(bytesAt(...written(MODULE_LIKELY * modules.length, (...buffer) => call('qrproved_draw', ...given, ...buffer))));
+  });
+}
+
+/** Returns a document for print, as bytes. `kind` is a name in DOCUMENTS, and a module is so many micrometres wide. */
+export function printed(modules, side, count, kind, margin, micrometres) {
+  return run(() => {
+    const given = [BigInt(put(modules)), BigInt(modules.length), side, count, DOCUMENTS[kind], margin, micrometres];
+    return copied(...written(MODULE_LIKELY * modules.length, (...buffer) => call('qrproved_document', ...given, ...buffer)));
+  });
+}
+
+/** Returns the file of an image, as bytes. `format` is a name in FORMATS. */
+export function imageOf(modules, side, format, scale, margin, pixelsAMetre, left, top) {
+  return run(() => {
+    const given = [BigInt(put(modules)), BigInt(modules.length), side, FORMATS[format], scale, margin, pixelsAMetre, left, top];
+    return copied(...written(IMAGE_LIKELY + 3 * modules.length, (...buffer) => call('qrproved_image', ...given, ...buffer)));
   });
 }

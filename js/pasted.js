@@ -61,7 +61,7 @@ function squaresOf(lines) {
 export function* undone(text) {
   const clean = text.replaceAll('\r\n', '\n').replaceAll('\ufeff', '').replaceAll('\u00a0', ' ');
   if (clean.trimStart().startsWith('<')) {
-    yield `${clean.trim()}\n`.replace(/<svg width="[^"]*" height="[^"]*" /u, '<svg ');
+    yield `${clean.trim()}\n`.replace(/<svg ([^>]*?)width="[^"]*" height="[^"]*" /u, '<svg $1');
     return;
   }
   yield clean.endsWith('\n') ? clean : `${clean}\n`;

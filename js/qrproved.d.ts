@@ -68,8 +68,8 @@ export class QRSymbol {
    */
   dark(row: number, column: number): boolean;
   /**
-   * Returns an SVG document, in which a module is one unit wide. `mm` is its width with the margin, in millimetres. If `inline` is true,
-   * the document has no XML declaration, which HTML does not allow inside a page.
+   * Returns an SVG document, in which a module is one unit wide. `mm` is its width with the margin, in millimetres: a module has whole
+   * micrometres, as in pdf. If `inline` is true, the document has no XML declaration, which HTML does not allow inside a page.
    */
   svg(options?: { margin?: number; mm?: number; quiet?: boolean; inline?: boolean }): string;
   /** Returns a drawing as text, of type 'UTF8' unless given. */
@@ -80,6 +80,29 @@ export class QRSymbol {
    * TypeError for both, and SettingsError for a size that PNG cannot say: less than one pixel a metre, or more than 2147483647.
    */
   png(options?: { scale?: number; margin?: number; mm?: number; dpi?: number; quiet?: boolean }): Uint8Array;
+  /**
+   * Returns a PDF document with a page as large as the symbol with its margin. `mm` is its width, in millimetres; unless given, a module is
+   * 1 mm wide. A module has whole micrometres, so the width may differ from `mm` by half a micrometre for each module.
+   */
+  pdf(options?: { margin?: number; mm?: number; quiet?: boolean }): Uint8Array;
+  /** Returns a document in Encapsulated PostScript, with the options of pdf. */
+  eps(options?: { margin?: number; mm?: number; quiet?: boolean }): Uint8Array;
+  /** Returns a raw bitmap of netpbm (P4), which does not say how large it is. `scale` is 8 unless given. */
+  pbm(options?: { scale?: number; margin?: number; quiet?: boolean }): Uint8Array;
+  /**
+   * Returns a label in ZPL, the language of most label printers, with the symbol as an image. `scale` is the number of dots of a module on
+   * a side, from 1 to 100: 4 unless given. In its place, `mm` is the most that the symbol may be wide with its margin; since a module has
+   * whole dots, it may be narrower, and printedSize says how wide. `dpi` is the number of dots of an inch, 203 unless given. `x` and `y` are
+   * how far the symbol is from the left and the upper edge of the label, in dots, from 0 to 32000. Throws a TypeError for both scale and mm,
+   * and SettingsError if not even modules of one dot are narrow enough.
+   */
+  zpl(options?: { scale?: number; margin?: number; mm?: number; dpi?: number; x?: number; y?: number; quiet?: boolean }): Uint8Array;
+  /** Returns the command BITMAP of TSPL, with the options of zpl. It goes between the commands SIZE, CLS and PRINT of a label. */
+  tspl(options?: { scale?: number; margin?: number; mm?: number; dpi?: number; x?: number; y?: number; quiet?: boolean }): Uint8Array;
+  /** Returns the command GS v 0 of ESC/POS, for receipt printers. The options are those of zpl, but for x and y. */
+  escpos(options?: { scale?: number; margin?: number; mm?: number; dpi?: number; quiet?: boolean }): Uint8Array;
+  /** Returns the most dots that a module can have on a side if the symbol is at most `mm` wide with its margin, and how wide it then is. */
+  printedSize(options: { mm: number; dpi?: number; margin?: number }): { scale: number; mm: number };
   /** Returns a URL that contains the image, a PNG unless the type is 'svg'. */
   dataURL(options?: { type?: 'png' | 'svg'; scale?: number; margin?: number; mm?: number; quiet?: boolean }): string;
   /** Returns the drawing of type 'UTF8'. */
@@ -244,6 +267,22 @@ export interface Picture {
  * upright symbol that is large enough, or if the picture has so many marks like finder patterns that the search takes too much work.
  */
 export function parsePicture(image: Picture): Uint8Array[];
+
+/**
+ * Returns a document for print with 1 to 16 symbols of one side: a PDF has a page for each, an EPS or an SVG has them one below the other.
+ * `type` is 'pdf' unless given, and `mm` the width of a symbol with its margin; unless given, a module is 1 mm wide.
+ */
+export function documentOf(symbols: QRSymbol | QRSymbol[], options?: { type?: 'pdf' | 'eps' | 'svg'; margin?: number; mm?: number; quiet?: boolean }): Uint8Array;
+
+/**
+ * Returns a file for a printer with a label for each symbol, one after the other. There may be any number of them, of different sides.
+ * `type` is 'zpl' unless given, and the other options are those of zpl; in ESC/POS there is no x and no y. In TSPL the commands CLS and
+ * PRINT are around each symbol, and the printer has to know the size of its labels, by the command SIZE. ESC/POS has the symbols one below
+ * the other.
+ */
+export function labels(symbols: QRSymbol | QRSymbol[], options?: {
+  type?: 'zpl' | 'tspl' | 'escpos'; scale?: number; margin?: number; mm?: number; dpi?: number; x?: number; y?: number; quiet?: boolean;
+}): Uint8Array;
 
 /**
  * Returns the drawing of symbols of one side, at most 16, byte for byte as the command `qrencode` draws them: texts one after the

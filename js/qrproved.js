@@ -2,14 +2,13 @@
  * QR Code symbols (ISO/IEC 18004:2015, QR Code Model 2) by the library libqrproved as WebAssembly, whose calls are proved to meet
  * their contracts. README.md shows the calls; qrproved.d.ts describes each.
  */
-import { drawn, encoded, encodedSeries, mayHaveKanji, mendedOf, parsedOf, readOf } from './calls.js';
-import { INTERPRETATIONS, LIMITS } from './common.js';
+import { drawn, encoded, encodedSeries, imageOf, mayHaveKanji, mendedOf, parsedOf, printed, readOf } from './calls.js';
+import { DOCUMENTS, INTERPRETATIONS, LABELS, LIMITS } from './common.js';
 import { Gs1Error, NoDrawingError, SettingsError, SideError } from './errors.js';
 import { dataOf, fieldsOf } from './gs1.js';
 import { SHIFT_JIS, UTF_8, decodedText, encodedText } from './interpretation.js';
 import { undone } from './pasted.js';
 import { squaresIn } from './pictures.js';
-import { imageOf } from './png.js';
 
 export { load } from './calls.js';
 export {
@@ -101,6 +100,11 @@ function inputOf(input, eci, rule) {
 // The options of a series and of a symbol, with their defaults.
 const OF_SERIES = { level: 'L', version: undefined, rule: undefined, eci: undefined };
 const OF_SYMBOL = { ...OF_SERIES, version: 1, boost: true };
+// The options of a document for print.
+const OF_DOCUMENT = { margin: 4, mm: undefined, quiet: false };
+// The options of an image for a receipt printer, and for a label printer.
+const OF_RECEIPT = { scale: undefined, margin: 4, mm: undefined, dpi: LIMITS.DPI, quiet: false };
+const OF_LABEL = { ...OF_RECEIPT, x: 0, y: 0 };
 
 function settings({ level, version, rule = 'auto' }) {
   return [whole('version', version, 1, LIMITS.VERSION_MAX), named('level', level, LEVELS), named('rule', rule, RULES)];
@@ -134,10 +138,9 @@ export class QRSymbol {
   svg(options = {}) {
     const { margin, mm, quiet, inline } = chosen(options, { margin: 4, mm: undefined, quiet: false, inline: false });
     if (typeof inline !== 'boolean') throw new TypeError(`inline is true or false, and not of type ${typeof inline}`);
-    const document = draw(this, { margin, type: 'SVG' }), drawing = inline ? document.replace(/^<\?xml[^>]*>\n/, '') : document;
-    if (mm !== undefined) length('mm', mm);
-    warn(quiet, margin, mm === undefined ? Infinity : mm / (this.side + 2 * margin));
-    return mm === undefined ? drawing : drawing.replace('<svg ', `<svg width="${mm}mm" height="${mm}mm" `);
+    const drawing = mm === undefined ? draw(this, { margin, type: 'SVG' }) : new TextDecoder().decode(documentFor([this], 'svg', { margin, mm, quiet }));
+    if (mm === undefined) warn(quiet, margin, Infinity);
+    return inline ? drawing.replace(/^<\?xml[^>]*>\n/, '') : drawing;
   }
 
   text(options = {}) {
@@ -154,7 +157,49 @@ export class QRSymbol {
       throw new SettingsError(`${pixels} pixels cannot be ${Number(size.toPrecision(3))} mm wide in a PNG image`);
     }
     warn(quiet, margin, (size ?? Infinity) / modules);
-    return imageOf(this.modules, this.side, scale, margin, Math.round(density));
+    return imageOf(this.modules, this.side, 'png', scale, margin, Math.round(density), 0, 0);
+  }
+
+  pdf(options = {}) {
+    return documentFor([this], 'pdf', chosen(options, OF_DOCUMENT));
+  }
+
+  eps(options = {}) {
+    return documentFor([this], 'eps', chosen(options, OF_DOCUMENT));
+  }
+
+  pbm(options = {}) {
+    const { scale, margin, quiet } = chosen(options, { scale: 8, margin: 4, quiet: false });
+    return this.#file('pbm', { scale, margin, quiet });
+  }
+
+  zpl(options = {}) {
+    return this.#file('zpl', chosen(options, OF_LABEL));
+  }
+
+  tspl(options = {}) {
+    return this.#file('tspl', chosen(options, OF_LABEL));
+  }
+
+  escpos(options = {}) {
+    return this.#file('escpos', chosen(options, OF_RECEIPT));
+  }
+
+  printedSize(options) {
+    const { mm, dpi, margin } = chosen(options, { mm: undefined, dpi: LIMITS.DPI, margin: 4 });
+    const modules = this.side + 2 * whole('margin', margin, 0, LIMITS.MARGIN_MAX), resolution = length('dpi', dpi);
+    const scale = Math.min(Math.floor(length('mm', mm) * resolution / MM_OF_INCH / modules + 1e-9), LIMITS.SCALE_MAX), width = MM_OF_INCH * modules / resolution;
+    if (scale === 0) throw new SettingsError(`${modules} modules of one dot are ${width.toPrecision(3)} mm wide, and not ${Number(mm.toPrecision(3))}`);
+    return { scale, mm: MM_OF_INCH * modules * scale / resolution };
+  }
+
+  /** Returns the image in a format that cannot say how large it is. */
+  #file(format, { scale, margin, mm, dpi = LIMITS.DPI, x = 0, y = 0, quiet }) {
+    whole('margin', margin, 0, LIMITS.MARGIN_MAX);
+    const { dots, module } = dotsOf(this, { scale, margin, mm, dpi });
+    warn(quiet, margin, format === 'pbm' ? Infinity : module);
+    const left = whole('x', x, 0, LIMITS.PLACE_MAX), top = whole('y', y, 0, LIMITS.PLACE_MAX);
+    return imageOf(this.modules, this.side, format, dots, margin, 0, left, top);
   }
 
   dataURL(options = {}) {
@@ -289,14 +334,64 @@ export function parsePicture(image) {
   return squaresIn(image);
 }
 
-export function draw(symbols, options = {}) {
-  const { type, margin } = chosen(options, { type: 'UTF8', margin: 4 });
-  const list = Array.isArray(symbols) ? symbols : [symbols], drawing = named('type', type, DRAWINGS);
+/** Returns one symbol or several as an array. */
+function symbolsOf(symbols) {
+  const list = Array.isArray(symbols) ? symbols : [symbols];
   if (!list.every((it) => it instanceof QRSymbol)) throw new TypeError('what is drawn is a QRSymbol, or an array of them');
-  whole('margin', margin, 0, LIMITS.MARGIN_MAX);
+  return list;
+}
+
+/** Returns the modules of symbols of one side, one after the other. */
+function joined(list) {
   whole('the number of symbols', list.length, 1, LIMITS.COUNT_MAX);
   const { side } = list[0], modules = new Uint8Array(list.length * side * side);
   if (list.some((it) => it.side !== side)) throw new SettingsError('the symbols have one side');
   list.forEach((it, k) => modules.set(it.modules, k * side * side));
-  return drawn(modules, side, list.length, drawing, margin);
+  return modules;
+}
+
+export function draw(symbols, options = {}) {
+  const { type, margin } = chosen(options, { type: 'UTF8', margin: 4 });
+  const list = symbolsOf(symbols), drawing = named('type', type, DRAWINGS);
+  whole('margin', margin, 0, LIMITS.MARGIN_MAX);
+  return drawn(joined(list), list[0].side, list.length, drawing, margin);
+}
+
+/** Returns a document for print with symbols of one side. */
+function documentFor(list, type, { margin, mm, quiet }) {
+  whole('margin', margin, 0, LIMITS.MARGIN_MAX);
+  const given = joined(list), modules = list[0].side + 2 * margin;
+  const micrometres = mm === undefined ? LIMITS.MICROMETRES : Math.round(1000 * length('mm', mm) / modules);
+  if (!(micrometres >= 1 && micrometres <= LIMITS.MICROMETRES_MAX)) {
+    throw new SettingsError(`a module is from 0.001 to ${LIMITS.MICROMETRES_MAX / 1000} mm wide, and ${modules} modules are not ${Number(mm.toPrecision(3))} mm wide`);
+  }
+  warn(quiet, margin, micrometres / 1000);
+  return printed(given, list[0].side, list.length, type, margin, micrometres);
+}
+
+export function documentOf(symbols, options = {}) {
+  const { type, ...others } = chosen(options, { type: 'pdf', ...OF_DOCUMENT }), names = Object.keys(DOCUMENTS);
+  return documentFor(symbolsOf(symbols), names[named('type', type, names)], others);
+}
+
+/** Returns how many dots of a printer a module has on each side, and how wide it is in millimetres. */
+function dotsOf(symbol, { scale, margin, mm, dpi }) {
+  const dot = MM_OF_INCH / length('dpi', dpi);
+  if (scale !== undefined && mm !== undefined) throw new TypeError('scale and mm both say how large the symbol is: one of them is given');
+  const dots = mm === undefined ? whole('scale', scale ?? LIMITS.DOTS, 1, LIMITS.SCALE_MAX) : symbol.printedSize({ mm, dpi, margin }).scale;
+  return { dots, module: dot * dots };
+}
+
+export function labels(symbols, options = {}) {
+  const { type, scale, margin, mm, dpi, x, y, quiet } = chosen(options, { type: 'zpl', ...OF_LABEL }), names = Object.keys(LABELS);
+  const format = names[named('type', type, names)], [before, after] = LABELS[format].map((it) => new TextEncoder().encode(it));
+  if ((x || y) && format === 'escpos') throw new TypeError('only in ZPL and TSPL a symbol has a place on a label, which x and y say');
+  whole('margin', margin, 0, LIMITS.MARGIN_MAX);
+  const left = whole('x', x, 0, LIMITS.PLACE_MAX), top = whole('y', y, 0, LIMITS.PLACE_MAX);
+  const list = symbolsOf(symbols), sizes = list.map((it) => dotsOf(it, { scale, margin, mm, dpi }));
+  if (list.length) warn(quiet, margin, sizes.reduce((least, { module }) => Math.min(least, module), Infinity));
+  const parts = list.flatMap((it, k) => [before, imageOf(it.modules, it.side, format, sizes[k].dots, margin, 0, left, top), after]);
+  const file = new Uint8Array(parts.reduce((sum, part) => sum + part.length, 0));
+  parts.reduce((at, part) => (file.set(part, at), at + part.length), 0);
+  return file;
 }

@@ -1,7 +1,7 @@
 /** The page: draws each symbol as its text is typed, a sheet of labels, and what a drawing contains. */
 import {
-  CheckError, EciError, FormatError, Gs1Error, NoDrawingError, PictureError, QRError, SideError, TooLongError, TooManyError, draw, encode,
-  encodeSeries, mend, parseDrawing, parsePicture, read,
+  CheckError, EciError, FormatError, Gs1Error, NoDrawingError, PictureError, QRError, SideError, TooLongError, TooManyError, documentOf, draw,
+  encode, encodeSeries, labels, mend, parseDrawing, parsePicture, read,
 } from '../out/npm/package/qrproved.js';
 import { squaresInText } from './drawings.js';
 import { zipOf } from './zip.js';
@@ -86,6 +86,74 @@ function ofCharacters(text, kind) {
     : 'The text is in Shift JIS, and the symbol does not say so: scanners that do not expect it may show other letters.';
 }
 
+// The formats that the page saves: what a file is called, and its type.
+const FORMATS = {
+  svg: ['SVG', 'svg', 'image/svg+xml'],
+  png: ['PNG', 'png', 'image/png'],
+  pdf: ['PDF', 'pdf', 'application/pdf'],
+  eps: ['EPS', 'eps', 'application/postscript'],
+  pbm: ['PBM', 'pbm', 'image/x-portable-bitmap'],
+  zpl: ['ZPL', 'zpl', 'application/octet-stream'],
+  tspl: ['TSPL', 'tspl', 'application/octet-stream'],
+  escpos: ['ESC/POS', 'bin', 'application/octet-stream'],
+};
+const PRINTERS = ['zpl', 'tspl', 'escpos'];
+
+/** Returns whether a list of formats has a printer's chosen. */
+function isForPrinter(id) {
+  return PRINTERS.includes(on(id).value);
+}
+
+/** Returns the least and the greatest of numbers as a text: one of them if they are shown alike. */
+function rangeOf(numbers) {
+  const ends = [Math.min, Math.max].map((one) => Number(numbers.reduce((it, other) => one(it, other)).toFixed(3)));
+  return ends[0] === ends[1] ? `${ends[0]}` : `${ends[0]} to ${ends[1]}`;
+}
+
+function shownLength(lengths) {
+  return `${rangeOf(lengths)} mm`;
+}
+
+function dotsOf(scales) {
+  return `${rangeOf(scales)} ${scales.every((it) => it === 1) ? 'dot' : 'dots'}`;
+}
+
+/** Returns how many dots of a printer a module of a symbol has if it is at most so wide, or without a width 4, and how wide it then is. */
+function printedSizeOf(symbol, mm, dpi, margin) {
+  if (mm !== null) return symbol.printedSize({ mm, dpi, margin });
+  return { scale: 4, mm: 4 * (symbol.side + 2 * margin) * 25.4 / dpi };
+}
+
+/** Returns sentences that say how large the symbols are in the chosen format, and what scanners may not read. */
+function factsOfFile(symbol, margin) {
+  const modules = symbol.side + 2 * margin, mm = numberIn('mm');
+  if (isForPrinter('format')) {
+    const { scale, mm: width } = printedSizeOf(symbol, mm, numberIn('dpi'), margin);
+    const told = `A module is ${dotsOf([scale])} wide, and the symbol with its margin ${shownLength([width])}.`;
+    return [told, ...(on('warn').checked ? smallOf(width / modules) : [])].join(' ');
+  }
+  if (on('format').value === 'pbm') return `The image is ${modules * (numberIn('scale') ?? 8)} pixels wide. A PBM has no width in mm.`;
+  // a module has whole micrometres
+  return `The symbol with its margin is ${shownLength([mm === null ? modules : modules * Math.round(1000 * mm / modules) / 1000])} wide.`;
+}
+
+/** Shows how large the symbols are in the chosen format. */
+function showFile() {
+  const margin = numberIn('margin');
+  on('dpi-name').hidden = !isForPrinter('format');
+  on('save-file').textContent = `Download ${FORMATS[on('format').value][0]}`;
+  on('save-file').disabled = symbols.length === 0;
+  try {
+    if (symbols.length === 0) say(on('file-facts'), '', 'wide');
+    else if (isForPrinter('format') && numberIn('dpi') === null) throw new TypeError('A printer has from 1 to 100,000 dots an inch');
+    else say(on('file-facts'), factsOfFile(symbols[0], margin), 'wide');
+  } catch (error) {
+    if (!isRefusal(error)) throw error;
+    say(on('file-facts'), `${error.message}.`, 'wide fault');
+    on('save-file').disabled = true;
+  }
+}
+
 /** Draws the symbol of the text that is in the field now. */
 function show() {
   const text = on('text').value, level = on('level').value, version = Number(on('version').value), margin = numberIn('margin');
@@ -114,6 +182,7 @@ function show() {
   on('drawing').classList.toggle('many', symbols.length > 1);
   for (const id of ['save-svg', 'save-png', 'copy', 'print-symbol']) on(id).disabled = symbols.length === 0;
   on('copy').disabled ||= symbols.length > 1;
+  showFile();
 }
 
 /** Saves parts, of bytes or of text, as a file. */
@@ -126,13 +195,13 @@ function save(name, type, parts) {
 }
 
 /** Returns the document of all symbols, one below the other, with the width that is wanted. */
-function documentOf() {
-  const mm = numberIn('mm'), drawn = draw(symbols, { type: 'SVG', margin: numberIn('margin') });
-  return mm === null ? drawn : drawn.replace('<svg ', `<svg width="${mm}mm" height="${mm * symbols.length}mm" `);
+function svgOf() {
+  const mm = numberIn('mm'), margin = numberIn('margin');
+  return mm === null ? draw(symbols, { type: 'SVG', margin }) : new TextDecoder().decode(documentOf(symbols, { type: 'svg', margin, mm, quiet: true }));
 }
 
 function saveDocument() {
-  save('symbol.svg', 'image/svg+xml', [documentOf()]);
+  save('symbol.svg', 'image/svg+xml', [svgOf()]);
 }
 
 function pngs() {
@@ -142,8 +211,27 @@ function pngs() {
   return scale === null ? [] : symbols.map((it) => it.png({ scale, margin, mm, quiet: true }));
 }
 
+/** Saves a file of the symbols, or one of each of them. */
+function saveFiles(format, files) {
+  const [, ending, type] = FORMATS[format];
+  files.forEach((file, k, all) => save(all.length > 1 ? `symbol-${k + 1}-of-${all.length}.${ending}` : `symbol.${ending}`, type, [file]));
+}
+
 function saveImages() {
-  pngs().forEach((png, k, all) => save(all.length > 1 ? `symbol-${k + 1}-of-${all.length}.png` : 'symbol.png', 'image/png', [png]));
+  saveFiles('png', pngs());
+}
+
+/** Returns files of the symbols in the chosen format. */
+function filesOf(type) {
+  const margin = numberIn('margin'), mm = numberIn('mm') ?? undefined, scale = numberIn('scale') ?? 8;
+  if (type === 'pbm') return symbols.map((it) => it.pbm({ scale, margin, quiet: true }));
+  if (!PRINTERS.includes(type)) return [documentOf(symbols, { type, margin, mm, quiet: true })];
+  const sizes = { margin, mm, dpi: numberIn('dpi'), quiet: true };
+  return [labels(symbols, { type, ...sizes })];
+}
+
+function saveFile() {
+  saveFiles(on('format').value, filesOf(on('format').value));
 }
 
 /**
@@ -158,7 +246,7 @@ async function copy() {
     say(on('facts'), 'The image is in the clipboard.', 'good');
   } catch {
     try {
-      await navigator.clipboard.writeText(documentOf());
+      await navigator.clipboard.writeText(svgOf());
       say(on('facts'), 'The SVG document is in the clipboard, as a text.', 'good');
     } catch {
       say(on('facts'), 'The browser does not let this page copy: download the image.', 'fault');
@@ -168,7 +256,8 @@ async function copy() {
 
 // ---- a sheet of labels
 
-let labels = new Map(); // the figures that are shown, by their level and line
+let figures = new Map(); // those that are shown, by their level and line
+const symbolOfFigure = new WeakMap();
 
 /** Returns the text of a line, and its caption: what stands after a tab, or the text. */
 function partsOf(line) {
@@ -191,9 +280,16 @@ function isWithoutText(line) {
 function labelOf(line, before) {
   const settings = ['sheet-level', 'sheet-kind'].map((id) => on(id).value), [text, caption] = partsOf(line);
   const key = [...settings, on('sheet-boost').checked, line].join(' ');
-  const figure = before.get(key)?.pop() ?? figureOf(symbolOf(text).svg({ inline: true }), text, caption);
-  if (!labels.has(key)) labels.set(key, []);
-  labels.get(key).push(figure);
+  const figure = before.get(key)?.pop() ?? newLabelOf(text, caption);
+  if (!figures.has(key)) figures.set(key, []);
+  figures.get(key).push(figure);
+  return figure;
+}
+
+/** Returns a new figure of a text, whose symbol is kept. */
+function newLabelOf(text, caption) {
+  const symbol = symbolOf(text), figure = figureOf(symbol.svg({ inline: true }), text, caption);
+  symbolOfFigure.set(figure, symbol);
   return figure;
 }
 
@@ -239,19 +335,47 @@ function narrowOf(widths, wanted) {
   return [`${which} not fit a label at ${wanted} mm, and ${narrow.length === 1 ? 'is' : 'are'} drawn as wide as fits: ${least === most ? '' : `${least} to `}${most} mm.`];
 }
 
-/** Saves the images of all lines that fit a symbol, each named by its line. */
+/** Returns an image of a symbol, as bytes. */
+function imageOfLabel(symbol, format, mm) {
+  return format === 'svg' ? new TextEncoder().encode(symbol.svg({ mm, quiet: true })) : symbol.png({ scale: numberIn('scale') ?? 8, mm, quiet: true });
+}
+
+/** Saves the images of all lines that fit a symbol, each named by its line, or a file for a printer with a label for each of them. */
 function saveAll() {
-  const scale = numberIn('scale') ?? 8, width = numberIn('width') ?? undefined;
-  const files = on('lines').value.split('\n').flatMap((line, k) => {
-    try {
-      const [text] = partsOf(line), name = `${String(k + 1).padStart(5, '0')}.png`;
-      return isWithoutText(line) ? [] : [{ name, content: symbolOf(text).png({ scale, mm: width, quiet: true }) }];
-    } catch (error) {
-      if (!isRefusal(error)) throw error;
-      return []; // showSheet has said so
-    }
-  });
+  const format = on('sheet-format').value, [, ending, kind] = FORMATS[format], mm = numberIn('width') ?? undefined;
+  if (isForPrinter('sheet-format')) {
+    const all = allLabels.map(({ figure }) => symbolOfFigure.get(figure));
+    save(`labels.${ending}`, kind, [labels(all, { type: format, mm, dpi: numberIn('sheet-dpi'), quiet: true })]);
+    return;
+  }
+  const named = (line) => `${String(line).padStart(5, '0')}.${ending}`;
+  const files = allLabels.map(({ line, figure }) => ({ name: named(line), content: imageOfLabel(symbolOfFigure.get(figure), format, mm) }));
   save('labels.zip', 'application/zip', zipOf(files));
+}
+
+/** Returns sentences that say how large the symbols of all labels are on a printer, and what scanners may not read. */
+function factsOfPrinter(list, mm, dpi) {
+  const all = list.map(({ figure }) => symbolOfFigure.get(figure)), sizes = all.map((it) => printedSizeOf(it, mm, dpi, 4));
+  const modules = sizes.map((it, k) => it.mm / (all[k].side + 8)), narrowest = modules.reduce((least, it) => Math.min(least, it));
+  const told = `Modules are ${dotsOf(sizes.map(({ scale }) => scale))} wide, and symbols with their margins ${shownLength(sizes.map((it) => it.mm))}.`;
+  return [told, ...(on('sheet-warn').checked ? smallOf(narrowest) : [])].join(' ');
+}
+
+/** Shows how large the symbols of all labels are in the chosen format. */
+function showSheetFile() {
+  const isPrinter = isForPrinter('sheet-format'), facts = on('sheet-file-facts'), width = numberIn('width'), dpi = numberIn('sheet-dpi');
+  on('sheet-dpi-name').hidden = !isPrinter;
+  facts.hidden = !isPrinter;
+  on('save-zip').disabled = allLabels.length === 0;
+  try {
+    if (!isPrinter || allLabels.length === 0) say(facts, '', 'wide');
+    else if (dpi === null) throw new TypeError('A printer has from 1 to 100,000 dots an inch');
+    else say(facts, factsOfPrinter(allLabels, width, dpi), 'wide');
+  } catch (error) {
+    if (!isRefusal(error)) throw error;
+    say(facts, `${error.message}.`, 'wide fault');
+    on('save-zip').disabled = true;
+  }
 }
 
 /** Returns why lines have no label, in sentences. */
@@ -265,10 +389,12 @@ function faultsOf(refused, crowded) {
   ];
 }
 
+let allLabels = []; // the labels of all lines, also of those that label paper has no room for
+
 /** Returns the labels of the lines: the figure of each with the number of its line. Lines that have none are added to `refused`. */
 function labelsOf(refused) {
-  const before = labels;
-  labels = new Map();
+  const before = figures;
+  figures = new Map();
   return on('lines').value.split('\n').flatMap((line, k) => {
     if (line.trim() === '') return [];
     try {
@@ -284,9 +410,9 @@ function labelsOf(refused) {
 
 /** Shows labels, on label paper if it is asked for. Returns whether all sizes of the paper are in their ranges. */
 function layOut(list) {
-  const figures = list.map(({ figure }) => figure), papers = on('paper').checked ? papersOf(figures) : null;
+  const shown = list.map(({ figure }) => figure), papers = on('paper').checked ? papersOf(shown) : null;
   on('sheet').classList.toggle('on-paper', papers !== null);
-  on('sheet').replaceChildren(...papers ?? figures);
+  on('sheet').replaceChildren(...papers ?? shown);
   return papers !== null || !on('paper').checked;
 }
 
@@ -299,15 +425,16 @@ function showSheet() {
   const all = list.map((it) => ({ ...it, width: isMeasured ? symbolWidthOf(it.figure) : width }));
   const crowded = isMeasured ? all.filter((it) => it.width < WIDTH_LEAST - 0.05) : [], shown = all.filter((it) => !crowded.includes(it));
   if (crowded.length) layOut(shown);
-  const figures = shown.map(({ figure }) => figure), widths = shown.map((it) => it.width);
-  on('print-sheet').disabled = figures.length === 0 || !isInRange;
-  on('save-zip').disabled = list.length === 0;
-  const warnings = [...narrowOf(widths, width), ...(on('sheet-warn').checked ? smallestOf(figures, widths) : [])];
-  const facts = [`${figures.length} ${figures.length === 1 ? 'label' : 'labels'}.`, ...warnings];
+  const widths = shown.map((it) => it.width);
+  on('print-sheet').disabled = shown.length === 0 || !isInRange;
+  const warnings = [...narrowOf(widths, width), ...(on('sheet-warn').checked ? smallestOf(shown.map(({ figure }) => figure), widths) : [])];
+  const facts = [`${shown.length} ${shown.length === 1 ? 'label' : 'labels'}.`, ...warnings];
   const faults = faultsOf(refused, crowded.map(({ line }) => line));
   if (width === null) say(on('sheet-facts'), `A symbol is from ${WIDTH_LEAST} to 180 mm wide.`, 'wide fault');
   else if (!isInRange) say(on('sheet-facts'), 'A size of the label paper is out of range.', 'wide fault');
   else say(on('sheet-facts'), [...facts, ...faults].join(' '), faults.length ? 'wide fault' : 'wide');
+  allLabels = list;
+  showSheetFile();
 }
 
 // ---- a drawing that is pasted
@@ -576,6 +703,9 @@ document.addEventListener('drop', (event) => takeImage(event, event.dataTransfer
 document.addEventListener('paste', (event) => takeImage(event, event.clipboardData));
 on('save-svg').addEventListener('click', saveDocument);
 on('save-png').addEventListener('click', saveImages);
+on('save-file').addEventListener('click', saveFile);
+for (const id of ['format', 'dpi']) on(id).addEventListener('input', showFile);
+for (const id of ['sheet-format', 'sheet-dpi']) on(id).addEventListener('input', showSheetFile);
 on('save-zip').addEventListener('click', saveAll);
 on('copy').addEventListener('click', copy);
 for (const id of ['print-symbol', 'print-sheet']) on(id).addEventListener('click', () => print());

@@ -10,7 +10,7 @@ import { inflateSync } from 'node:zlib';
 
 const folder = process.env.QRPROVED ?? fileURLToPath(new URL('../../out/npm/package', import.meta.url));
 const at = pathToFileURL(resolve(folder, 'qrproved.js')).href;
-const { draw, encode, encodeSeries, load, mend, parseDrawing, parsePicture, read, ...errors } = await import(at);
+const { documentOf, draw, encode, encodeSeries, labels, load, mend, parseDrawing, parsePicture, read, ...errors } = await import(at);
 
 // The memory of the module, which the package keeps to itself.
 let memory;
@@ -236,7 +236,7 @@ test('drawings', () => {
   assert.throws(() => symbol.svg({ scale: 2 }), TypeError);
   const inside = symbol.svg().split('\n').slice(1).join('\n');
   assert.equal(symbol.svg({ inline: true }), inside);
-  assert.equal(symbol.svg({ inline: true, mm: 20 }), inside.replace('<svg ', '<svg width="20mm" height="20mm" '));
+  assert.equal(symbol.svg({ inline: true, mm: 29 }), inside.replace(' viewBox=', ' width="29.000mm" height="29.000mm" viewBox='));
   assert.match(inside, /^<svg [^<]*</);
   assert.equal(symbol.svg({ inline: false }), symbol.svg());
   assert.throws(() => symbol.svg({ inline: 1 }), TypeError);
@@ -272,8 +272,9 @@ test('PNG images have the modules, and lines with their filter byte', () => {
   const cases = [[1, 1, 0], [1, 8, 4], [2, 3, 4], [5, 7, 1], [7, 16, 4], [10, 100, 0], [20, 2, 9], [40, 1, 4], [40, 5, 4], [40, 24, 100]];
   for (const [version, scale, margin] of cases) {
     const symbol = encode(bytes(16 * version, version), { version, level: 'L', rule: 'bytes_only' }), { side } = symbol;
-    const [[first, head], [second, data], ...rest] = chunks(symbol.png({ scale, margin })), pixels = (side + 2 * margin) * scale;
-    assert.deepEqual([first, second, ...rest.map(([name]) => name)], ['IHDR', 'IDAT', 'IEND']);
+    const [[first, head], ...rest] = chunks(symbol.png({ scale, margin })), pixels = (side + 2 * margin) * scale;
+    const parts = rest.filter(([name]) => name === 'IDAT').map(([, part]) => part), data = Buffer.concat(parts);
+    assert.deepEqual([first, ...rest.map(([name]) => name)], ['IHDR', ...parts.map(() => 'IDAT'), 'IEND']);
     assert.deepEqual([...head], [0, 0, pixels >> 8, pixels & 255, 0, 0, pixels >> 8, pixels & 255, 1, 0, 0, 0, 0]);
     const raw = inflateSync(data), line = 1 + Math.ceil(pixels / 8);
     assert.equal(raw.length, line * pixels, `${pixels} lines`);
@@ -429,9 +430,58 @@ test('the brightness of a colour is rounded once', () => {
   }
 });
 
+test('files for printers and for print', () => {
+  const symbol = encode('A'), text = (file) => Buffer.from(file).toString('latin1'); // 29 modules wide with its margin
+  assert.match(text(symbol.zpl({ x: 12, y: 345 })), /^\^XA\n\^FO12,345\^GFA,1740,1740,15,,:::.*\^FS\n\^XZ\n$/);
+  assert.match(text(symbol.tspl({ scale: 2, x: 3 })), /^BITMAP 3,0,8,58,0,/);
+  assert.deepEqual([...symbol.escpos({ scale: 9 }).slice(0, 8)], [0x1D, 0x76, 0x30, 0, 33, 0, 255, 0]);
+  assert.equal(text(symbol.pbm({ scale: 1 })).slice(0, 9), 'P4\n29 29\n');
+  assert.match(text(symbol.pdf({ mm: 14.5 })), /^%PDF-1\.4\n[^]*\/MediaBox\[0 0 41\.102362 41\.102362\][^]*%%EOF\n$/);
+  assert.match(text(symbol.eps()), /^%!PS-Adobe-3\.0 EPSF-3\.0\n%%BoundingBox: 0 0 83 83\n/);
+  const series = encodeSeries('A'.repeat(90), { version: 2 });
+  assert.equal(text(documentOf(series)).split('/Type/Page/').length, series.length + 1);
+  assert.deepEqual(symbol.printedSize({ mm: 25.4, dpi: 290 }), { scale: 10, mm: 25.4 });
+  assert.deepEqual(symbol.zpl({ mm: 20 }), symbol.zpl({ scale: 5 }));
+  // 29 modules of 4 dots are 14.514, 9.821 and 4.911 mm wide at 203, 300 and 600 dots an inch, and those of one dot more wider
+  for (const [dpi, widest, wider] of [[203, 14.515, 18.142], [300, 9.822, 12.276], [600, 4.911, 6.138]]) {
+    assert.deepEqual([widest, wider, wider + 0.001].map((mm) => symbol.printedSize({ mm, dpi }).scale), [4, 4, 5]);
+  }
+  assert.throws(() => symbol.escpos({ mm: 3 }), { message: '29 modules of one dot are 3.63 mm wide, and not 3' });
+  assert.throws(() => symbol.tspl({ mm: 20, scale: 4 }), TypeError);
+  assert.throws(() => symbol.escpos({ x: 3 }), TypeError);
+  for (const wrong of [{ scale: 101 }, { margin: 101 }, { dpi: 0 }, { x: -1 }, { y: 32001 }]) {
+    assert.throws(() => symbol.zpl(wrong), refused('SettingsError', 5, 'SETTINGS'), JSON.stringify(wrong));
+  }
+  for (const wrong of [{ mm: 0 }, { mm: 0.01 }, { mm: 100000 }, { margin: 101 }]) {
+    assert.throws(() => symbol.pdf(wrong), refused('SettingsError', 5, 'SETTINGS'), JSON.stringify(wrong));
+  }
+});
+
+test('files with several labels', () => {
+  const few = [encode('Shelf 12'), encode('Shelf 13', { version: 5 }), encode('Shelf 14')], text = (file) => Buffer.from(file).toString('latin1');
+  const sizes = { scale: 3, margin: 2, x: 12, y: 345 }, joined = (parts) => text(Buffer.concat(parts.map((it) => Buffer.from(it))));
+  assert.equal(text(labels(few, sizes)), joined(few.map((it) => it.zpl(sizes))));
+  assert.equal(text(labels(few[0], { type: 'ZPL' })), text(few[0].zpl()));
+  assert.equal(text(labels(few, { type: 'tspl', ...sizes })), joined(few.flatMap((it) => ['CLS\r\n', it.tspl(sizes), 'PRINT 1,1\r\n'])));
+  assert.equal(text(labels(few, { type: 'escpos', mm: 20 })), joined(few.map((it) => it.escpos({ mm: 20 }))));
+  assert.equal(labels([]).length, 0);
+  for (const [wrong, name] of [[{ type: 'png' }, 'SettingsError'], [{ type: 'escpos', x: 3 }, 'TypeError'], [{ mm: 3 }, 'SettingsError'],
+    [{ mm: 20, scale: 3 }, 'TypeError'], [{ border: 3 }, 'TypeError']]) {
+    assert.throws(() => labels(few, wrong), { name }, JSON.stringify(wrong));
+  }
+  assert.throws(() => labels(['Shelf 12']), TypeError);
+  const series = encodeSeries('A'.repeat(90), { version: 2 }), sized = new TextDecoder().decode(documentOf(series, { type: 'svg', mm: 33 }));
+  assert.match(sized, new RegExp(` width="33\\.000mm" height="${33 * series.length}\\.000mm" `));
+  assert.deepEqual(parseDrawing(sized).squares, series.map((it) => it.modules));
+});
+
 test('sizes in millimetres and pixels of an inch', () => {
   const symbol = encode('A'), plain = symbol.svg(); // 29 modules wide with its margin, and 232 pixels
-  assert.equal(symbol.svg({ mm: 14.5 }), plain.replace('<svg ', '<svg width="14.5mm" height="14.5mm" '));
+  // a module has whole micrometres: a 29th of 20 mm is 689.7 of them
+  for (const [mm, width] of [[14.5, '14.500'], [20, '20.010'], [29000, '29000.000']]) {
+    assert.equal(symbol.svg({ mm }), plain.replace(' viewBox=', ` width="${width}mm" height="${width}mm" viewBox=`));
+  }
+  for (const mm of [0.01, 29015]) assert.throws(() => symbol.svg({ mm }), { name: 'SettingsError', message: /^a module is from 0\.001 to 1000 mm wide/ });
   const least = [[{ dpi: 0.02 }, 1], [{ mm: 41999, scale: 1, margin: 0 }, 1]], most = [{ mm: 232000 / 2147483647 }, 2147483647];
   const sizes = [[{ dpi: 300 }, 11811], [{ dpi: 203.2 }, 8000], [{ mm: 29 }, 8000], [{ mm: 14.5 }, 16000], ...least, most];
   for (const [options, wanted] of sizes) {

@@ -1,5 +1,5 @@
 // What the declarations allow and refuse, for the TypeScript compiler.
-import { draw, encode, encodeSeries, load, mend, parseDrawing, parsePicture, read, QRSymbol, NoDrawingError, TooLongError, FieldsError, QRError, type Eci, type Header, type Level } from 'qrproved';
+import { documentOf, draw, encode, encodeSeries, labels, load, mend, parseDrawing, parsePicture, read, QRSymbol, NoDrawingError, TooLongError, FieldsError, QRError, type Eci, type Header, type Level } from 'qrproved';
 
 await load();
 const symbol: QRSymbol = encode('a', { level: 'q', rule: 'with_kanji', eci: 20, boost: false });
@@ -15,9 +15,10 @@ const fields: [string, string][] = read(symbol).gs1 ? read(symbol).fields() : []
 const shown: Uint8Array[] = parseDrawing(draw(series)).squares;
 const squares: Uint8Array[] = parsePicture({ data: new Uint8ClampedArray(4), width: 1, height: 1 });
 const image: Uint8Array = symbol.png({ scale: 3 });
+const files: Uint8Array[] = [labels(series, { type: 'tspl', mm: 20, dpi: 300, x: 3 }), labels(symbol), documentOf(series, { type: 'svg', mm: 20 })];
 const text: string = read(symbol).text() + mend(symbol.modules).content.text() + symbol.toJSON().rows[0] + draw(series, { type: 'SVG' }) + symbol.dataURL({ type: 'svg' }) + symbol.svg({ inline: true }) + shares;
 try {
-  console.log(level, header, fieldsOfGs1, ecis, fields, image, text, squares, shown);
+  console.log(level, header, fieldsOfGs1, ecis, fields, image, files, text, squares, shown);
 } catch (error) {
   if (error instanceof TooLongError || error instanceof NoDrawingError || error instanceof FieldsError) {
     const refusal: QRError = error, status: number = error.status;
@@ -32,6 +33,8 @@ encodeSeries('a', { version: 1, boost: true });
 encode('a', { eci: true });
 // @ts-expect-error: there is no such option
 encode('a', { errorCorrectionLevel: 'L' });
+// @ts-expect-error: a PNG has one symbol
+labels(series, { type: 'png' });
 // @ts-expect-error: there is no such level
 encode('a', { level: 'X' });
 // @ts-expect-error: only calls make symbols

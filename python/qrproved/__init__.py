@@ -1,9 +1,10 @@
 """QR Code symbols (ISO/IEC 18004:2015, QR Code Model 2) by the library libqrproved.
 
 encode returns the symbol of a text, of bytes or of GS1 data, encode_series the symbols of a series. A Symbol is drawn by its methods
-as PNG, as SVG or as text. read reads a symbol that is as it was drawn; mend reads a damaged one, and says how damaged it is.
-parse_drawing finds the modules of a drawing, parse_picture those of a PNG picture or of any SVG document. Modules are bytes, row by
-row from the top left, without the quiet zone of four light modules that a drawing needs on each side.
+as PNG, SVG, PDF or EPS, as text, or in the language of a printer. document makes a document of several symbols, and labels a file for
+a printer. read reads a symbol that is as it was drawn; mend reads a damaged one, and says how damaged it is. parse_drawing finds the
+modules of a drawing, parse_picture those of a PNG picture or of any SVG document. Modules are bytes, row by row from the top left,
+without the quiet zone of four light modules that a drawing needs on each side.
 
 Each refusal is an exception of the class Error, also where a number is out of range or a name is not known; but a text that its
 character set does not have is an EciError, and one that is no GS1 data a Gs1Error. A number that is no integer, as a bool or a
@@ -13,6 +14,7 @@ from __future__ import annotations
 
 import base64
 import ctypes
+import math
 import operator
 import os
 import sys
@@ -21,7 +23,7 @@ from dataclasses import dataclass
 from enum import IntEnum
 from typing import TYPE_CHECKING, BinaryIO, List, NamedTuple, NoReturn, Optional, Tuple, Union
 
-from . import _library, _png
+from . import _library
 from ._common import DATA, LIMITS
 from ._drawings import found_by_look, undone
 from ._gs1 import Gs1Error, data_of, fields_of
@@ -32,7 +34,7 @@ from ._errors import (CheckError, EmptyError, Error, FieldsError, FormatError, N
 from ._library import BYTES_MAX, COUNT_MAX, ECIS_MAX, MARGIN_MAX, SERIES_MAX, SIDE_MAX, SYMBOL_MAX
 
 if TYPE_CHECKING:
-    from collections.abc import Iterable, Mapping, Sequence
+    from collections.abc import Callable, Iterable, Mapping, Sequence
 
     Bytes = Union[bytes, bytearray, memoryview]
     Input = Union[str, bytes, bytearray, memoryview]
@@ -41,7 +43,7 @@ if TYPE_CHECKING:
 __all__ = ["BYTES_MAX", "COUNT_MAX", "ECI_MAX", "MARGIN_MAX", "SCALE_MAX", "SERIES_MAX", "SIDE_MAX", "SYMBOL_MAX", "CheckError", "Content",
            "Drawing", "Drawn", "Eci", "EciError", "EmptyError", "Error", "FieldsError", "FormatError", "Gs1Error", "Header", "Level",
            "Mended", "NoDrawingError", "OutOfMemoryError", "PrintWarning", "RoomError", "Rule", "SegmentsError", "SettingsError",
-           "SideError", "Symbol", "TooLongError", "TooManyError", "WORK_MAX", "draw", "encode", "encode_series", "mend",
+           "SideError", "Symbol", "TooLongError", "TooManyError", "WORK_MAX", "document", "draw", "encode", "encode_series", "labels", "mend",
            "parse_drawing", "parse_picture", "read"]
 
 __version__ = "0.2.0"
@@ -50,8 +52,15 @@ FNC1_FIRST, FNC1_SECOND = 1, 2
 VERSION_MAX, ECI_MAX = LIMITS["VERSION_MAX"], LIMITS["ECI_MAX"]
 SCALE_MAX = LIMITS["SCALE_MAX"]
 SIZE_MAX = LIMITS["SIZE_MAX"]  # of mm and dpi
+PLACE_MAX, DPI, DOTS = LIMITS["PLACE_MAX"], LIMITS["DPI"], LIMITS["DOTS"]
+FORMATS, DOCUMENTS = DATA["formats"], DATA["documents"]
+LABELS = DATA["labels"]  # what a file with several labels has before and after each
+MICROMETRES, MICROMETRES_MAX = LIMITS["MICROMETRES"], LIMITS["MICROMETRES_MAX"]  # of a module
+PIXELS = 8  # of a module of a picture, if nothing else is said
+IMAGE_LIKELY = 4096  # bytes, and 3 for each module: room for every PNG file up to scale 8, which is then written in one run
 MM_OF_INCH = 25.4
 MARGIN_WANTED, MODULE_MIN = LIMITS["MARGIN_WANTED"], LIMITS["MODULE_MIN"]  # modules, and millimetres
+ONLY_LABELS = "only in ZPL and TSPL a symbol has a place on a label, which x and y say"
 WRONG_FORMAT_MAX = LIMITS["WRONG_FORMAT_MAX"]  # wrong modules of a copy of the format information that can be read (ISO/IEC 18004:2015, Annex C)
 
 
@@ -147,9 +156,9 @@ class Symbol:
 
     def svg(self, *wrong: NoReturn, margin: int = 4, mm: Optional[float] = None, inline: bool = False, **others: NoReturn) -> bytes:
         """Returns the drawing as an SVG document, with `margin` light modules on each side. `mm` is its width with the margin, in
-        millimetres; without it a module is one unit wide, and each program chooses a size. If `inline` is True, the line that makes
-        it a document of its own is left out, the XML declaration: it may then stand within a page of HTML. Raises as draw does, and
-        warns by PrintWarning of what scanners may not read."""
+        millimetres: a module has whole micrometres, as in pdf. Without `mm` a module is one unit wide, and each program chooses a
+        size. If `inline` is True, the line that makes it a document of its own is left out, the XML declaration: it may then stand
+        within a page of HTML. Raises as document does, and warns by PrintWarning of what scanners may not read."""
         _no_more("svg", "", wrong, others, "margin", "mm", "inline")
         document = self._svg(margin, mm)
         return document.split(b"?>\n", 1)[-1] if _flag("inline", inline) else document
@@ -159,20 +168,80 @@ class Symbol:
         _no_more("text", "", wrong, others, "drawing", "margin")
         return draw([self], drawing=drawing, margin=margin).decode()
 
-    def save(self, path: Union[str, os.PathLike[str], BinaryIO], *wrong: NoReturn, kind: Optional[str] = None, scale: int = 8,
-             margin: int = 4, mm: Optional[float] = None, dpi: Optional[float] = None, **others: NoReturn) -> None:
+    def pdf(self, *wrong: NoReturn, margin: int = 4, mm: Optional[float] = None, **others: NoReturn) -> bytes:
+        """Returns a PDF document with a page as large as the symbol with its margin. `mm` is its width, in millimetres; without it a
+        module is 1 mm wide. A module has whole micrometres, so the width may differ from `mm` by half a micrometre for each module.
+        Raises and warns as document does, which also takes several symbols."""
+        _no_more("pdf", "", wrong, others, "margin", "mm")
+        return _document([self], "pdf", margin, mm)
+
+    def eps(self, *wrong: NoReturn, margin: int = 4, mm: Optional[float] = None, **others: NoReturn) -> bytes:
+        """Returns a document in Encapsulated PostScript. The arguments, errors and warnings are those of pdf."""
+        _no_more("eps", "", wrong, others, "margin", "mm")
+        return _document([self], "eps", margin, mm)
+
+    def pbm(self, *wrong: NoReturn, scale: int = 8, margin: int = 4, **others: NoReturn) -> bytes:
+        """Returns the drawing as a raw bitmap of netpbm (P4), which has no size. `scale` and `margin` are those of png. Raises and warns
+        as png does."""
+        _no_more("pbm", "", wrong, others, "scale", "margin")
+        return self._file("pbm", scale, margin, None, None, 0, 0)
+
+    def zpl(self, *wrong: NoReturn, scale: Optional[int] = None, margin: int = 4, mm: Optional[float] = None, dpi: Optional[float] = None,
+            x: int = 0, y: int = 0, **others: NoReturn) -> bytes:
+        """Returns a label in ZPL, the language of Zebra's and most other label printers, with the symbol as an image.
+
+        scale   the dots of a module on each side, from 1 to SCALE_MAX: 4 unless mm is given
+        margin  light modules on each side, from 0 to MARGIN_MAX; a scanner needs 4
+        mm      in place of scale, the most that the symbol may be wide with its margin, in millimetres. A module has whole dots, so it
+                may be narrower: printed_size says how wide
+        dpi     the dots of an inch: 203 unless given
+        x, y    how far the symbol is from the left and the upper edge of the label, in dots, from 0 to 32,000
+
+        Raises SettingsError if a number is out of range, or if not even modules of one dot are as narrow as mm asks. Raises TypeError
+        for both scale and mm. Warns by PrintWarning of what scanners may not read.
+        """
+        _no_more("zpl", "", wrong, others, "scale", "margin", "mm", "dpi", "x", "y")
+        return self._file("zpl", scale, margin, mm, dpi, x, y)
+
+    def tspl(self, *wrong: NoReturn, scale: Optional[int] = None, margin: int = 4, mm: Optional[float] = None, dpi: Optional[float] = None,
+             x: int = 0, y: int = 0, **others: NoReturn) -> bytes:
+        """Returns the symbol as the command BITMAP of TSPL, the language of TSC's and many other label printers. It goes between the
+        commands SIZE, CLS and PRINT of a label. The arguments, errors and warnings are those of zpl."""
+        _no_more("tspl", "", wrong, others, "scale", "margin", "mm", "dpi", "x", "y")
+        return self._file("tspl", scale, margin, mm, dpi, x, y)
+
+    def escpos(self, *wrong: NoReturn, scale: Optional[int] = None, margin: int = 4, mm: Optional[float] = None, dpi: Optional[float] = None,
+               **others: NoReturn) -> bytes:
+        """Returns the symbol as the command GS v 0 of ESC/POS, the language of receipt printers. The arguments, errors and warnings are
+        those of zpl."""
+        _no_more("escpos", "", wrong, others, "scale", "margin", "mm", "dpi")
+        return self._file("escpos", scale, margin, mm, dpi, 0, 0)
+
+    def printed_size(self, *wrong: NoReturn, mm: float, dpi: float = DPI, margin: int = 4, **others: NoReturn) -> tuple[int, float]:
+        """Returns the most dots that a module can have on each side if the symbol is at most `mm` millimetres wide with its margin, and
+        how wide it then is. Raises SettingsError if not even modules of one dot are narrow enough, or if a number is out of range."""
+        _no_more("printed_size", "", wrong, others, "mm", "dpi", "margin")
+        modules, resolution = self.side + 2 * _setting("margin", margin, 0, MARGIN_MAX), _size("dpi", dpi)
+        dots = min(int(_size("mm", mm) * resolution / MM_OF_INCH / modules + 1e-9), SCALE_MAX)
+        if dots == 0:
+            raise SettingsError(f"{modules} modules of one dot are {MM_OF_INCH * modules / resolution:.3g} mm wide, and not {mm:.3g}")
+        return dots, MM_OF_INCH * modules * dots / resolution
+
+    def save(self, path: Union[str, os.PathLike[str], BinaryIO], *wrong: NoReturn, kind: Optional[str] = None, scale: Optional[int] = None,
+             margin: int = 4, mm: Optional[float] = None, dpi: Optional[float] = None, x: int = 0, y: int = 0, **others: NoReturn) -> None:
         """Writes the drawing to a file, or to an object with a method `write` that takes bytes.
 
-        kind    'png', 'svg' or 'txt'; unless it is given, the end of the file's name, or 'png' for an object
-        scale, mm, dpi
-                those of png; an SVG document has no scale and no dpi, and a text none of them
+        kind    'png', 'svg', 'pdf', 'eps', 'txt', 'pbm', 'zpl', 'tspl' or 'escpos'; unless it is given, the end of the file's name, where .bin stands
+                for 'escpos', or 'png' for an object
+        scale, mm, dpi, x, y
+                those of the method of that name; SVG, PDF and EPS have no scale and no dpi, and a text has none of them
 
-        Raises as png and draw do, and SettingsError for another kind or ending. Warns as png does.
+        Raises and warns as that method does, and raises SettingsError for another kind or ending.
         """
-        _no_more("save", "path, ", wrong, others, "scale", "margin", "mm", "dpi", "kind")
+        _no_more("save", "path, ", wrong, others, "scale", "margin", "mm", "dpi", "kind", "x", "y")
         write = getattr(path, "write", None)
         ending = kind or ("png" if write else os.path.splitext(os.fspath(path))[1].lower()[1:])  # type: ignore[arg-type]
-        drawing = self._drawn(ending, scale, margin, mm, dpi)
+        drawing = self._drawn(ending, scale, margin, mm, dpi, x, y)
         if write:
             write(drawing)
             return
@@ -187,14 +256,12 @@ class Symbol:
         if kind not in ("png", "svg"):
             raise SettingsError(f"kind is 'png' or 'svg', and not {kind!r}")
         media = {"png": "image/png", "svg": "image/svg+xml"}[kind]
-        return f"data:{media};base64,{base64.b64encode(self._drawn(kind, scale, margin, mm, None)).decode()}"
+        return f"data:{media};base64,{base64.b64encode(self._drawn(kind, scale, margin, mm, None, 0, 0)).decode()}"
 
     def _png(self, scale: int, margin: int, mm: Optional[float], dpi: Optional[float]) -> bytes:
         pixels, light = _setting("scale", scale, 1, SCALE_MAX), _setting("margin", margin, 0, MARGIN_MAX)
         if mm is not None and dpi is not None:
             raise TypeError("png: mm and dpi both say how large the picture is: one of them is given")
-        if len(self.modules) < self.side * self.side:
-            raise RoomError("a symbol has side * side modules")
         width = pixels * (self.side + 2 * light)
         size = None if mm is None else _size("mm", mm)
         if dpi is not None:
@@ -203,26 +270,72 @@ class Symbol:
         if size is not None and not 0.5 < pixels_a_metre < 2**31 - 0.5:
             raise SettingsError(f"a PNG picture of {width} pixels cannot say that it is {size:.3g} mm wide")
         _warn(light, None if size is None else size / (self.side + 2 * light))
-        return _png.png(self.modules, self.side, pixels, light, round(pixels_a_metre))
+        return self._image("png", pixels, light, _nearest(pixels_a_metre), 0, 0)
+
+    def _file(self, kind: str, scale: Optional[int], margin: int, mm: Optional[float], dpi: Optional[float], x: int, y: int) -> bytes:
+        """Returns the image in a format that cannot say how large it is."""
+        light = _setting("margin", margin, 0, MARGIN_MAX)
+        dots, module = self._dots(kind, scale, light, mm, dpi)
+        _warn(light, None if kind == "pbm" else module)
+        return self._image(kind, dots, light, 0, _setting("x", x, 0, PLACE_MAX), _setting("y", y, 0, PLACE_MAX))
+
+    def _dots(self, kind: str, scale: Optional[int], margin: int, mm: Optional[float], dpi: Optional[float]) -> tuple[int, float]:
+        """Returns how many dots of a printer a module has on each side, and how wide it is in millimetres."""
+        resolution = _size("dpi", DPI if dpi is None else dpi)
+        if scale is not None and mm is not None:
+            raise TypeError(f"{kind}: scale and mm both say how large the symbol is: one of them is given")
+        dots = DOTS if scale is None else _setting("scale", scale, 1, SCALE_MAX)
+        if mm is not None:
+            dots, _ = self.printed_size(mm=mm, dpi=resolution, margin=margin)
+        return dots, MM_OF_INCH * dots / resolution
+
+    def _image(self, kind: str, scale: int, margin: int, pixels_a_metre: int, x: int, y: int) -> bytes:
+        if len(self.modules) < self.side * self.side:
+            raise RoomError("a symbol has side * side modules")
+        side = _setting("side", self.side, 1, SIDE_MAX)
+        asked, written = (self.modules, len(self.modules), side, FORMATS[kind], scale, margin, pixels_a_metre, x, y), ctypes.c_size_t()
+        room = IMAGE_LIKELY + 3 * len(self.modules)
+        image = (ctypes.c_uint8 * room)()
+        status = _calls.qrproved_image(*asked, image, room, ctypes.byref(written))
+        if status == RoomError.status:
+            # the call has said how much room the file needs
+            image = (ctypes.c_uint8 * written.value)()
+            status = _calls.qrproved_image(*asked, image, written.value, ctypes.byref(written))
+        raise_for(status)
+        return _first(image, written.value)
 
     def _svg(self, margin: int, mm: Optional[float]) -> bytes:
+        if mm is not None:
+            return _document([self], "svg", margin, mm)
         document = draw([self], drawing=Drawing.SVG, margin=margin)
-        size = None if mm is None else _size("mm", mm)
-        _warn(margin, None if size is None else size / (self.side + 2 * margin))
-        return document if size is None else _sized(document, f"{size:.9g}mm")
+        _warn(margin, None)
+        return document
 
-    def _drawn(self, kind: str, scale: int, margin: int, mm: Optional[float], dpi: Optional[float]) -> bytes:
+    def _drawn(self, kind: str, scale: Optional[int], margin: int, mm: Optional[float], dpi: Optional[float], x: int, y: int) -> bytes:
+        if (x or y) and kind not in ("zpl", "tspl"):
+            raise TypeError(ONLY_LABELS)
+        if kind in ("zpl", "tspl", "escpos", "bin"):
+            return self._file("escpos" if kind == "bin" else kind, scale, margin, mm, dpi, x, y)
         if kind == "png":
-            return self._png(scale, margin, mm, dpi)
+            return self._png(PIXELS if scale is None else scale, margin, mm, dpi)
+        if kind == "pbm":
+            if mm is not None or dpi is not None:
+                raise TypeError("a PBM bitmap has no size: neither mm nor dpi is given")
+            return self._file("pbm", PIXELS if scale is None else scale, margin, None, None, 0, 0)
         if kind == "svg":
             if dpi is not None:
                 raise TypeError("an SVG document has no pixels, and so no dpi: its size is given by mm")
             return self._svg(margin, mm)
+        if kind in ("pdf", "eps"):
+            if dpi is not None:
+                raise TypeError("a document for print has no pixels, and so no dpi: its size is given by mm")
+            return _document([self], kind, margin, mm)
         if kind == "txt":
             if mm is not None or dpi is not None:
                 raise TypeError("a text has no size: neither mm nor dpi is given")
             return self.text(margin=margin).encode()
-        raise SettingsError(f"the name of the file ends in .png, .svg or .txt, or kind is one of these, and not {kind!r}")
+        raise SettingsError(f"the name of the file ends in .png, .svg, .txt, .pdf, .eps, .pbm, .zpl, .tspl or .bin, or kind is one of"
+                            f" these or 'escpos', and not {kind!r}")
 
     def to_dict(self) -> dict[str, object]:
         """Returns the symbol as json.dumps takes it: each row of modules is a string, in which '1' is dark."""
@@ -235,7 +348,8 @@ class Symbol:
 
     def _repr_svg_(self) -> str:
         """Returns the SVG drawing with a size, four pixels a module, for a place within a page."""
-        return _sized(self.svg(inline=True), str(4 * (self.side + 8))).decode()
+        width = 4 * (self.side + 8)
+        return self.svg(inline=True).decode().replace("<svg ", f'<svg width="{width}" height="{width}" ', 1)
 
 
 class Drawn(List[Tuple[bytes, int]]):
@@ -386,9 +500,9 @@ def _size(name: str, value: float) -> float:
     return float(value)
 
 
-def _sized(document: bytes, width: str) -> bytes:
-    """Returns an SVG document of one symbol with a width and a height."""
-    return document.replace(b"<svg ", f'<svg width="{width}" height="{width}" '.encode(), 1)
+def _nearest(number: float) -> int:
+    """Returns the nearest integer, and of two the greater, as the packages for JavaScript and Rust do."""
+    return math.floor(number + 0.5)
 
 
 def _warn(margin: int, module: Optional[float]) -> None:
@@ -631,7 +745,7 @@ def mend(modules: Union[Symbol, Bytes], side: Optional[int] = None) -> Mended:
     return Mended(_content_of(mended, data, ecis), Level(mended.level), mended.mask, mended.wrong_modules, *counts)
 
 
-def _listed(symbols: Union[Symbol, Sequence[Symbol]]) -> list[Symbol]:
+def _listed(symbols: Union[Symbol, Iterable[Symbol]]) -> list[Symbol]:
     """Returns the symbols as a list. (A symbol can be indexed, so list() would take its modules for symbols.)"""
     return [symbols] if isinstance(symbols, Symbol) else list(symbols)
 
@@ -648,20 +762,85 @@ def draw(symbols: Union[Symbol, Sequence[Symbol]], *wrong: NoReturn, drawing: Na
     has too few modules, and OutOfMemoryError.
     """
     _no_more("draw", "symbols, ", wrong, others, "drawing", "margin")
-    kind, light, listed = _named("drawing", Drawing, drawing), _setting("margin", margin, 0, MARGIN_MAX), _listed(symbols)
-    count = _setting("the number of symbols", len(listed), 1, COUNT_MAX)
-    side = _setting("side", listed[0].side, 1, SIDE_MAX)
-    if any(symbol.side != side for symbol in listed):
+    kind, light = _named("drawing", Drawing, drawing), _setting("margin", margin, 0, MARGIN_MAX)
+    given, count, side = _squares(_listed(symbols))
+    asked = (given, len(given), side, count, kind, light)
+    return _written(lambda *buffer: _calls.qrproved_draw(*asked, *buffer))
+
+
+def document(symbols: Union[Symbol, Sequence[Symbol]], *wrong: NoReturn, kind: str = "pdf", margin: int = 4, mm: Optional[float] = None,
+             **others: NoReturn) -> bytes:
+    """Returns a document for print with symbols of one side: a PDF has a page for each, an EPS or an SVG has them one below the other.
+
+    symbols  from 1 to COUNT_MAX, or a symbol alone
+    kind     'pdf', 'eps' or 'svg'
+    margin   light modules on each side of each symbol, from 0 to MARGIN_MAX; a scanner needs 4
+    mm       the width of a symbol with its margin, in millimetres. Without it a module is 1 mm wide. A module has whole micrometres
+
+    Raises SettingsError if a number is out of range, a name is not known or the sides are not the same, RoomError if a symbol has
+    too few modules, and OutOfMemoryError. Warns by PrintWarning of what scanners may not read.
+    """
+    _no_more("document", "symbols, ", wrong, others, "kind", "margin", "mm")
+    if kind not in DOCUMENTS:
+        raise SettingsError(f"kind is 'pdf', 'eps' or 'svg', and not {kind!r}")
+    return _document(_listed(symbols), kind, margin, mm)
+
+
+def labels(symbols: Union[Symbol, Iterable[Symbol]], *wrong: NoReturn, kind: str = "zpl", scale: Optional[int] = None, margin: int = 4,
+           mm: Optional[float] = None, dpi: Optional[float] = None, x: int = 0, y: int = 0, **others: NoReturn) -> bytes:
+    """Returns a file for a printer with a label for each symbol, one after the other.
+
+    symbols  any number of them, which may have different sides, or a symbol alone
+    kind     'zpl', 'tspl' or 'escpos'. In TSPL the commands CLS and PRINT are around each symbol, and the printer has to know the
+             size of its labels, by the command SIZE. ESC/POS has the symbols one below the other
+    scale, margin, mm, dpi, x, y
+             those of Symbol.zpl; in ESC/POS a symbol has no place on a label, and so no x and no y
+
+    Raises and warns as Symbol.zpl does, and raises SettingsError for another kind.
+    """
+    _no_more("labels", "symbols, ", wrong, others, "kind", "scale", "margin", "mm", "dpi", "x", "y")
+    if kind not in LABELS:
+        raise SettingsError(f"kind is 'zpl', 'tspl' or 'escpos', and not {kind!r}")
+    if (x or y) and kind == "escpos":
+        raise TypeError(ONLY_LABELS)
+    light, place = _setting("margin", margin, 0, MARGIN_MAX), (_setting("x", x, 0, PLACE_MAX), _setting("y", y, 0, PLACE_MAX))
+    sizes = [(it, *it._dots(kind, scale, light, mm, dpi)) for it in _listed(symbols)]
+    if sizes:
+        _warn(light, min(module for _, _, module in sizes))
+    before, after = (it.encode() for it in LABELS[kind])
+    return b"".join(before + it._image(kind, dots, light, 0, *place) + after for it, dots, _ in sizes)
+
+
+def _document(symbols: list[Symbol], kind: str, margin: int, mm: Optional[float]) -> bytes:
+    light, (given, count, side) = _setting("margin", margin, 0, MARGIN_MAX), _squares(symbols)
+    modules = side + 2 * light
+    micrometres = MICROMETRES if mm is None else _nearest(1000 * _size("mm", mm) / modules)
+    if not 1 <= micrometres <= MICROMETRES_MAX:
+        raise SettingsError(f"a module is from 0.001 to {MICROMETRES_MAX // 1000} mm wide, and {modules} modules are not {mm:.3g} mm wide")
+    _warn(light, micrometres / 1000)
+    asked = (given, len(given), side, count, DOCUMENTS[kind], light, micrometres)
+    return _written(lambda *buffer: _calls.qrproved_document(*asked, *buffer))
+
+
+def _squares(symbols: list[Symbol]) -> tuple[bytes, int, int]:
+    """Returns the modules of symbols, one after the other, their number and their side."""
+    count = _setting("the number of symbols", len(symbols), 1, COUNT_MAX)
+    side = _setting("side", symbols[0].side, 1, SIDE_MAX)
+    if any(symbol.side != side for symbol in symbols):
         raise SettingsError("the symbols have one side")
-    if any(len(symbol.modules) < side * side for symbol in listed):
+    if any(len(symbol.modules) < side * side for symbol in symbols):
         raise RoomError("a symbol has side * side modules")
-    given = b"".join(symbol.modules[:side * side] for symbol in listed)
-    asked, written = (given, len(given), side, count, kind, light), ctypes.c_size_t()
-    status = _calls.qrproved_draw(*asked, None, 0, ctypes.byref(written))
+    return b"".join(symbol.modules[:side * side] for symbol in symbols), count, side
+
+
+def _written(write: Callable[..., int]) -> bytes:
+    """Calls `write` with no buffer, which tells how long the text is, and then with one that is as long."""
+    written = ctypes.c_size_t()
+    status = write(None, 0, ctypes.byref(written))
     if status != RoomError.status:
         raise_for(status)
     text = (ctypes.c_uint8 * written.value)()
-    raise_for(_calls.qrproved_draw(*asked, text, written.value, ctypes.byref(written)))
+    raise_for(write(text, written.value, ctypes.byref(written)))
     return _first(text, written.value)
 
 

@@ -1,17 +1,18 @@
-"""The command qrproved, or python -m qrproved: writes symbols as PNG, as SVG or as text, one or one for each line of a file, and
-checks pictures and drawings."""
+"""The command qrproved, or python -m qrproved: writes symbols as PNG, as SVG, as text or for printers, one, a series, or one for each
+line of a file, and checks pictures and drawings."""
 from __future__ import annotations
 
 import argparse
 import contextlib
 import dataclasses
+import glob
 import io
 import os
 import sys
 import time
 import warnings
 from pathlib import Path
-from typing import TYPE_CHECKING, Optional, Union
+from typing import TYPE_CHECKING, BinaryIO, Optional, Union
 
 import qrproved
 from qrproved import Content, EciError, Error, Gs1Error, Level, Mended, Rule
@@ -24,22 +25,46 @@ if TYPE_CHECKING:
 
 PROGRAM = "qrproved" if os.path.splitext(os.path.basename(sys.argv[0]))[0] == "qrproved" else "python -m qrproved"
 SOUND, READABLE, NOT_READABLE = range(3)
-KINDS = {".png": "png", ".svg": "svg", ".txt": "utf8"}
-SUFFIXES = {"png": ".png", "svg": ".svg", **dict.fromkeys(("txt", "utf8", "ascii", "asciii"), ".txt")}
+KINDS = {".png": "png", ".svg": "svg", ".txt": "utf8", ".pdf": "pdf", ".eps": "eps", ".pbm": "pbm", ".zpl": "zpl", ".tspl": "tspl", ".bin": "escpos"}
+PRINTERS = tuple(qrproved.LABELS)
+BINARIES = ("png", "pdf", "pbm", *PRINTERS)  # which a terminal does not show
+SUFFIXES = {"png": ".png", "svg": ".svg", "pdf": ".pdf", "eps": ".eps", "pbm": ".pbm", "zpl": ".zpl", "tspl": ".tspl", "escpos": ".bin", **dict.fromkeys(("txt", "utf8", "ascii", "asciii"), ".txt")}
 INPUT = "standard input"
+ERASED = f"\r{'':40}\r"  # takes the place of a line that says how far a batch is; not every console knows more
 
 
 def say(text: str) -> None:
     print(f"qrproved: {text}", file=sys.stderr)
 
 
-def batch(given: argparse.Namespace, settings: Settings) -> int:
-    """Writes a symbol for each line that is not empty."""
+def batch(given: argparse.Namespace, settings: Settings, told: set[str]) -> int:
+    """Writes a symbol for each line that is not empty, each to a file of a folder or all to one file. Warnings that were told of the
+    settings are not told again of lines."""
     is_input = given.batch == "-"
     with sys.stdin.buffer if is_input else open(given.batch, "rb") as source:
         lines = lines_of(source.read(), given.encoding, INPUT if is_input else given.batch)
+    if settings.is_label:
+        with opened(given.output) as file:
+            return labelled(given, settings, lines, file, told)
     os.makedirs(given.output, exist_ok=True)
-    faults = 0
+    return labelled(given, settings, lines, io.BytesIO(), told)
+
+
+def opened(path: str) -> contextlib.AbstractContextManager[BinaryIO]:
+    """Returns the file that is written, or standard output, which stays open."""
+    return contextlib.nullcontext(sys.stdout.buffer) if path == "-" else open(path, "wb")
+
+
+def warn_of(warned: dict[str, list[int]]) -> None:
+    """Says of which lines scanners may not read the symbols: of the first, and how many there are more."""
+    for text, numbers in warned.items():
+        more = f" and {len(numbers) - 1:,} more" if len(numbers) > 1 else ""
+        say(f"line {numbers[0]}{more}: {text}")
+
+
+def labelled(given: argparse.Namespace, settings: Settings, lines: list[Union[str, bytes]], file: BinaryIO, told: set[str]) -> int:
+    """Writes a symbol for each line that is not empty, and those that are in one file to `file`."""
+    faults, warned = 0, {}
     for number, line in enumerate(lines, 1):
         if isinstance(line, str) and not is_text(line):
             why = f"it is no text in {given.encoding}" if given.encoding else "it is no UTF-8: --encoding names another encoding"
@@ -49,17 +74,24 @@ def batch(given: argparse.Namespace, settings: Settings) -> int:
     labels = labels_of(lines, given.output, SUFFIXES[settings.kind], given.names == "text")
     parts = [Part(settings, labels[start:start + PART]) for start in range(0, len(labels), PART)]
     start, done, is_shown, total = time.monotonic(), 0, sys.stderr.isatty(), len(labels) + faults
-    for count, wrong in written(parts, given.jobs or processors()):
-        done += count
-        faults += len(wrong)
+    for part in written(parts, given.jobs or processors()):
+        file.write(part.file)
+        done += part.count
+        faults += len(part.faults)
+        for number, text in part.warned:
+            if text not in told:
+                warned.setdefault(text, []).append(number)
         if is_shown:
-            print("\r\033[K" if wrong else "\r", end="", file=sys.stderr)
-        for fault in wrong:
+            print(ERASED if part.faults else "\r", end="", file=sys.stderr)
+        for fault in part.faults:
             say(fault)
         if is_shown:
             print(f"qrproved: {done:,} of {len(labels):,}", end="", file=sys.stderr, flush=True)
     if is_shown:
         print(f"\rqrproved: {total - faults:,} labels in {time.monotonic() - start:.1f} s", file=sys.stderr)
+    if not given.quiet:
+        warn_of(warned)
+    file.flush()
     return 1 if faults else 0
 
 
@@ -86,19 +118,18 @@ def of_input(data: bytes, encoding: Optional[str], is_quiet: bool) -> Union[str,
 
 
 def one(given: argparse.Namespace, settings: Settings) -> int:
-    """Writes the symbol of the text, or of what standard input has."""
+    """Writes the symbol of the text, or of what standard input has, or their series."""
     data = of_input(sys.stdin.buffer.read(), given.encoding, given.quiet) if given.text is None else text_of(os.fsencode(given.text))
     if given.gs1:
         data = data.rstrip("\r\n") if isinstance(data, str) else data.rstrip(b"\r\n")
-    drawing = settings.drawn(data)
-    if given.output is None or given.output == "-":
-        if settings.kind == "png" and sys.stdout.isatty():
-            raise SystemExit("qrproved: a PNG picture is not written to a terminal: name a file by -o")
-        sys.stdout.buffer.write(drawing)
-        sys.stdout.buffer.flush()
-    else:
-        with open(given.output, "wb") as file:
-            file.write(drawing)
+    symbols = settings.encoded(data)
+    drawing = settings.drawn(symbols)
+    if settings.kind in PRINTERS and settings.mm is not None and not given.quiet:
+        dots, width = symbols[0].printed_size(mm=settings.mm, dpi=settings.dpi or qrproved.DPI, margin=settings.margin)
+        say(f"{width:.3f} mm wide with its margin, and {dots} {'dots' if dots > 1 else 'dot'} a module")
+    with opened(given.output or "-") as file:
+        file.write(drawing)
+        file.flush()
     return 0
 
 
@@ -218,6 +249,13 @@ def end_output() -> None:
             os.dup2(os.open(os.devnull, os.O_WRONLY), sys.stdout.fileno())
 
 
+def named(paths: list[str]) -> list[str]:
+    """Returns the files that arguments name. On Windows a pattern such as *.png comes here as it is, since no shell has replaced it."""
+    if sys.platform != "win32":
+        return paths
+    return [it for path in paths for it in ([] if os.path.exists(path) else sorted(glob.glob(path))) or [path]]
+
+
 def check(words: list[str]) -> int:
     """Checks the symbols of pictures or of drawings as text, and returns the greatest status."""
     parser = argparse.ArgumentParser(prog=f"{PROGRAM} check", description="Checks the symbols of PNG pictures, of SVG documents or of"
@@ -225,7 +263,7 @@ def check(words: list[str]) -> int:
                                      " sound, 1 if scanners can read each, and 2 otherwise. Of several files the name stands before what is"
                                      " said of each.")
     parser.add_argument("file", nargs="*", default=["-"], help="files with pictures or drawings; without one, standard input")
-    files, status = parser.parse_args(words).file, SOUND
+    files, status = named(parser.parse_args(words).file), SOUND
     if isinstance(sys.stdout, io.TextIOWrapper):
         sys.stdout.reconfigure(errors="backslashreplace")  # of characters that the terminal's encoding has not
     for path in files:
@@ -242,6 +280,11 @@ def check(words: list[str]) -> int:
     return status
 
 
+def is_one_file(path: str, kind: Optional[str]) -> bool:
+    """Whether the labels of --batch for a printer go to one file: its name says so, or it is standard output or a device."""
+    return kind in PRINTERS or path == "-" or (os.path.exists(path) and not os.path.isdir(path))
+
+
 def eci(text: str) -> int:
     """Returns the number of an ECI, or False for none."""
     return False if text == "none" else int(text)
@@ -250,21 +293,27 @@ def eci(text: str) -> int:
 def parsed(words: list[str]) -> argparse.Namespace:
     """Returns the arguments, or ends the program with their fault."""
     parser = argparse.ArgumentParser(
-        prog=PROGRAM, description="Writes the QR Code symbol of a text as PNG, as SVG or as text.",
+        prog=PROGRAM, description="Writes the QR Code symbol of a text as PNG, as SVG, as text or for a printer.",
         epilog=f"'{PROGRAM} check [FILE..]' checks pictures or drawings. To encode a text that begins with a hyphen, or the text"
         " 'check', write -- before it, and all options before the --: after it no option is taken. '--version' or '-V' alone prints which"
         " version of the package this is.")
     parser.add_argument("text", nargs="?", help="the text to encode; without it, the text that standard input has, with its line end if"
                         " it has one. If that is no UTF-8, its bytes are encoded as they are, with a note")
-    parser.add_argument("-o", "--output", metavar="FILE", help="the file to write, .png, .svg or .txt; with --batch a folder")
+    parser.add_argument("-o", "--output", metavar="FILE", help="the file to write, .png, .svg, .pdf, .eps, .txt, .pbm, .zpl, .tspl or .bin, which is"
+                        " ESC/POS; with --batch a folder, or a file .zpl, .tspl or .bin with all labels")
     parser.add_argument("-t", "--type", choices=sorted(SUFFIXES), type=str.lower, help="the type of the drawing, if the file does not tell")
     parser.add_argument("-l", "--level", choices=list(Level.__members__), type=str.upper, default="L", help="the least level of error correction; L")
     parser.add_argument("--no-boost", dest="boost", action="store_false", help="take this level also where the version has room for a higher one")
-    parser.add_argument("-v", "--version", type=int, default=1, metavar="N", help="the least version, from 1 to 40; 1")
+    parser.add_argument("-v", "--version", type=int, metavar="N", help="the least version, from 1 to 40; 1. The version of a series")
     parser.add_argument("-m", "--margin", type=int, default=4, metavar="N", help="light modules on each side, from 0 to 100; 4")
-    parser.add_argument("-s", "--scale", type=int, default=8, metavar="N", help="pixels of a module of a PNG, from 1 to 100; 8")
-    parser.add_argument("--mm", type=float, metavar="N", help="the width of a PNG or an SVG with its margin, in millimetres")
-    parser.add_argument("--dpi", type=float, metavar="N", help="in place of --mm, the pixels of an inch of a PNG")
+    parser.add_argument("-s", "--scale", type=int, metavar="N", help="pixels of a module of a PNG or a PBM, from 1 to 100, or dots for a printer;"
+                        " 8, or 4 dots")
+    parser.add_argument("--mm", type=float, metavar="N", help="the width of a PNG, SVG, PDF or EPS with its margin, in millimetres; for a printer, in place"
+                        " of --scale, the most that it may be wide")
+    parser.add_argument("--dpi", type=float, metavar="N", help="in place of --mm, the pixels of an inch of a PNG; the dots of an inch of a printer;"
+                        " 203")
+    parser.add_argument("-x", type=int, default=0, metavar="N", help="how far the symbol is from the left edge of a label, in dots; 0")
+    parser.add_argument("-y", type=int, default=0, metavar="N", help="how far it is from the upper edge")
     parser.add_argument("-q", "--quiet", action="store_true", help="do not warn of small margins and modules, nor of bytes"
                         " that are no UTF-8")
     parser.add_argument("-8", "--bytes", action="store_true", help="encode the whole input in byte mode")
@@ -274,6 +323,8 @@ def parsed(words: list[str]) -> argparse.Namespace:
     parser.add_argument("--encoding", metavar="NAME", help="the encoding of standard input or of the file of --batch; utf-8. 'binary' is for"
                         " bytes, which are encoded as they are")
     parser.add_argument("--gs1", action="store_true", help="the text is GS1 data, as '(01)04012345678901(10)AB'")
+    parser.add_argument("-S", "--series", action="store_true", help="write a series of up to 16 symbols of the version -v: the pages of a PDF, the"
+                        " labels of a file for a printer, and else one symbol below the other")
     parser.add_argument("--batch", metavar="FILE", help="write a symbol for each line of a file; - is standard input")
     parser.add_argument("--names", choices=["number", "text"], default="number", help="how --batch names files: by number")
     parser.add_argument("--jobs", type=int, metavar="N", help="processes of --batch; one for each processor")
@@ -287,15 +338,30 @@ def parsed(words: list[str]) -> argparse.Namespace:
             given.encoding = encoding_of(given.encoding)
         except SourceError as fault:
             parser.error(f"--encoding: {fault}")
+    given.kind = KINDS.get(os.path.splitext(given.output or "")[1].lower())  # that the name of the file says
     if given.type is None:
-        suffix = os.path.splitext(given.output or "")[1].lower()
-        if given.batch is None and given.output not in (None, "-") and suffix not in KINDS:
-            parser.error(f"{given.output} does not end in .png, .svg or .txt: name the type by -t")
-        given.type = "png" if given.batch is not None else KINDS.get(suffix, "utf8")
-    if given.mm is not None and (given.dpi is not None or given.type not in ("png", "svg")):
-        parser.error("--mm is the width of a PNG or of an SVG, and --dpi stands in its place")
-    if given.dpi is not None and given.type != "png":
-        parser.error("--dpi is of a PNG alone")
+        if given.batch is None and given.output not in (None, "-") and given.kind is None:
+            parser.error(f"{given.output} does not end in .png, .svg, .pdf, .eps, .txt, .pbm, .zpl, .tspl or .bin: name the type by -t")
+        given.type = "png" if given.batch is not None and given.kind not in PRINTERS else given.kind or "utf8"
+    given.is_one_file = given.batch is not None and given.type in PRINTERS and is_one_file(given.output, given.kind)
+    if given.is_one_file and given.names == "text":
+        parser.error("--names is of the files of a folder, and all labels go to one file")
+    if (given.batch is None or given.is_one_file) and given.output in (None, "-") and given.type in BINARIES and sys.stdout.isatty():
+        parser.error(f"{given.type} is not written to a terminal: name a file by -o")
+    if given.series:
+        if given.batch is not None or given.version is None:
+            parser.error("--series needs the version of its symbols, as in -v 5, and is of one text and not of --batch")
+        if given.type in ("png", "pbm"):
+            parser.error(f"a {given.type.upper()} has one symbol: a series is written as SVG, PDF, EPS, text or for a printer")
+    if given.type not in PRINTERS:
+        if given.mm is not None and (given.dpi is not None or given.type not in ("png", "svg", "pdf", "eps")):
+            parser.error("--mm is the width of a PNG, an SVG, a PDF or an EPS, and --dpi stands in its place")
+        if given.dpi is not None and given.type != "png":
+            parser.error("--dpi is of a PNG or of a printer")
+    elif given.mm is not None and given.scale is not None:
+        parser.error("--mm and --scale both say how large the symbol is")
+    if (given.x or given.y) and given.type not in ("zpl", "tspl"):
+        parser.error("-x and -y are the place on a label, in ZPL or TSPL")
     if given.gs1 and given.eci is not None:
         parser.error("GS1 data have no ECI header")
     return given
@@ -312,15 +378,22 @@ def main(words: Optional[list[str]] = None) -> int:
             return check(words[1:])
         given = parsed(words)
         rule = Rule.BYTES_ONLY if given.bytes else Rule.WITH_KANJI if given.kanji else None
-        settings = Settings(given.type, given.version, Level[given.level], rule, given.margin, given.scale, given.mm, given.dpi,
-                            given.eci, given.gs1, given.boost)
-        warnings.showwarning = lambda message, *_: say(str(message))
+        version = 1 if given.version is None else given.version
+        settings = Settings(given.type, version, Level[given.level], rule, given.margin, given.scale, given.mm, given.dpi,
+                            given.eci, given.gs1, given.boost, given.x, given.y, given.series, given.is_one_file)
+        told = set()  # the warnings that were said
+
+        def warn(message: Union[Warning, str], *_: object) -> None:
+            told.add(str(message))
+            say(str(message))
+
+        warnings.showwarning = warn
         warnings.simplefilter("ignore" if given.quiet else "always", qrproved.PrintWarning)
         if given.batch is None:
             return one(given, settings)
         # so that a setting that is out of range is told once, and not for each label
-        settings.drawn("(20)01" if given.gs1 else "A")
-        return batch(given, settings)
+        settings.drawn(settings.encoded("(20)01" if given.gs1 else "A"))
+        return batch(given, settings, told)
     except BrokenPipeError:
         end_output()
         return 1

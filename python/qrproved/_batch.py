@@ -1,20 +1,22 @@
-"""Writes a file for each of many labels, by several processes. What they are sent is in this module and not in the main one,
-which a new process does not have."""
+"""Writes many labels, each to a file or all to one, by several processes. What they are sent is in this module and not in the main
+one, which a new process does not have."""
 from __future__ import annotations
 
+import io
 import multiprocessing
 import os
 import re
 import warnings
-from collections.abc import Iterator
+from collections.abc import Callable, Iterator
 from typing import NamedTuple, Optional, Union
 
 import qrproved
-from qrproved import Drawing, EciError, Error, Gs1Error, PrintWarning
+from qrproved import LABELS, Drawing, EciError, Error, Gs1Error, PrintWarning, Symbol
 
 DRAWINGS = {"txt": Drawing.UTF8, "utf8": Drawing.UTF8, "ascii": Drawing.ASCII, "asciii": Drawing.ASCII_INVERSE}
 # FEW labels are written without a pool of processes, which takes a tenth of a second to start. A process takes PART at once.
 FEW, PART = 3000, 500
+WORKERS_MAX = 60  # Windows waits for at most 63 processes at once
 NAME_MAX = 80
 DIGITS = 5  # at least, of a file that is named by its line
 
@@ -27,25 +29,44 @@ class Settings(NamedTuple):
     level: int
     rule: Optional[int]
     margin: int
-    scale: int
+    scale: Optional[int]
     mm: Optional[float] = None
     dpi: Optional[float] = None
     eci: Optional[int] = None
     is_gs1: bool = False
     boost: bool = True
+    x: int = 0
+    y: int = 0
+    is_series: bool = False
+    is_label: bool = False
+    """Whether the drawing is a label of a file that has several."""
 
-    def drawn(self, data: Union[str, bytes]) -> bytes:
-        """Returns the drawing of the symbol of a text or of some bytes. GS1 data are a text of ASCII: other bytes are refused with it."""
-        settings = {"version": self.version, "level": self.level, "rule": self.rule, "boost": self.boost}
+    def encoded(self, data: Union[str, bytes]) -> list[Symbol]:
+        """Returns the symbol of a text or of some bytes, or their series. GS1 data are a text of ASCII: other bytes are refused with it."""
         if self.is_gs1:
-            symbol = qrproved.encode(gs1=data.decode("latin-1") if isinstance(data, bytes) else data, **settings)
+            given = {"gs1": data.decode("latin-1") if isinstance(data, bytes) else data}
         else:
-            symbol = qrproved.encode(data, eci=self.eci, **settings)
-        if self.kind == "png":
-            return symbol.png(scale=self.scale, margin=self.margin, mm=self.mm, dpi=self.dpi)
-        if self.kind == "svg":
-            return symbol.svg(margin=self.margin, mm=self.mm)
-        return qrproved.draw([symbol], drawing=DRAWINGS[self.kind], margin=self.margin)
+            given = {"data": data, "eci": self.eci}
+        settings = {"version": self.version, "level": self.level, "rule": self.rule}
+        return qrproved.encode_series(**given, **settings) if self.is_series else [qrproved.encode(**given, **settings, boost=self.boost)]
+
+    def drawn(self, symbols: list[Symbol]) -> bytes:
+        """Returns the drawing of a symbol or of a series."""
+        if self.kind in LABELS and (self.is_series or self.is_label):
+            return qrproved.labels(symbols, kind=self.kind, scale=self.scale, margin=self.margin, mm=self.mm, dpi=self.dpi, x=self.x, y=self.y)
+        if self.kind in DRAWINGS:
+            return qrproved.draw(symbols, drawing=DRAWINGS[self.kind], margin=self.margin)
+        if self.is_series:
+            return self.document(symbols)
+        file = io.BytesIO()
+        symbols[0].save(file, kind=self.kind, scale=self.scale, margin=self.margin, mm=self.mm, dpi=self.dpi, x=self.x, y=self.y)
+        return file.getvalue()
+
+    def document(self, symbols: list[Symbol]) -> bytes:
+        """Returns a document with all symbols of a series."""
+        if self.kind == "svg" and self.mm is None:
+            return qrproved.draw(symbols, drawing=Drawing.SVG, margin=self.margin)
+        return qrproved.document(symbols, kind=self.kind, margin=self.margin, mm=self.mm)
 
 
 # The number of a line, the path of its file, and the line.
@@ -59,23 +80,49 @@ class Part(NamedTuple):
     labels: list[Label]
 
 
-def write(part: Part) -> tuple[int, list[str]]:
-    """Writes the labels of a part; returns how many there were, and why some could not be written."""
-    faults = []
-    warnings.simplefilter("ignore", PrintWarning)  # of one label the command has warned before
-    for number, path, data in part.labels:
-        try:
-            drawing = part.settings.drawn(data)
-            file = os.open(path, os.O_WRONLY | os.O_CREAT | os.O_TRUNC | getattr(os, "O_BINARY", 0), 0o666)
+class Done(NamedTuple):
+    """What became of a part: how many labels it had, why some of them are not written, what scanners may not read of the others, each
+    with the number of its line, and the file of the others if they have one."""
+
+    count: int
+    faults: list[str]
+    warned: list[tuple[int, str]]
+    file: bytes = b""
+
+
+def put(path: str, drawing: bytes) -> None:
+    """Writes a file."""
+    file = os.open(path, os.O_WRONLY | os.O_CREAT | os.O_TRUNC | getattr(os, "O_BINARY", 0), 0o666)
+    try:
+        left = memoryview(drawing)
+        while left:
+            left = left[os.write(file, left):]
+    finally:
+        os.close(file)
+
+
+def tried(part: Part, take: Callable[[str, bytes], None]) -> Done:
+    """Draws the labels of a part, and passes each with the path of its file to `take`."""
+    done = Done(len(part.labels), [], [])
+    with warnings.catch_warnings(record=True) as said:
+        warnings.simplefilter("always", PrintWarning)
+        for number, path, data in part.labels:
             try:
-                left = memoryview(drawing)
-                while left:
-                    left = left[os.write(file, left):]
-            finally:
-                os.close(file)
-        except (Error, EciError, Gs1Error, OSError) as fault:
-            faults.append(f"line {number}: {fault}")
-    return len(part.labels), faults
+                take(path, part.settings.drawn(part.settings.encoded(data)))
+            except (Error, EciError, Gs1Error, OSError) as fault:
+                done.faults.append(f"line {number}: {fault}")
+            done.warned.extend((number, str(it.message)) for it in said)
+            said.clear()
+    return done
+
+
+def write(part: Part) -> Done:
+    """Writes each label of a part to its file, or all of them to the one that is returned."""
+    if not part.settings.is_label:
+        return tried(part, put)
+    file = bytearray()
+    done = tried(part, lambda _, drawing: file.extend(drawing))
+    return done._replace(file=bytes(file))
 
 
 def name_of(line: Union[str, bytes]) -> str:
@@ -102,17 +149,17 @@ def labels_of(lines: list[Union[str, bytes]], folder: str, suffix: str, by_text:
     return labels
 
 
-def written(parts: list[Part], workers: int) -> Iterator[tuple[int, list[str]]]:
-    """Writes all parts, by a pool of processes if there are many, and yields what `write` returns of each."""
+def written(parts: list[Part], workers: int) -> Iterator[Done]:
+    """Writes all parts, by a pool of processes if there are many, and yields what `write` returns of each, in their order."""
     if workers > 1 and len(parts) * PART > FEW:
         try:
             # Not a fork: no call of the library may be made in the child of a process with threads.
-            pool = multiprocessing.get_context("spawn").Pool(min(workers, len(parts)))
+            pool = multiprocessing.get_context("spawn").Pool(min(workers, len(parts), WORKERS_MAX))
         except (ImportError, OSError):  # no semaphores here
             pool = None
         if pool is not None:
             with pool:
-                yield from pool.imap_unordered(write, parts)
+                yield from pool.imap(write, parts)
             return
     yield from map(write, parts)
 

@@ -19,7 +19,7 @@ SIDES, COUNT_MAX = range(21, LIMITS["SIDE_MAX"] + 1, 4), LIMITS["COUNT_MAX"]
 WIDTH_MAX = 2 * (LIMITS["SIDE_MAX"] + 2 * LIMITS["PARSED_MARGIN_MAX"])
 LINES_MAX = COUNT_MAX * WIDTH_MAX  # an empty line may follow each
 
-SIZE = re.compile(r'<svg width="[^"]*" height="[^"]*" ')
+SIZE = re.compile(r'<svg ([^>]*?)width="[^"]*" height="[^"]*" ')  # with the attributes before it
 FULL = "\u2588"  # two light modules
 
 Grid = list  # of rows of numbers: without ink, with ink, or not known
@@ -71,7 +71,7 @@ def undone(text: str) -> Iterator[str]:
     4.1.1. Of an SVG document, the one without a size."""
     clean = _clean(text)
     if clean.lstrip().startswith("<"):
-        yield SIZE.sub("<svg ", clean.strip() + "\n", count=1)
+        yield SIZE.sub(r"<svg \1", clean.strip() + "\n", count=1)
         return
     yield clean if clean.endswith("\n") else clean + "\n"
     lines = _lines(clean)

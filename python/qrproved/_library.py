@@ -4,13 +4,15 @@ from __future__ import annotations
 import ctypes
 import ctypes.util
 import os
+import sys
 from ctypes import c_size_t, c_uint8, c_uint32, c_uint64, c_void_p
 from pathlib import Path
 
 from ._common import INTERPRETATIONS, LIMITS
 
 VARIABLE = "QRPROVED_LIBRARY"
-FILE = "libqrproved.so.0"
+# What the library is called on a system; the number is that of its ABI. The names of systems are those of sys.platform.
+FILES = {"linux": "libqrproved.so.1", "darwin": "libqrproved.1.dylib", "win32": "qrproved.dll"}
 
 VERSION_NUMBER = 200  # the structs and the calls may change with each version
 
@@ -59,9 +61,16 @@ PARAMETERS = {
     "qrproved_read": [*BYTES, SETTING, *BUFFER, *BUFFER, ctypes.POINTER(Content)],
     "qrproved_mend": [*BYTES, SETTING, *BUFFER, *BUFFER, ctypes.POINTER(Mended)],
     "qrproved_draw": [*BYTES, SETTING, SETTING, SETTING, SETTING, *BUFFER, ctypes.POINTER(c_size_t)],
+    "qrproved_document": [*BYTES, *[SETTING] * 5, *BUFFER, ctypes.POINTER(c_size_t)],
+    "qrproved_image": [*BYTES, *[SETTING] * 7, *BUFFER, ctypes.POINTER(c_size_t)],
     "qrproved_parse_drawing": [*BYTES, *BUFFER, ctypes.POINTER(Drawn)],
     "qrproved_room": [SETTING, SETTING, SETTING, SETTING, SETTING, ctypes.POINTER(c_uint32)],
 }
+
+
+def name_of_file() -> str:
+    """Returns what the library is called on this system: as on Linux, unless the system has a name of its own for it."""
+    return FILES.get(sys.platform, FILES["linux"])
 
 
 def path_of_library() -> str:
@@ -70,12 +79,12 @@ def path_of_library() -> str:
     wanted = os.environ.get(VARIABLE)
     if wanted:
         return wanted
-    beside = Path(__file__).with_name(FILE)
+    beside = Path(__file__).with_name(name_of_file())
     if beside.exists():
         return str(beside)
     found = ctypes.util.find_library("qrproved")
     if found is None:
-        raise ImportError(f"{FILE} is neither beside the package nor among the system's libraries; set {VARIABLE} to its path")
+        raise ImportError(f"{name_of_file()} is neither beside the package nor among the system's libraries; set {VARIABLE} to its path")
     return found
 
 

@@ -123,6 +123,55 @@ class Command(unittest.TestCase):
         self.assertEqual({it.name for it in (self.room / "texts").iterdir()},
                          {"Shelf_1.svg", "Shelf_2.svg", "Shelf_2-4.svg", "shelf_2-5.svg", "x.svg", "last.svg"})
 
+    def test_all_labels_in_one_file(self):
+        lines = b"Shelf 1\r\n\nShelf 2\n" + b"a" * 3000 + b"\nof another version"
+        symbols = [qrproved.encode(it) for it in ("Shelf 1", "Shelf 2", "of another version")]
+        cases = {"a.zpl": ([], {}), "a.TSPL": (["--mm", "20", "--dpi", "300", "-x", "3"], {"kind": "tspl", "mm": 20, "dpi": 300, "x": 3}),
+                 "a.bin": (["-s", "3", "-m", "2", "-q"], {"kind": "escpos", "scale": 3, "margin": 2})}
+        for name, (words, options) in cases.items():
+            out, said = run("--batch", "-", "-o", self.room / name, *words, given=lines, status=1)
+            self.assertEqual((out, said[:21], said.count("\n")), (b"", "qrproved: line 4: the", 1))
+            self.assertEqual((self.room / name).read_bytes(), qrproved.labels(symbols, **options), name)
+        self.assertEqual(run("--batch", "-", "-t", "zpl", "-o", "-", given=b"Shelf 1\nShelf 2\n"), (qrproved.labels(symbols[:2]), ""))
+        (self.room / "device").write_bytes(b"")  # a device is no folder, as this file is none
+        self.assertEqual(run("--batch", "-", "-t", "escpos", "-o", self.room / "device", given=b"Shelf 1\n"), (b"", ""))
+        self.assertEqual((self.room / "device").read_bytes(), symbols[0].escpos())
+        run("--batch", "-", "-t", "zpl", "-o", self.room / "folder", given=b"Shelf 1\n")
+        self.assertEqual((self.room / "folder/00001.zpl").read_bytes(), symbols[0].zpl())
+        self.assertIn("all labels go to one file", run("--batch", "-", "-o", self.room / "b.zpl", "--names", "text", status=2)[1])
+
+    def test_small_modules_of_a_batch(self):
+        # 29, 29, 33 and 37 modules of 8 mm; the one of 29 is that of the settings, and is told once
+        lines = b"1\n2\n" + b"a" * 20 + b"\n" + b"a" * 40 + b"\n" + b"b" * 40
+        few = "under 0.25 mm few scanners read them\n"
+        said = f"qrproved: line 3: modules of 0.242 mm: {few}qrproved: line 4 and 1 more: modules of 0.216 mm: {few}"
+        self.assertEqual(run("--batch", "-", "-o", self.room / "a", "--mm", "8", given=lines), (b"", said))
+        self.assertEqual(run("--batch", "-", "-o", self.room / "a", "--mm", "8", "-q", given=lines), (b"", ""))
+
+    def test_a_printer_has_whole_dots(self):
+        symbol = qrproved.encode("Shelf 12")
+        for words, said in ((["--mm", "20"], "18.143 mm wide with its margin, and 5 dots a module"),
+                            (["--mm", "5.5", "--dpi", "600"], "4.911 mm wide with its margin, and 4 dots a module")):
+            self.assertIn(f"qrproved: {said}\n", run("Shelf 12", "-t", "zpl", *words)[1])
+            self.assertEqual(run("Shelf 12", "-t", "zpl", "-q", *words)[1], "")
+        self.assertEqual(run("Shelf 12", "-t", "zpl", "-q", "--mm", "20")[0], symbol.zpl(mm=20))
+
+    def test_a_series(self):
+        text = "a series of symbols " * 5
+        symbols = qrproved.encode_series(text, version=3, level="m")
+        self.assertEqual(len(symbols), 3)
+        wanted = {"a.zpl": qrproved.labels(symbols), "a.tspl": qrproved.labels(symbols, kind="tspl"), "a.pdf": qrproved.document(symbols),
+                  "a.eps": qrproved.document(symbols, kind="eps"), "a.svg": qrproved.draw(symbols, drawing="svg"), "a.txt": qrproved.draw(symbols)}
+        for name, file in wanted.items():
+            self.assertEqual(run(text, "-S", "-v", "3", "-l", "m", "-o", self.room / name), (b"", ""))
+            self.assertEqual((self.room / name).read_bytes(), file, name)
+        self.assertEqual(run(text, "-S", "-v", "3", "-l", "m", "--mm", "30", "-t", "svg")[0], qrproved.document(symbols, kind="svg", mm=30))
+        self.assertEqual(run("--gs1", "(20)01", "-S", "-v", "1", "-t", "ascii")[0],
+                         qrproved.draw(qrproved.encode_series(gs1="(20)01", version=1), drawing="ascii"))
+        for words, fault in ((["A", "-o", "b.svg"], "-v 5"), (["-v", "3", "--batch", "-", "-o", "b.zpl"], "not of --batch"),
+                             (["A", "-v", "3", "-o", "b.png"], "a PNG has one symbol")):
+            self.assertIn(fault, run("-S", *words, status=2)[1])
+
     def test_a_batch_in_an_encoding(self):
         texts = ["Gr\u00fc\u00dfe", "Shelf 2", "\u20ac"]
         lines = "\r\n".join(texts)
@@ -153,6 +202,8 @@ class Command(unittest.TestCase):
         self.assertEqual(len(list((self.room / "many").iterdir())), 3600)
         for k in (0, 499, 500, 3599):
             self.assertEqual((self.room / f"many/{k + 1:05}.png").read_bytes(), qrproved.encode(str(k)).png(scale=1))
+        run("--batch", "-", "--jobs", "2", "-o", self.room / "many.zpl", "-s", "1", "-q", given=b"".join(b"%d\n" % k for k in range(3600)))
+        self.assertEqual((self.room / "many.zpl").read_bytes(), b"".join(qrproved.encode(str(k)).zpl(scale=1) for k in range(3600)))
 
     def test_check(self):
         symbol = qrproved.encode("Shelf 12", level="h")

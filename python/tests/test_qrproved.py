@@ -278,7 +278,7 @@ class Refusals(unittest.TestCase):
                 (lambda: symbol.png(border=4), "border; did you mean margin?"), (lambda: symbol.png(box_size=4), "box_size; did you mean scale?"),
                 (lambda: symbol.png(dark="red"), "dark; there are scale, margin, mm, dpi"),
                 (lambda: symbol.svg(scale=3), "scale; there are margin, mm, inline"),
-                (lambda: symbol.save("a.png", light=None), "light; there are scale, margin, mm, dpi, kind"),
+                (lambda: symbol.save("a.png", light=None), "light; there are scale, margin, mm, dpi, kind, x, y"),
                 (lambda: symbol.data_uri(border=1), "border; did you mean margin?"), (lambda: symbol.text(border=1), "border; did you mean margin?"),
                 (lambda: qrproved.draw(symbol, compact=True), "compact; there are drawing, margin")]
         for call, wanted in rows:

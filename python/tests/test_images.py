@@ -1,0 +1,187 @@
+"""Images of symbols, read by programs that share no code with the library: Pillow, and the interpreters of tests/lib/printers.py."""
+import io
+import os
+import pathlib
+import re
+import sys
+import tempfile
+import unittest
+import warnings
+
+sys.path.append(str(pathlib.Path(__file__).resolve().parents[2] / "tests" / "lib"))
+import printers
+import qrproved
+from qrproved import PrintWarning, RoomError, SettingsError, Symbol, _png
+
+try:
+    from PIL import Image
+except ImportError:
+    Image = None
+
+
+def raster_of(symbol, scale, margin):
+    """Returns the lines of pixels of a symbol, each as a string in which '1' is black."""
+    edge = ["0" * (symbol.side + 2 * margin)] * margin
+    light = "0" * margin
+    rows = edge + [light + "".join("1" if it else "0" for it in row) + light for row in symbol.rows()] + edge
+    return ["".join(module * scale for module in row) for row in rows for _ in range(scale)]
+
+
+def bits_of(lines):
+    """Returns lines of bytes as strings of pixels."""
+    return ["".join(f"{byte:08b}" for byte in line) for line in lines]
+
+
+def printed(data):
+    """Returns the lines that commands of ESC/POS print."""
+    return bits_of(printers.escpos(data))
+
+
+def of_graphic(graphic):
+    """Returns the place and the lines of a picture."""
+    return graphic[:2], bits_of(graphic.lines)
+
+
+def shown(line, width):
+    """Returns the pixels of a line; those after them, which fill its last byte, are white."""
+    assert len(line) - width < 8 and "1" not in line[width:]
+    return line[:width]
+
+
+class Images(unittest.TestCase):
+    def setUp(self):
+        warnings.simplefilter("ignore", PrintWarning)
+        self.addCleanup(warnings.resetwarnings)
+
+    def test_png(self):
+        for version, scale, margin in ((1, 1, 0), (2, 3, 4), (7, 4, 4), (40, 1, 4), (1, 100, 1)):
+            symbol = qrproved.encode("Shelf 12", version=version)
+            (*rows,) = _png.pixels(symbol.png(scale=scale, margin=margin), 255)
+            wanted = [bytes(0 if it == "1" else 255 for it in line) for line in raster_of(symbol, scale, margin)]
+            self.assertEqual([bytes(row) for row in rows], wanted, (version, scale, margin))
+
+    @unittest.skipIf(Image is None, "there is no Pillow")
+    def test_png_and_pbm_by_pillow(self):
+        symbol = qrproved.encode("Shelf 12", version=3)
+        wanted = "".join(raster_of(symbol, 3, 2))
+        for file in (symbol.png(scale=3, margin=2), symbol.pbm(scale=3, margin=2)):
+            with Image.open(io.BytesIO(file)) as picture:
+                self.assertEqual("".join("0" if it else "1" for it in picture.convert("L").getdata()), wanted)
+        with Image.open(io.BytesIO(symbol.png(dpi=300))) as picture:
+            self.assertEqual(tuple(map(round, picture.info["dpi"])), (300, 300))
+
+    def test_printers(self):
+        for version, scale, margin in ((1, 4, 4), (5, 3, 1), (40, 2, 0), (1, 33, 4)):
+            symbol = qrproved.encode("Shelf 12", version=version)
+            wanted, width = raster_of(symbol, scale, margin), scale * (symbol.side + 2 * margin)
+            none, (bitmap,) = printers.tspl(symbol.tspl(scale=scale, margin=margin, x=12, y=345))
+            ((graphic,),) = printers.zpl(symbol.zpl(scale=scale, margin=margin, x=12, y=345))
+            self.assertEqual(none, [])
+            for place, lines in (of_graphic(bitmap), of_graphic(graphic)):
+                self.assertEqual((place, [shown(line, width) for line in lines]), ((12, 345), wanted))
+            self.assertEqual([shown(line, width) for line in printed(symbol.escpos(scale=scale, margin=margin))], wanted)
+
+    def test_documents(self):
+        symbol = qrproved.encode("Shelf 12")
+        # 29 modules of 1 mm are 29 * 72 / 25.4 points wide
+        self.assertIn(b"/MediaBox[0 0 82.204724 82.204724]", symbol.pdf())
+        self.assertIn(b"%%BoundingBox: 0 0 83 83\n", symbol.eps())
+        self.assertIn(b"%%HiResBoundingBox: 0 0 41.102362 41.102362\n", symbol.eps(mm=14.5))
+        series = qrproved.encode_series("Shelf 12" * 9, version=2)
+        pages = qrproved.document(series)
+        self.assertEqual((pages[:9], pages.count(b"/Type/Page/"), pages[-6:]), (b"%PDF-1.4\n", len(series), b"%%EOF\n"))
+        dark = sum(it.modules.count(1) for it in series)
+        rows = re.findall(rb"\d+ \d+ (\d+) 1 re\n", pages)
+        self.assertEqual(sum(map(int, rows)), dark)
+        sized = qrproved.document(series, kind="svg", mm=33)
+        self.assertIn(f'width="33.000mm" height="{33 * len(series)}.000mm"'.encode(), sized)
+        self.assertEqual(qrproved.parse_drawing(sized), [(it.modules, 25) for it in series])
+        for wrong in ({"mm": 0}, {"mm": 0.01}, {"mm": 100000.0}, {"margin": 101}, {"kind": "png"}):
+            with self.assertRaises(SettingsError, msg=wrong):
+                qrproved.document(symbol, **wrong)
+        with self.assertRaises(SettingsError):
+            qrproved.document([symbol, qrproved.encode("A", version=2)])
+        with self.assertRaises(TypeError):
+            symbol.save(io.BytesIO(), kind="pdf", dpi=300)
+
+    def test_labels(self):
+        few = [qrproved.encode("Shelf 12"), qrproved.encode("Shelf 13", version=5), qrproved.encode("Shelf 14")]
+        sizes = {"scale": 3, "margin": 2, "x": 12, "y": 345}
+        self.assertEqual(qrproved.labels(few, **sizes), b"".join(it.zpl(**sizes) for it in few))
+        self.assertEqual(qrproved.labels(few[0], kind="zpl"), few[0].zpl())
+        self.assertEqual(qrproved.labels(few, kind="tspl", **sizes), b"".join(b"CLS\r\n" + it.tspl(**sizes) + b"PRINT 1,1\r\n" for it in few))
+        self.assertEqual(qrproved.labels((it for it in few), kind="escpos", mm=20), b"".join(it.escpos(mm=20) for it in few))
+        self.assertEqual(qrproved.labels([]), b"")
+        # a label for each, and no symbol that waits to be printed
+        (labels, waiting), of_zpl = printers.tspl(qrproved.labels(few, kind="tspl", **sizes)), printers.zpl(qrproved.labels(few, **sizes))
+        self.assertEqual((len(labels), labels), (len(few), of_zpl))
+        self.assertEqual((printers.tspl(qrproved.labels([], kind="tspl")), waiting), (([], []), labels[-1]))
+        # what is printed is one symbol below the other
+        wanted = [line for it in few for line in raster_of(it, 4, 4)]
+        lines = printed(qrproved.labels(few, kind="escpos", margin=4))
+        self.assertEqual([shown(line, len(it)) for line, it in zip(lines, wanted)], wanted)
+        for wrong, fault in (({"kind": "png"}, SettingsError), ({"kind": "escpos", "x": 3}, TypeError), ({"mm": 3}, SettingsError),
+                             ({"mm": 20, "scale": 3}, TypeError), ({"border": 3}, TypeError)):
+            with self.assertRaises(fault, msg=wrong):
+                qrproved.labels(few, **wrong)
+        with self.assertRaisesRegex(TypeError, "kind, scale, margin, mm, dpi, x and y are given by name"):
+            qrproved.labels(few, "zpl")
+        with warnings.catch_warnings(record=True) as said:
+            warnings.simplefilter("always")
+            qrproved.labels(few, mm=9.3)  # modules of two dots, and of one
+        self.assertEqual([str(it.message) for it in said], ["modules of 0.125 mm: under 0.25 mm few scanners read them"])
+        self.assertEqual(said[0].filename, __file__)
+
+    def test_printed_size(self):
+        symbol = qrproved.encode("Shelf 12")
+        self.assertEqual(symbol.printed_size(mm=25.4, dpi=290), (10, 25.4))
+        dots, width = symbol.printed_size(mm=20)
+        self.assertEqual((dots, round(width, 3)), (5, 18.143))
+        self.assertEqual(symbol.tspl(mm=20), symbol.tspl(scale=5))
+        # 29 modules of 4 dots are 14.514, 9.821 and 4.911 mm wide at 203, 300 and 600 dots an inch, and those of one dot more wider
+        for dpi, widest, wider in ((203, 14.515, 18.142), (300, 9.822, 12.276), (600, 4.911, 6.138)):
+            self.assertEqual((symbol.printed_size(mm=widest, dpi=dpi)[0], symbol.printed_size(mm=wider, dpi=dpi)[0]), (4, 4), dpi)
+            self.assertEqual(symbol.printed_size(mm=wider + 0.001, dpi=dpi)[0], 5, dpi)
+        self.assertEqual(symbol.escpos(mm=1000, dpi=600), symbol.escpos(scale=100))
+        with self.assertRaisesRegex(SettingsError, "29 modules of one dot are 3.63 mm wide, and not 3"):
+            symbol.escpos(mm=3)
+        with self.assertRaises(TypeError):
+            symbol.tspl(mm=20, scale=4)
+
+    def test_warnings(self):
+        symbol = qrproved.encode("Shelf 12")
+        for options, faults in (({}, 0), ({"scale": 1}, 1), ({"scale": 4, "dpi": 600}, 1), ({"scale": 8, "dpi": 600}, 0), ({"margin": 3}, 1)):
+            with warnings.catch_warnings(record=True) as said:
+                warnings.simplefilter("always")
+                symbol.escpos(**options)
+            self.assertEqual(len(said), faults, options)
+
+    def test_settings(self):
+        symbol = qrproved.encode("Shelf 12")
+        for wrong in ({"scale": 0}, {"scale": 101}, {"margin": 101}, {"dpi": 0}, {"x": -1}, {"y": 32001}):
+            with self.assertRaises(SettingsError, msg=wrong):
+                symbol.tspl(**wrong)
+        with self.assertRaises(RoomError):
+            Symbol(1, 21, None, bytes(440)).pbm()
+        with self.assertRaises(SettingsError):
+            Symbol(1, 256 + 21, None, bytes(100000)).pbm()
+
+    def test_save(self):
+        symbol = qrproved.encode("Shelf 12")
+        with tempfile.TemporaryDirectory() as room:
+            wanted = {"a.png": symbol.png(), "a.pbm": symbol.pbm(), "a.tspl": symbol.tspl(), "a.zpl": symbol.zpl(), "a.bin": symbol.escpos(),
+                      "a.pdf": symbol.pdf(), "a.eps": symbol.eps()}
+            for name, file in wanted.items():
+                symbol.save(os.path.join(room, name))
+                with open(os.path.join(room, name), "rb") as it:
+                    self.assertEqual(it.read(), file, name)
+            symbol.save(os.path.join(room, "b"), kind="tspl", mm=20, x=3, y=4)
+            with open(os.path.join(room, "b"), "rb") as it:
+                self.assertEqual(it.read(), symbol.tspl(mm=20, x=3, y=4))
+            for wrong in ({"kind": "png", "x": 3}, {"kind": "pbm", "mm": 20}, {"kind": "escpos", "y": 3}):
+                with self.assertRaises(TypeError, msg=wrong):
+                    symbol.save(os.path.join(room, "c"), **wrong)
+
+
+if __name__ == "__main__":
+    unittest.main()
