@@ -49,6 +49,12 @@ const CALLS = {
     const symbols = encoded(asked), { type, margin, mm } = asked;
     return [qr.draw(symbols, { type, margin }), mm === null ? null : symbols[0].svg({ margin, mm, quiet: true })];
   },
+  file: (asked) => {
+    const symbols = encoded(asked), { kind, isSeries, chosen } = asked, options = { ...chosen, quiet: true };
+    if (kind === 'size') return Object.values(symbols[0].printedSize(chosen));
+    if (!isSeries) return hashOf(symbols[0][kind](options));
+    return hashOf(['svg', 'pdf', 'eps'].includes(kind) ? qr.documentOf(symbols, { type: kind, ...options }) : qr.labels(symbols, { type: kind, ...options }));
+  },
   parse: ({ text }) => {
     const { type, margin, squares } = qr.parseDrawing(text);
     return [type, margin, squares.map((it) => [hashOf(it), Math.sqrt(it.length)])];

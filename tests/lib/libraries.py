@@ -62,9 +62,9 @@ def built(name, room):
         return None
     place = dict(it.split("=", 1) for it in BUILDS[name]).get("LIBRARY_OUT", "crates/qrproved/out/lib")
     os.mkdir(out)
-    for file in ("libqrproved.a", "libqrproved.so.0"):
+    for file in ("libqrproved.a", "libqrproved.so.1"):
         shutil.copy(f"{TOP}/{place}/{file}", out)
-    os.symlink(f"{out}/libqrproved.so.0", f"{out}/libqrproved.so")
+    os.symlink(f"{out}/libqrproved.so.1", f"{out}/libqrproved.so")
     return out
 
 
@@ -116,6 +116,8 @@ PARAMETERS = {
     "qrproved_read": BUFFER + NUMBER + BUFFER * 2 + POINTER,
     "qrproved_mend": BUFFER + NUMBER + BUFFER * 2 + POINTER,
     "qrproved_draw": BUFFER + NUMBER * 4 + BUFFER + POINTER,
+    "qrproved_image": BUFFER + NUMBER * 7 + BUFFER + POINTER,
+    "qrproved_document": BUFFER + NUMBER * 5 + BUFFER + POINTER,
     "qrproved_parse_drawing": INPUT + BUFFER + POINTER,
     "qrproved_room": NUMBER * 5 + POINTER,
 }
@@ -176,6 +178,26 @@ class Library:
         if self.drawn(*asked, text, needed) != ("DONE", needed) or text[needed] != MARK:
             return "not drawn, or past the end"
         return bytes(text[:needed])
+
+    def document(self, squares, side, format, margin, micrometres):
+        """Returns the document of squares, whose length the library is first asked for, or a status."""
+        asked, written = (b"".join(squares), sum(map(len, squares)), side, len(squares), format, margin, micrometres), ctypes.c_size_t(MARK)
+        status = self.library.qrproved_document(*asked, None, 0, ctypes.byref(written))
+        if STATUSES[status] != "ROOM":
+            return STATUSES[status]
+        text = (ctypes.c_uint8 * written.value)()
+        status = self.library.qrproved_document(*asked, text, len(text), ctypes.byref(written))
+        return bytes(text) if STATUSES[status] == "DONE" and written.value == len(text) else STATUSES[status]
+
+    def image(self, square, side, format, scale, margin, pixels_a_metre=0, left=0, top=0):
+        """Returns the image of a square as a file, whose length the library is first asked for, or a status."""
+        asked, written = (square, len(square), side, format, scale, margin, pixels_a_metre, left, top), ctypes.c_size_t(MARK)
+        status = self.library.qrproved_image(*asked, None, 0, ctypes.byref(written))
+        if STATUSES[status] != "ROOM":
+            return STATUSES[status]
+        file = (ctypes.c_uint8 * written.value)()
+        status = self.library.qrproved_image(*asked, file, len(file), ctypes.byref(written))
+        return bytes(file) if STATUSES[status] == "DONE" and written.value == len(file) else STATUSES[status]
 
     def parsed(self, text):
         """Returns the squares, their side, the number of the type and the margin. If the status is not 0, returns its

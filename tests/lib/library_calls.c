@@ -94,6 +94,21 @@ static int draw(void)
 	return 0;
 }
 
+static int document(void)
+{
+	static uint8_t text[20000];
+	struct qrproved_symbol symbol;
+	size_t written;
+	if (qrproved_encode(TEXT, sizeof TEXT - 1, 1, 0, 0, NONE, 0, modules, sizeof modules, &symbol)) {
+		puts("document: not prepared");
+		return 0;
+	}
+	memset(text, MARK, sizeof text), memset(&written, MARK, sizeof written);
+	uint8_t status = qrproved_document(modules, sizeof modules, symbol.side, 1, QRPROVED_PDF, 4, 330, text, sizeof text, &written);
+	tell("document", status, text, sizeof text, &written, sizeof written);
+	return 0;
+}
+
 static int parse_drawing(void)
 {
 	static uint8_t text[20000];
@@ -337,6 +352,41 @@ static int edges(void)
 	want("two squares", qrproved_draw(modules, 882, 21, 2, QRPROVED_ASCII, 0, bytes, 1806, &written) == QRPROVED_DONE && written == 1806);
 	want("no more is drawn", bytes[1805] == '\n' && is_marked(bytes, 1806, sizeof bytes));
 	want("a single dark module", qrproved_draw((const uint8_t *)"\xC8", 1, 1, 1, QRPROVED_ASCII, 0, bytes, 3, &written) == QRPROVED_DONE && !memcmp(bytes, "##\n", 3));
+	memset(bytes, MARK, sizeof bytes), written = 5;
+	want("no modules for an image", qrproved_image(NULL, 0, 21, QRPROVED_PNG, 1, 0, 0, 0, 0, bytes, sizeof bytes, &written) == QRPROVED_ROOM && written == 0);
+	written = 5;
+	want("scale 0", qrproved_image(modules, 441, 21, QRPROVED_PBM, 0, 0, 0, 0, 0, bytes, sizeof bytes, &written) == QRPROVED_SETTINGS);
+	want("scale 257", qrproved_image(modules, 441, 21, QRPROVED_PBM, 257, 0, 0, 0, 0, bytes, sizeof bytes, &written) == QRPROVED_SETTINGS);
+	want("a format that is not known", qrproved_image(modules, 441, 21, 99, 1, 0, 0, 0, 0, bytes, sizeof bytes, &written) == QRPROVED_SETTINGS);
+	want("2^31 pixels a metre", qrproved_image(modules, 441, 21, QRPROVED_PNG, 1, 0, 0x80000000, 0, 0, bytes, sizeof bytes, &written) == QRPROVED_SETTINGS);
+	want("65,536 dots from the left", qrproved_image(modules, 441, 21, QRPROVED_PBM, 1, 0, 0, 65536, 0, bytes, sizeof bytes, &written) == QRPROVED_SETTINGS);
+	want("32,001 dots from above", qrproved_image(modules, 441, 21, QRPROVED_PBM, 1, 0, 0, 0, 32001, bytes, sizeof bytes, &written) == QRPROVED_SETTINGS && written == 5);
+	want("length of an image", qrproved_image(modules, 441, 21, QRPROVED_PBM, 1, 0, 0, 0, 0, NULL, 0, &written) == QRPROVED_ROOM && written == 9 + 3 * 21);
+	want("an image too long by a byte", qrproved_image(modules, 441, 21, QRPROVED_PBM, 1, 0, 0, 0, 0, bytes, 71, &written) == QRPROVED_ROOM && written == 72);
+	want("nothing of an image", is_marked(bytes, 0, sizeof bytes));
+	want("an image", qrproved_image(modules, 441, 21, QRPROVED_PBM, 1, 0, 0, 0, 0, bytes, 72, &written) == QRPROVED_DONE && !memcmp(bytes, "P4\n21 21\n", 9));
+	want("no more than an image", is_marked(bytes, 72, sizeof bytes));
+	memset(bytes, MARK, sizeof bytes);
+	written = 5;
+	memset(bytes, MARK, sizeof bytes);
+	want("no squares for a document", qrproved_document(NULL, 0, 21, 1, QRPROVED_PDF, 0, 1, bytes, sizeof bytes, &written) == QRPROVED_ROOM && written == 0);
+	written = 5;
+	want("17 squares for a document", qrproved_document(modules, 882, 1, 17, QRPROVED_EPS, 0, 1, bytes, sizeof bytes, &written) == QRPROVED_SETTINGS);
+	want("margin 101 of a document", qrproved_document(modules, 882, 21, 2, QRPROVED_EPS, 101, 1, bytes, sizeof bytes, &written) == QRPROVED_SETTINGS);
+	want("format 3", qrproved_document(modules, 882, 21, 2, 3, 0, 1, bytes, sizeof bytes, &written) == QRPROVED_SETTINGS);
+	want("format 2^32 - 1", qrproved_document(modules, 882, 21, 2, UINT32_MAX, 0, 1, bytes, sizeof bytes, &written) == QRPROVED_SETTINGS);
+	want("0 micrometres", qrproved_document(modules, 882, 21, 2, QRPROVED_PDF, 0, 0, bytes, sizeof bytes, &written) == QRPROVED_SETTINGS);
+	want("1,000,001 micrometres", qrproved_document(modules, 882, 21, 2, QRPROVED_PDF, 0, 1000001, bytes, sizeof bytes, &written) == QRPROVED_SETTINGS && written == 5);
+	/* A single dark module of 25,400 micrometres, which is 72 points. */
+	static const char EPS[] = "%!PS-Adobe-3.0 EPSF-3.0\n%%BoundingBox: 0 0 72 72\n%%HiResBoundingBox: 0 0 72.000000 72.000000\n"
+		"%%LanguageLevel: 2\n%%EndComments\ngsave\n72.000000 dup scale\n1 setgray 0 0 1 1 rectfill\n0 setgray\n"
+		"/b { 1 rectfill } bind def\n0 0 1 b\ngrestore\n%%EOF\n";
+	const size_t eps_len = sizeof EPS - 1;
+	want("its length as EPS", qrproved_document((const uint8_t *)"\xC8", 1, 1, 1, QRPROVED_EPS, 0, 25400, NULL, 0, &written) == QRPROVED_ROOM && written == eps_len);
+	want("one byte too short for EPS", qrproved_document((const uint8_t *)"\xC8", 1, 1, 1, QRPROVED_EPS, 0, 25400, bytes, eps_len - 1, &written) == QRPROVED_ROOM && is_marked(bytes, 0, sizeof bytes));
+	want("a module as EPS", qrproved_document((const uint8_t *)"\xC8", 1, 1, 1, QRPROVED_EPS, 0, 25400, bytes, eps_len, &written) == QRPROVED_DONE && !memcmp(bytes, EPS, eps_len));
+	want("no more is written", written == eps_len && is_marked(bytes, eps_len, sizeof bytes));
+	want("the widest module", qrproved_document((const uint8_t *)"\xC8", 1, 1, 1, QRPROVED_SVG_MM, 100, 1000000, bytes, sizeof bytes, &written) == QRPROVED_DONE);
 	struct qrproved_drawn drawn;
 	static uint8_t text[2000], parsed[QRPROVED_SERIES_MAX];
 	memset(parsed, MARK, sizeof parsed), memset(&drawn, MARK, sizeof drawn);
@@ -427,6 +477,8 @@ int main(int argc, char **argv)
 		return mend_symbol();
 	if (!strcmp(what, "draw"))
 		return draw();
+	if (!strcmp(what, "document"))
+		return document();
 	if (!strcmp(what, "parse_drawing"))
 		return parse_drawing();
 	if (!strcmp(what, "encode_eci"))

@@ -43,8 +43,9 @@ static void encode_series(void)
 {
 	struct qrproved_series series;
 	struct qrproved_drawn drawn;
+	static uint8_t document[40000];
 	uint8_t kanji[150];
-	size_t written;
+	size_t written, document_len;
 	for (size_t i = 0; i < sizeof kanji; i++)
 		kanji[i] = i % 2 ? 0x5F : 0x93;
 	want_done("encode_series", qrproved_encode_series(kanji, sizeof kanji, 3, QRPROVED_LEVEL_L, QRPROVED_RULE_WITH_KANJI, 20,
@@ -53,6 +54,10 @@ static void encode_series(void)
 	tell_all("series", modules, (size_t)series.count * series.side * series.side);
 	want_done("draw", qrproved_draw(modules, sizeof modules, series.side, 2, QRPROVED_ASCIIi, 6, text, sizeof text, &written));
 	tell_all("text", text, written);
+	want_done("image", qrproved_image(modules, sizeof modules, series.side, QRPROVED_TSPL, 2, 3, 5, 7, 11, text, sizeof text, &written));
+	tell_all("image", text, written);
+	want_done("document", qrproved_document(modules, sizeof modules, series.side, 2, QRPROVED_EPS, 6, 330, document, sizeof document, &document_len));
+	tell_all("document", document, document_len);
 	want_done("parse_drawing", qrproved_parse_drawing(text, written, parsed, sizeof parsed, &drawn));
 	TELL(drawn.drawing), TELL(drawn.margin), TELL(drawn.count), TELL(drawn.side);
 	tell_all("parsed", parsed, (size_t)drawn.count * drawn.side * drawn.side);

@@ -2,7 +2,7 @@
  *
  * WHAT is `enough` or `least`. Both make symbols of some versions in all levels, rules and interpretations, of the longest inputs of
  * many kinds that fit. Standard input has symbols with as many ECI headers as fit, each as its side and its modules. All are read and
- * mended, drawn in each type and parsed, and series are made.
+ * mended, drawn in each type, written in each format of documents, and parsed, and series are made.
  *
  * `enough` makes each call with exactly as much memory as its macro says, at an odd address, and looks for the least memory with which
  * it succeeds. The macro has to be above that by a tenth. With less, down to none, the call has to return MEMORY and to change nothing
@@ -14,9 +14,9 @@
 #include <string.h>
 
 enum { MARK = 7, MEMORY_MAX = 16000000, TEXT_MAX = 8000000, LEVELS = 4, RULES = 3, DRAWINGS = 4, VERSIONS = 40, KINDS = 12, SHORTER = 12 };
-enum call { ENCODE, SERIES, READ, MEND, DRAW, PARSE, CALLS };
+enum call { ENCODE, SERIES, READ, MEND, DRAW, DOCUMENT, PARSE, CALLS };
 
-static const char *const NAMES[CALLS] = {"encode", "encode_series", "read", "mend", "draw", "parse_drawing"};
+static const char *const NAMES[CALLS] = {"encode", "encode_series", "read", "mend", "draw", "document", "parse_drawing"};
 static const uint32_t INTERPRETATIONS[] = {QRPROVED_INTERPRETATION_DEFAULT, 999999, QRPROVED_INTERPRETATION_GS1};
 
 static uint8_t memory[MEMORY_MAX + 1], input[QRPROVED_BYTES_MAX * 17], modules[QRPROVED_SERIES_MAX], damaged[QRPROVED_SYMBOL_MAX];
@@ -50,6 +50,8 @@ static uint8_t call_with(enum call call, uint8_t *place, size_t len)
 		return qrproved_mend_in(place, len, damaged, area, side, out, QRPROVED_BYTES_MAX, NULL, 0, &told.mended);
 	case DRAW:
 		return qrproved_draw_in(place, len, modules, area * count, side, count, drawing, 4, out, sizeof out, &told.written);
+	case DOCUMENT:
+		return qrproved_document_in(place, len, modules, area * count, side, count, drawing % 3, 4, 330, out, sizeof out, &told.written);
 	default:
 		return qrproved_parse_drawing_in(place, len, text, text_len, out, QRPROVED_SERIES_MAX, &told.drawn);
 	}
@@ -58,7 +60,7 @@ static uint8_t call_with(enum call call, uint8_t *place, size_t len)
 /* The bytes of `out` that a call may write. */
 static size_t room_of(enum call call)
 {
-	const size_t rooms[CALLS] = {QRPROVED_SYMBOL_MAX, QRPROVED_SERIES_MAX, QRPROVED_BYTES_MAX, QRPROVED_BYTES_MAX, TEXT_MAX, QRPROVED_SERIES_MAX};
+	const size_t rooms[CALLS] = {QRPROVED_SYMBOL_MAX, QRPROVED_SERIES_MAX, QRPROVED_BYTES_MAX, QRPROVED_BYTES_MAX, TEXT_MAX, TEXT_MAX, QRPROVED_SERIES_MAX};
 	return rooms[call];
 }
 
@@ -75,6 +77,8 @@ static size_t enough_for(enum call call)
 		return QRPROVED_MEND_MEMORY(version);
 	case DRAW:
 		return QRPROVED_DRAW_MEMORY(drawing, side, count, 4);
+	case DOCUMENT:
+		return QRPROVED_DOCUMENT_MEMORY(side, count);
 	default:
 		return QRPROVED_PARSE_DRAWING_MEMORY(side, count, 4);
 	}
@@ -192,6 +196,7 @@ static void read_and_mend(void)
 static void draw_and_parse(void)
 {
 	for (drawing = 0; drawing < DRAWINGS; drawing++) {
+		try_call(DOCUMENT);
 		try_call(DRAW);
 		call_with(DRAW, memory, MEMORY_MAX);
 		text_len = told.written;

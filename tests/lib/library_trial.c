@@ -75,11 +75,16 @@ static void mend_symbol(uint32_t side, uint32_t wrong)
 	tell("misread", mended.worst_misread), tell("unknown", mended.worst_unknown);
 }
 
-/* Draws squares in each type, parses the drawings, and the last one once more with a changed byte. */
+/* Writes squares as documents in each format, draws them in each type, parses the drawings, and the last one once more with a changed
+ * byte. */
 static void draw_and_parse(uint32_t side, uint32_t count)
 {
 	struct qrproved_drawn drawn;
 	size_t area = (size_t)side * side * count, written = 0;
+	for (uint32_t format = QRPROVED_SVG_MM; format <= QRPROVED_PDF; format++) {
+		tell("document", qrproved_document(modules, area, side, count, format, 4, 330, text, sizeof text, &written));
+		tell("len", written), tell("text", sum_of(text, written));
+	}
 	for (uint32_t drawing = 0; drawing < DRAWINGS; drawing++) {
 		memset(&drawn, 0, sizeof drawn);
 		tell("draw", qrproved_draw(modules, area, side, count, drawing, 4, text, sizeof text, &written));

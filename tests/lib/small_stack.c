@@ -13,7 +13,7 @@
 #include <stdlib.h>
 #include <string.h>
 
-enum { STACK = 16384, VERSIONS = 40, LEVELS = 4, RULES = 3, DRAWINGS = 4 };
+enum { STACK = 16384, VERSIONS = 40, LEVELS = 4, RULES = 3, DRAWINGS = 4, FORMATS = 5 };
 
 /* Digits, capitals, small letters and characters of kanji mode in turn, and the character that separates fields of GS1 data. */
 static const char MIXED[] = "31415926aeiouaAEIOU$%\x93\x5f\xe4\xaa\x1d";
@@ -21,7 +21,7 @@ static const char MIXED[] = "31415926aeiouaAEIOU$%\x93\x5f\xe4\xaa\x1d";
 /* What the calls take and write. Nothing of it is on the stack. */
 static uint8_t input[QRPROVED_BYTES_MAX * 4], modules[QRPROVED_SERIES_MAX], bytes[QRPROVED_BYTES_MAX], text[10000000];
 static size_t input_len, written;
-static uint32_t version, level, rule, interpretation = QRPROVED_INTERPRETATION_DEFAULT, boost, side, count, drawing, most;
+static uint32_t version, level, rule, interpretation = QRPROVED_INTERPRETATION_DEFAULT, boost, side, count, drawing, format, most;
 static struct qrproved_symbol symbol;
 static struct qrproved_series series;
 static struct qrproved_eci ecis[QRPROVED_ECIS_MAX];
@@ -58,6 +58,20 @@ static void *mend(void *none)
 static void *draw(void *none)
 {
 	status = qrproved_draw(modules, (size_t)side * side * count, side, count, drawing, 4, text, sizeof text, &written);
+	return none;
+}
+
+static void *image(void *none)
+{
+	static uint8_t file[60000];
+	size_t length;
+	status = qrproved_image(modules, (size_t)side * side, side, format, 4, 4, 11811, 10, 20, file, sizeof file, &length);
+	return none;
+}
+
+static void *document(void *none)
+{
+	status = qrproved_document(modules, (size_t)side * side * count, side, count, drawing % 3, 4, 330, text, sizeof text, &written);
 	return none;
 }
 
@@ -171,13 +185,17 @@ static void all(void)
 				mend_until_refused(1);
 				mend_until_refused(0);
 				for (drawing = 0, count = 1; drawing < DRAWINGS; drawing++) {
+					want("document", in_small_stack(document), QRPROVED_DONE);
 					want("draw", in_small_stack(draw), QRPROVED_DONE);
 					want("parse", in_small_stack(parse_drawing), QRPROVED_DONE);
 				}
+				for (format = 0; format < FORMATS; format++)
+					want("image", in_small_stack(image), QRPROVED_DONE);
 				input_len *= 3;
 				want("encode_series", in_small_stack(encode_series), QRPROVED_DONE);
 				count = series.count;
 				for (drawing = 0; drawing < DRAWINGS; drawing++) {
+					want("document of a series", in_small_stack(document), QRPROVED_DONE);
 					want("draw a series", in_small_stack(draw), QRPROVED_DONE);
 					want("parse a series", in_small_stack(parse_drawing), QRPROVED_DONE);
 				}
@@ -188,7 +206,7 @@ static int once(const char *name)
 {
 	static const struct { const char *name; void *(*call)(void *); } CALLS[] = {
 		{"encode", encode}, {"encode_series", encode_series}, {"read", read_symbol}, {"mend", mend}, {"draw", draw},
-		{"parse_drawing", parse_drawing}, {"room", room}};
+		{"document", document}, {"image", image}, {"parse_drawing", parse_drawing}, {"room", room}};
 	written = fread(text, 1, sizeof text, stdin);
 	memcpy(modules, text, written < sizeof modules ? written : sizeof modules);
 	while (side * side < written)

@@ -61,6 +61,16 @@ COUNT_WIDTHS = {1: (10, 12, 14), 2: (9, 11, 13), 4: (8, 16, 16), 8: (8, 10, 12)}
 CHARACTERS = b"0123456789ABCDEFGHIJKLMNOPQRSTUVWXYZ $%*+-./:"
 
 
+def picture(square, side, scale, margin):
+    """Returns the lines of the picture of a square in which a module is `scale` pixels wide. A line is bytes, of which the left pixel is
+    the highest bit, and 1 is black."""
+    edge, light, width = ["0" * (side + 2 * margin)] * margin, "0" * margin, scale * (side + 2 * margin)
+    rows = ["".join(map(str, square[at:at + side])) for at in range(0, side ** 2, side)]
+    pixels = ["".join(module * scale for module in row) for row in [*edge, *(light + row + light for row in rows), *edge]]
+    packed = [(int(row, 2) << -width % 8).to_bytes(-(-width // 8), "big") for row in pixels]
+    return [line for line in packed for _ in range(scale)]
+
+
 def bits_below(word, divisor):
     """Returns the word, and in its low bits the remainder of its division by `divisor`, as polynomials over the field
     of two elements."""
