@@ -61,6 +61,9 @@ static __attribute__((noinline)) void mark(void)
 		below[i] = MARK;
 }
 
+/* Paper with one label on each sheet. */
+static const struct qrproved_sheet PAPER = {100000, 100000, 0, 0, 0, 0, 1, 1, 0};
+
 static __attribute__((noinline)) void make(void)
 {
 	struct qrproved_symbol symbol;
@@ -80,6 +83,8 @@ static __attribute__((noinline)) void make(void)
 		status = qrproved_draw(input, input_len, number, (uint32_t)(input_len / number / number), level, 4, out, sizeof out, &written);
 	else if (!strcmp(call, "document"))
 		status = qrproved_document(input, input_len, number, (uint32_t)(input_len / number / number), level % 3, 4, 330, out, sizeof out, &written);
+	else if (!strcmp(call, "sheets"))
+		status = qrproved_sheets(input, input_len, number, (uint32_t)(input_len / number / number), 4, 330, &PAPER, out, sizeof out, &written);
 	else if (!strcmp(call, "parse_drawing"))
 		status = qrproved_parse_drawing(input, input_len, out, sizeof out, &drawn);
 	else if (!strcmp(call, "room"))

@@ -42,6 +42,8 @@ extern "C" {
                                     * bits of data, and each header takes at least 12 of them */
 #define QRPROVED_MARGIN_MAX 100    /* the widest light margin on each side of a drawing or an image, in modules */
 #define QRPROVED_SCALE_MAX 100     /* the most pixels of a module on each side of an image */
+#define QRPROVED_LABELS_MAX 10000  /* squares in a document of labels */
+#define QRPROVED_PAPER_MAX 2000000 /* the widest and highest paper, in micrometres */
 #define QRPROVED_PLACE_MAX 32000   /* how far an image may be from an edge of a label, in dots of the printer */
 #define QRPROVED_WRONG_FORMAT_MAX 3 /* wrong modules of a copy of the format information that a scanner can correct */
 
@@ -97,7 +99,7 @@ extern "C" {
 
 /* The statuses, of which each call except qrproved_version returns one. The comment at each call has the exact causes of its
  * statuses, in the order in which the call checks them. On every status but 0 the caller's buffers and struct are unchanged;
- * but on ROOM qrproved_draw, qrproved_document and qrproved_image set the number `written`. Later versions may add statuses, and
+ * but on ROOM qrproved_draw, qrproved_document, qrproved_sheets and qrproved_image set the number `written`. Later versions may add statuses, and
  * do not change the meaning of these. */
 #define QRPROVED_DONE 0     /* the result is written */
 #define QRPROVED_EMPTY 1    /* the input has no byte */
@@ -194,6 +196,19 @@ struct qrproved_drawn {
 	uint8_t side;    /* modules on a side of each square, from 8 to 177 */
 };
 
+/* Label paper, for qrproved_sheets. All lengths are in micrometres, of which a millimetre has 1,000. */
+struct qrproved_sheet {
+	uint32_t width;   /* width of the paper, at most QRPROVED_PAPER_MAX */
+	uint32_t height;  /* height of the paper, at most QRPROVED_PAPER_MAX */
+	uint32_t left;    /* how far the first place is from the left edge of the paper */
+	uint32_t top;     /* how far the first place is from the upper edge of the paper */
+	uint32_t across;  /* how far it is from the left edge of a place to that of the next place in its row */
+	uint32_t down;    /* how far it is from the upper edge of a place to that of the next place in its column */
+	uint32_t columns; /* number of columns of places, from 1 to 100 */
+	uint32_t rows;    /* number of rows of places, from 1 to 100 */
+	uint32_t first;   /* how many places of the first page stay free, less than columns times rows */
+};
+
 /* Checks of the sizes and offsets of the structs, on which the compiled calls depend. */
 #if defined(__cplusplus) && __cplusplus >= 201103L
 #define QRPROVED_HOLDS(fact) static_assert(fact, #fact)
@@ -252,14 +267,26 @@ QRPROVED_HOLDS(offsetof(struct qrproved_drawn, drawing) == 0);
 QRPROVED_HOLDS(offsetof(struct qrproved_drawn, margin) == 1);
 QRPROVED_HOLDS(offsetof(struct qrproved_drawn, count) == 2);
 QRPROVED_HOLDS(offsetof(struct qrproved_drawn, side) == 3);
+QRPROVED_HOLDS(sizeof(struct qrproved_sheet) == 36);
+QRPROVED_HOLDS(offsetof(struct qrproved_sheet, width) == 0);
+QRPROVED_HOLDS(offsetof(struct qrproved_sheet, height) == 4);
+QRPROVED_HOLDS(offsetof(struct qrproved_sheet, left) == 8);
+QRPROVED_HOLDS(offsetof(struct qrproved_sheet, top) == 12);
+QRPROVED_HOLDS(offsetof(struct qrproved_sheet, across) == 16);
+QRPROVED_HOLDS(offsetof(struct qrproved_sheet, down) == 20);
+QRPROVED_HOLDS(offsetof(struct qrproved_sheet, columns) == 24);
+QRPROVED_HOLDS(offsetof(struct qrproved_sheet, rows) == 28);
+QRPROVED_HOLDS(offsetof(struct qrproved_sheet, first) == 32);
 #undef QRPROVED_HOLDS
 
 /* The caller has to use the result of a call, and may not pass NULL as the pointer to a struct or to a number. Compilers that
- * know the attributes of QRPROVED_CALL warn of a call that breaks one of these rules. */
+ * know the attributes of QRPROVED_CALL and QRPROVED_CALL_2 warn of a call that breaks one of these rules. */
 #if defined(__GNUC__)
 #define QRPROVED_CALL(pointer) __attribute__((warn_unused_result, nonnull(pointer)))
+#define QRPROVED_CALL_2(one, other) __attribute__((warn_unused_result, nonnull(one, other)))
 #else
 #define QRPROVED_CALL(pointer)
+#define QRPROVED_CALL_2(one, other)
 #endif
 
 /* Returns the version of the library that was linked, in the form of QRPROVED_VERSION_NUMBER. (The macro is the version of
@@ -487,6 +514,34 @@ QRPROVED_CALL(10)
 uint8_t qrproved_document(const uint8_t *modules, size_t modules_len, uint32_t side, uint32_t count, uint32_t format,
                           uint32_t margin, uint32_t micrometres, uint8_t *text, size_t text_len, size_t *written);
 
+/* Writes squares of modules as labels on sheets of label paper: a PDF document, in which each page is as large as the paper. The
+ * squares all have the same side. A label is a square with its margin. The first `first` places of the first page stay free. Then
+ * each place has the next label, row by row from the upper left, and the label's upper left corner is that of the place. There are as
+ * many pages as the labels need. The buffers are as in qrproved_draw.
+ *
+ * side         number of modules on a side, from 1 to 177
+ * count        number of squares, from 1 to QRPROVED_LABELS_MAX
+ * margin       number of light modules on each side of each square, from 0 to QRPROVED_MARGIN_MAX; a scanner needs 4
+ * micrometres  width of a module in micrometres, from 1 to 1,000,000
+ * sheet        the paper. A label has to be on the paper in each place, also in places that stay free. With more than one column it may
+ *              not be wider than `across`, and with more than one row not higher than `down`, so that no label covers another
+ * text         the buffer for the document; it may be NULL if text_len is 0, to ask only for the length of the document
+ * written      on DONE, and on ROOM because of text_len, the call sets it to the length of the document; on ROOM because of
+ *              modules_len it sets it to 0; on every other status it is unchanged
+ *
+ * Returns the first of these statuses whose cause applies:
+ *   SETTINGS  side, count, margin, micrometres or a number of the sheet is out of its range, or a label does not fit its place
+ *   ROOM      modules_len is less than count times side times side
+ *   ROOM      text_len is less than the length of the document
+ *   DONE      the call succeeded
+ * If memory is refused, the call returns MEMORY in place of any status after the first ROOM. The call makes the document in
+ * memory that it allocates, and copies it to the buffer `text` when it is complete.
+ */
+QRPROVED_CALL_2(7, 10)
+uint8_t qrproved_sheets(const uint8_t *modules, size_t modules_len, uint32_t side, uint32_t count, uint32_t margin,
+                        uint32_t micrometres, const struct qrproved_sheet *sheet, uint8_t *text, size_t text_len,
+                        size_t *written);
+
 /* Parses a drawing, and writes the modules of its squares: modules[(k * side + row) * side + column] is the module of square
  * k in this row and column, where the first square has the number 0. In this order qrproved_read and qrproved_mend take the
  * modules of one square, and qrproved_draw those of all squares. Bytes of the buffer after the last module are unchanged.
@@ -555,6 +610,7 @@ uint8_t qrproved_room(uint32_t version, uint32_t level, uint32_t mode, uint32_t 
 #define QRPROVED_DRAW_MEMORY(drawing, side, count, margin) \
 	(3000 + (size_t)(count) * ((drawing) == QRPROVED_SVG ? 18 * (size_t)(side) * (side) : 5 * QRPROVED_AREA(side, margin)))
 #define QRPROVED_DOCUMENT_MEMORY(side, count) (5000 + (size_t)(count) * (1500 + 18 * (size_t)(side) * (side)))
+#define QRPROVED_SHEETS_MEMORY(side, count) (5000 + (size_t)(count) * (1500 + 18 * (size_t)(side) * (side)))
 #define QRPROVED_PARSE_DRAWING_MEMORY(side, count, margin) \
 	(4500 + (size_t)(count) * (16 * (size_t)(side) * (side) + 4 * QRPROVED_AREA(side, margin)))
 #define QRPROVED_AREA(side, margin) (((size_t)(side) + 2 * (size_t)(margin)) * ((size_t)(side) + 2 * (size_t)(margin)))
@@ -581,12 +637,17 @@ QRPROVED_CALL(12)
 uint8_t qrproved_document_in(void *memory, size_t memory_len, const uint8_t *modules, size_t modules_len, uint32_t side,
                              uint32_t count, uint32_t format, uint32_t margin, uint32_t micrometres, uint8_t *text,
                              size_t text_len, size_t *written);
+QRPROVED_CALL_2(9, 12)
+uint8_t qrproved_sheets_in(void *memory, size_t memory_len, const uint8_t *modules, size_t modules_len, uint32_t side,
+                           uint32_t count, uint32_t margin, uint32_t micrometres, const struct qrproved_sheet *sheet,
+                           uint8_t *text, size_t text_len, size_t *written);
 QRPROVED_CALL(7)
 uint8_t qrproved_parse_drawing_in(void *memory, size_t memory_len, const uint8_t *text, size_t text_len, uint8_t *modules,
                                   size_t modules_len, struct qrproved_drawn *drawn);
 #endif
 
 #undef QRPROVED_CALL
+#undef QRPROVED_CALL_2
 
 #ifdef __cplusplus
 }

@@ -152,6 +152,23 @@ static uint8_t document_by(struct heap *heap, const uint8_t *modules, size_t mod
 	return status;
 }
 
+/* The numbers of a struct are read with the lowest byte first. */
+static uint8_t sheets_by(struct heap *heap, const uint8_t *modules, size_t modules_len, uint32_t side, uint32_t count, uint32_t margin,
+                         uint32_t micrometres, const struct qrproved_sheet *sheet, uint8_t *text, size_t text_len, size_t *written)
+{
+	union slot len = {{0}};
+	struct qrproved_sheet turned = *sheet;
+	uint8_t status;
+	if (!IS_LITTLE) {
+		turn_32(&turned.width), turn_32(&turned.height), turn_32(&turned.left), turn_32(&turned.top), turn_32(&turned.across);
+		turn_32(&turned.down), turn_32(&turned.columns), turn_32(&turned.rows), turn_32(&turned.first);
+	}
+	status = m_qrproved_sheets(heap, BYTES(modules), modules_len, side, count, margin, micrometres, BYTES(&turned), text, text_len, len.b);
+	if (status == QRPROVED_DONE || status == QRPROVED_ROOM)
+		*written = (size_t)load_64(len.b);
+	return status;
+}
+
 uint32_t qrproved_version(void) { return m_qrproved_version(); }
 
 /* The call takes no memory. */
@@ -220,6 +237,14 @@ uint8_t qrproved_document_in(void *memory, size_t memory_len, const uint8_t *mod
 	return document_by(&heap, modules, modules_len, side, count, format, margin, micrometres, text, text_len, written);
 }
 
+uint8_t qrproved_sheets_in(void *memory, size_t memory_len, const uint8_t *modules, size_t modules_len, uint32_t side, uint32_t count,
+                           uint32_t margin, uint32_t micrometres, const struct qrproved_sheet *sheet, uint8_t *text, size_t text_len,
+                           size_t *written)
+{
+	struct heap heap = heap_of(memory, memory_len);
+	return sheets_by(&heap, modules, modules_len, side, count, margin, micrometres, sheet, text, text_len, written);
+}
+
 uint8_t qrproved_parse_drawing_in(void *memory, size_t memory_len, const uint8_t *text, size_t text_len, uint8_t *modules,
                                   size_t modules_len, struct qrproved_drawn *drawn)
 {
@@ -272,6 +297,13 @@ uint8_t qrproved_document(const uint8_t *modules, size_t modules_len, uint32_t s
 {
 	struct heap heap = SYSTEM;
 	return document_by(&heap, modules, modules_len, side, count, format, margin, micrometres, text, text_len, written);
+}
+
+uint8_t qrproved_sheets(const uint8_t *modules, size_t modules_len, uint32_t side, uint32_t count, uint32_t margin, uint32_t micrometres,
+                        const struct qrproved_sheet *sheet, uint8_t *text, size_t text_len, size_t *written)
+{
+	struct heap heap = SYSTEM;
+	return sheets_by(&heap, modules, modules_len, side, count, margin, micrometres, sheet, text, text_len, written);
 }
 
 uint8_t qrproved_parse_drawing(const uint8_t *text, size_t text_len, uint8_t *modules, size_t modules_len, struct qrproved_drawn *drawn)

@@ -104,6 +104,10 @@ class Mended(ctypes.Structure):
                           "spent_most", "worst_misread", "worst_unknown", "worst_unknown_wrong")]
 
 
+class Sheet(ctypes.Structure):
+    _fields_ = [(name, ctypes.c_uint32) for name in ("width", "height", "left", "top", "across", "down", "columns", "rows", "first")]
+
+
 class Drawn(ctypes.Structure):
     _fields_ = bytes_of("drawing", "margin", "count", "side")
 
@@ -118,6 +122,7 @@ PARAMETERS = {
     "qrproved_draw": BUFFER + NUMBER * 4 + BUFFER + POINTER,
     "qrproved_image": BUFFER + NUMBER * 7 + BUFFER + POINTER,
     "qrproved_document": BUFFER + NUMBER * 5 + BUFFER + POINTER,
+    "qrproved_sheets": BUFFER + NUMBER * 4 + POINTER + BUFFER + POINTER,
     "qrproved_parse_drawing": INPUT + BUFFER + POINTER,
     "qrproved_room": NUMBER * 5 + POINTER,
 }
@@ -187,6 +192,18 @@ class Library:
             return STATUSES[status]
         text = (ctypes.c_uint8 * written.value)()
         status = self.library.qrproved_document(*asked, text, len(text), ctypes.byref(written))
+        return bytes(text) if STATUSES[status] == "DONE" and written.value == len(text) else STATUSES[status]
+
+    def sheets(self, squares, side, margin, micrometres, sheet):
+        """Returns the document of labels, whose length the library is first asked for, or a status. `sheet` has the numbers of the
+        paper by their names."""
+        asked = b"".join(squares), sum(map(len, squares)), side, len(squares), margin, micrometres, ctypes.byref(Sheet(**sheet))
+        written = ctypes.c_size_t(MARK)
+        status = self.library.qrproved_sheets(*asked, None, 0, ctypes.byref(written))
+        if STATUSES[status] != "ROOM":
+            return STATUSES[status]
+        text = (ctypes.c_uint8 * written.value)()
+        status = self.library.qrproved_sheets(*asked, text, len(text), ctypes.byref(written))
         return bytes(text) if STATUSES[status] == "DONE" and written.value == len(text) else STATUSES[status]
 
     def image(self, square, side, format, scale, margin, pixels_a_metre=0, left=0, top=0):

@@ -109,6 +109,24 @@ static int document(void)
 	return 0;
 }
 
+/* A paper of one column and one row, which a symbol of version 1 with a margin of 4 and modules of 330 micrometres fits. */
+static const struct qrproved_sheet PAPER = {10000, 10000, 0, 0, 0, 0, 1, 1, 0};
+
+static int sheets(void)
+{
+	static uint8_t text[20000];
+	struct qrproved_symbol symbol;
+	size_t written;
+	if (qrproved_encode(TEXT, sizeof TEXT - 1, 1, 0, 0, NONE, 0, modules, sizeof modules, &symbol)) {
+		puts("sheets: not prepared");
+		return 0;
+	}
+	memset(text, MARK, sizeof text), memset(&written, MARK, sizeof written);
+	uint8_t status = qrproved_sheets(modules, sizeof modules, symbol.side, 1, 0, 330, &PAPER, text, sizeof text, &written);
+	tell("sheets", status, text, sizeof text, &written, sizeof written);
+	return 0;
+}
+
 static int parse_drawing(void)
 {
 	static uint8_t text[20000];
@@ -387,6 +405,24 @@ static int edges(void)
 	want("a module as EPS", qrproved_document((const uint8_t *)"\xC8", 1, 1, 1, QRPROVED_EPS, 0, 25400, bytes, eps_len, &written) == QRPROVED_DONE && !memcmp(bytes, EPS, eps_len));
 	want("no more is written", written == eps_len && is_marked(bytes, eps_len, sizeof bytes));
 	want("the widest module", qrproved_document((const uint8_t *)"\xC8", 1, 1, 1, QRPROVED_SVG_MM, 100, 1000000, bytes, sizeof bytes, &written) == QRPROVED_DONE);
+	struct qrproved_sheet paper = PAPER;
+	memset(bytes, MARK, sizeof bytes);
+	written = 5;
+	want("no squares for labels", qrproved_sheets(NULL, 0, 21, 1, 0, 330, &PAPER, bytes, sizeof bytes, &written) == QRPROVED_ROOM && written == 0);
+	written = 5;
+	want("10,001 labels", qrproved_sheets(modules, 882, 1, 10001, 0, 330, &PAPER, bytes, sizeof bytes, &written) == QRPROVED_SETTINGS);
+	want("margin 101 of a label", qrproved_sheets(modules, 882, 21, 1, 101, 1, &PAPER, bytes, sizeof bytes, &written) == QRPROVED_SETTINGS);
+	want("a label of 0 micrometres", qrproved_sheets(modules, 882, 21, 1, 0, 0, &PAPER, bytes, sizeof bytes, &written) == QRPROVED_SETTINGS);
+	want("a label of the paper's width", qrproved_sheets(modules, 882, 20, 1, 0, 500, &PAPER, NULL, 0, &written) == QRPROVED_ROOM && written != 0);
+	written = 5;
+	want("a label wider than the paper", qrproved_sheets(modules, 882, 20, 1, 0, 501, &PAPER, bytes, sizeof bytes, &written) == QRPROVED_SETTINGS);
+	paper.columns = UINT32_MAX;
+	want("2^32 - 1 columns", qrproved_sheets(modules, 882, 21, 1, 0, 330, &paper, bytes, sizeof bytes, &written) == QRPROVED_SETTINGS);
+	paper.columns = 2, paper.across = UINT32_MAX;
+	want("2^32 - 1 micrometres to the next label", qrproved_sheets(modules, 882, 21, 1, 0, 330, &paper, bytes, sizeof bytes, &written) == QRPROVED_SETTINGS);
+	paper = PAPER, paper.first = 1;
+	want("all places free", qrproved_sheets(modules, 882, 21, 1, 0, 330, &paper, bytes, sizeof bytes, &written) == QRPROVED_SETTINGS && written == 5);
+	want("nothing of a label", is_marked(bytes, 0, sizeof bytes));
 	struct qrproved_drawn drawn;
 	static uint8_t text[2000], parsed[QRPROVED_SERIES_MAX];
 	memset(parsed, MARK, sizeof parsed), memset(&drawn, MARK, sizeof drawn);
@@ -479,6 +515,8 @@ int main(int argc, char **argv)
 		return draw();
 	if (!strcmp(what, "document"))
 		return document();
+	if (!strcmp(what, "sheets"))
+		return sheets();
 	if (!strcmp(what, "parse_drawing"))
 		return parse_drawing();
 	if (!strcmp(what, "encode_eci"))

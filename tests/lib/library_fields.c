@@ -58,6 +58,11 @@ static void encode_series(void)
 	tell_all("image", text, written);
 	want_done("document", qrproved_document(modules, sizeof modules, series.side, 2, QRPROVED_EPS, 6, 330, document, sizeof document, &document_len));
 	tell_all("document", document, document_len);
+	const struct qrproved_sheet sheet = {60000, 50000, 1000, 2000, 20000, 15000, 2, 3, 5};
+	want_done("sheets", qrproved_sheets(modules, sizeof modules, series.side, 2, 6, 330, &sheet, document, sizeof document, &document_len));
+	TELL(sheet.width), TELL(sheet.height), TELL(sheet.left), TELL(sheet.top), TELL(sheet.across), TELL(sheet.down);
+	TELL(sheet.columns), TELL(sheet.rows), TELL(sheet.first);
+	tell_all("sheets", document, document_len);
 	want_done("parse_drawing", qrproved_parse_drawing(text, written, parsed, sizeof parsed, &drawn));
 	TELL(drawn.drawing), TELL(drawn.margin), TELL(drawn.count), TELL(drawn.side);
 	tell_all("parsed", parsed, (size_t)drawn.count * drawn.side * drawn.side);

@@ -14,10 +14,13 @@
 #include <string.h>
 
 enum { MARK = 7, MEMORY_MAX = 16000000, TEXT_MAX = 8000000, LEVELS = 4, RULES = 3, DRAWINGS = 4, VERSIONS = 40, KINDS = 12, SHORTER = 12 };
-enum call { ENCODE, SERIES, READ, MEND, DRAW, DOCUMENT, PARSE, CALLS };
+enum call { ENCODE, SERIES, READ, MEND, DRAW, DOCUMENT, SHEETS, PARSE, CALLS };
 
-static const char *const NAMES[CALLS] = {"encode", "encode_series", "read", "mend", "draw", "document", "parse_drawing"};
+static const char *const NAMES[CALLS] = {"encode", "encode_series", "read", "mend", "draw", "document", "sheets", "parse_drawing"};
 static const uint32_t INTERPRETATIONS[] = {QRPROVED_INTERPRETATION_DEFAULT, 999999, QRPROVED_INTERPRETATION_GS1};
+
+/* Paper with one label on each sheet. */
+static const struct qrproved_sheet PAPER = {100000, 100000, 0, 0, 0, 0, 1, 1, 0};
 
 static uint8_t memory[MEMORY_MAX + 1], input[QRPROVED_BYTES_MAX * 17], modules[QRPROVED_SERIES_MAX], damaged[QRPROVED_SYMBOL_MAX];
 static uint8_t out[TEXT_MAX], text[TEXT_MAX], kept[TEXT_MAX];
@@ -52,6 +55,8 @@ static uint8_t call_with(enum call call, uint8_t *place, size_t len)
 		return qrproved_draw_in(place, len, modules, area * count, side, count, drawing, 4, out, sizeof out, &told.written);
 	case DOCUMENT:
 		return qrproved_document_in(place, len, modules, area * count, side, count, drawing % 3, 4, 330, out, sizeof out, &told.written);
+	case SHEETS:
+		return qrproved_sheets_in(place, len, modules, area * count, side, count, 4, 330, &PAPER, out, sizeof out, &told.written);
 	default:
 		return qrproved_parse_drawing_in(place, len, text, text_len, out, QRPROVED_SERIES_MAX, &told.drawn);
 	}
@@ -60,7 +65,7 @@ static uint8_t call_with(enum call call, uint8_t *place, size_t len)
 /* The bytes of `out` that a call may write. */
 static size_t room_of(enum call call)
 {
-	const size_t rooms[CALLS] = {QRPROVED_SYMBOL_MAX, QRPROVED_SERIES_MAX, QRPROVED_BYTES_MAX, QRPROVED_BYTES_MAX, TEXT_MAX, TEXT_MAX, QRPROVED_SERIES_MAX};
+	const size_t rooms[CALLS] = {QRPROVED_SYMBOL_MAX, QRPROVED_SERIES_MAX, QRPROVED_BYTES_MAX, QRPROVED_BYTES_MAX, TEXT_MAX, TEXT_MAX, TEXT_MAX, QRPROVED_SERIES_MAX};
 	return rooms[call];
 }
 
@@ -79,6 +84,8 @@ static size_t enough_for(enum call call)
 		return QRPROVED_DRAW_MEMORY(drawing, side, count, 4);
 	case DOCUMENT:
 		return QRPROVED_DOCUMENT_MEMORY(side, count);
+	case SHEETS:
+		return QRPROVED_SHEETS_MEMORY(side, count);
 	default:
 		return QRPROVED_PARSE_DRAWING_MEMORY(side, count, 4);
 	}
@@ -197,6 +204,7 @@ static void draw_and_parse(void)
 {
 	for (drawing = 0; drawing < DRAWINGS; drawing++) {
 		try_call(DOCUMENT);
+		try_call(SHEETS);
 		try_call(DRAW);
 		call_with(DRAW, memory, MEMORY_MAX);
 		text_len = told.written;

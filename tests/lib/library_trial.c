@@ -10,6 +10,9 @@
 
 enum { INPUT_MAX = 20000, TEXT_MAX = 7000000, ECIS = 3, LEVELS = 4, DRAWINGS = 4, SERIES_VERSIONS = 20, EDGES = 8 };
 
+/* Paper with three columns and two rows of labels, of which the first four stay free. */
+static const struct qrproved_sheet PAPER = {200000, 150000, 1000, 2000, 62000, 63000, 3, 2, 4};
+
 static uint8_t input[INPUT_MAX], modules[QRPROVED_SERIES_MAX], again[QRPROVED_SERIES_MAX], bytes[QRPROVED_BYTES_MAX], text[TEXT_MAX];
 
 /* SplitMix64, a generator of numbers that look random. */
@@ -85,6 +88,8 @@ static void draw_and_parse(uint32_t side, uint32_t count)
 		tell("document", qrproved_document(modules, area, side, count, format, 4, 330, text, sizeof text, &written));
 		tell("len", written), tell("text", sum_of(text, written));
 	}
+	tell("sheets", qrproved_sheets(modules, area, side, count, 4, 330, &PAPER, text, sizeof text, &written));
+	tell("len", written), tell("text", sum_of(text, written));
 	for (uint32_t drawing = 0; drawing < DRAWINGS; drawing++) {
 		memset(&drawn, 0, sizeof drawn);
 		tell("draw", qrproved_draw(modules, area, side, count, drawing, 4, text, sizeof text, &written));

@@ -75,6 +75,14 @@ static void *document(void *none)
 	return none;
 }
 
+/* A paper with one label, which is as wide as a symbol of version 40 with its margin at most. */
+static void *sheets(void *none)
+{
+	static const struct qrproved_sheet PAPER = {100000, 100000, 0, 0, 0, 0, 1, 1, 0};
+	status = qrproved_sheets(modules, (size_t)side * side * count, side, count, 4, 330, &PAPER, text, sizeof text, &written);
+	return none;
+}
+
 static void *parse_drawing(void *none)
 {
 	static uint8_t shown[QRPROVED_SERIES_MAX];
@@ -186,6 +194,7 @@ static void all(void)
 				mend_until_refused(0);
 				for (drawing = 0, count = 1; drawing < DRAWINGS; drawing++) {
 					want("document", in_small_stack(document), QRPROVED_DONE);
+					want("sheets", in_small_stack(sheets), QRPROVED_DONE);
 					want("draw", in_small_stack(draw), QRPROVED_DONE);
 					want("parse", in_small_stack(parse_drawing), QRPROVED_DONE);
 				}
@@ -206,7 +215,7 @@ static int once(const char *name)
 {
 	static const struct { const char *name; void *(*call)(void *); } CALLS[] = {
 		{"encode", encode}, {"encode_series", encode_series}, {"read", read_symbol}, {"mend", mend}, {"draw", draw},
-		{"document", document}, {"image", image}, {"parse_drawing", parse_drawing}, {"room", room}};
+		{"document", document}, {"sheets", sheets}, {"image", image}, {"parse_drawing", parse_drawing}, {"room", room}};
 	written = fread(text, 1, sizeof text, stdin);
 	memcpy(modules, text, written < sizeof modules ? written : sizeof modules);
 	while (side * side < written)

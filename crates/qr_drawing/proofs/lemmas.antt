@@ -5,3 +5,4 @@ pub mod measures
 pub mod boxes
 pub mod documents
 pub mod pdf
+pub mod sheets

@@ -4,7 +4,7 @@ use Rattle.std.specs.Prelude.{◌≡◌, ℕ, ◌+◌, ◌*◌, ◌<◌, List, [
 use Rattle.qr_matrix.specs.Grid.{Grid}
 use Rattle.qr_matrix.specs.Raster.{raster_width}
 use Rattle.qr_drawing.specs.Document.{opening_start, size_in_mm, sized_svg}
-use Rattle.qr_drawing.specs.Pdf.{object, objects_below, pdf_document}
+use Rattle.qr_drawing.specs.Pdf.{Pages, document_of_pages, object, object_count, objects_below}
 use Rattle.qr_drawing.specs.Svg.{declaration, square_at, svg_document}
 use Rattle.qr_drawing.specs.Text.{ascii_module, half_blocks, line_count}
 use Rattle.qr_drawing.specs.declared.text.TextStyle.TheVariants.{HalfBlocks}
@@ -26,10 +26,9 @@ abbrev pub Contains : ℕ → List ℕ → List ℕ → Type 0
 Contains place text document = (before after : List ℕ) × (document ≡ before ++ (text ++ after)) × (length before ≡ place)
 
 -- Each object of a PDF document begins where the table says, and the table begins where the trailer says [own]
-pub record HasItsPlaces (micrometres margin : ℕ) (squares : List Grid) : Type 0 where
-  pub objects : (i : ℕ) → i < 2 + 2 * length squares
-      → Contains (length (objects_below micrometres margin squares i)) (object micrometres margin squares i) (pdf_document micrometres margin squares)
-  pub table : Contains (length (objects_below micrometres margin squares (2 + 2 * length squares))) (codes "xref\n0 ") (pdf_document micrometres margin squares)
+pub record HasItsPlaces (p : Pages) : Type 0 where
+  pub objects : (i : ℕ) → i < object_count p → Contains (length (objects_below p i)) (object p i) (document_of_pages p)
+  pub table : Contains (length (objects_below p (object_count p))) (codes "xref\n0 ") (document_of_pages p)
 
 -- An SVG document with a size is the SVG document without it, in which the size was put after the beginning of the line
 -- that opens the document [own]

@@ -6,6 +6,7 @@ pub mod Measures
 pub mod Boxes
 pub mod Eps
 pub mod Pdf
+pub mod Sheets
 pub mod Document
 pub mod Laws
 pub mod Steps

@@ -1,5 +1,6 @@
--- The PDF document of symbols, with a page for each. A module is `micrometres` micrometres wide and high. The document
--- consists of a header, objects, a table of the places of these objects, and a trailer (ISO 32000-1, 7.5).
+-- PDF documents. Such a document consists of a header, objects, a table of the places of these objects, and a trailer
+-- (ISO 32000-1, 7.5). A length on paper is given in micrometres, and so is `micrometres`, the width of a module, which
+-- is also its height.
 use Rattle.std.specs.Prelude.{ℕ, ◌+◌, ◌-◌, ◌*◌, ◌/◌, ◌%◌, ◌==◌, if◌then◌else◌, List, ◌++◌, codes, decimal, length}
 use Rattle.qr_matrix.specs.Grid.{Grid}
 use Rattle.qr_matrix.specs.Raster.{raster_width}
@@ -7,6 +8,14 @@ use Rattle.qr_drawing.specs.Boxes.{symbol_lines}
 use Rattle.qr_drawing.specs.Measures.{last_digits, points}
 use Rattle.qr_drawing.specs.Raster.{texts_below}
 use Rattle.qr_drawing.specs.Svg.{numbered, square_at}
+
+-- The pages of a document: how many there are, how wide and high each is, and the commands that draw it. The pages are
+-- counted from 0 [own]
+pub record Pages : Type 0 where
+  pub count : ℕ
+  pub width : ℕ → ℕ
+  pub height : ℕ → ℕ
+  pub commands : ℕ → List ℕ
 
 -- The first line, which names the version of PDF (ISO 32000-1, 7.5.2)
 unfoldable pub pdf_header : List ℕ
@@ -23,23 +32,11 @@ page_tree pages =
     codes "<</Type/Pages/Kids[3 0 R" ++ texts_below (pages - 1) (λ k. numbered (codes " ") (5 + 2 * k) ++ codes " 0 R")
     ++ numbered (codes "]/Count ") pages ++ codes ">>"
 
--- A page that is as large as the raster, and whose content is the object with the number `content` (ISO 32000-1,
--- 7.7.3.3)
+-- A page of this size, whose content is the object with the number `content` (ISO 32000-1, 7.7.3.3)
 unfoldable pub page : ℕ → ℕ → ℕ → List ℕ
-page micrometres width content =
-    codes "<</Type/Page/Parent 2 0 R/MediaBox[0 0 " ++ points (width * micrometres) ++ codes " " ++ points (width * micrometres)
+page width height content =
+    codes "<</Type/Page/Parent 2 0 R/MediaBox[0 0 " ++ points width ++ codes " " ++ points height
     ++ numbered (codes "]/Resources<<>>/Contents ") content ++ codes " 0 R>>"
-
--- The commands that make a module the unit and the page white, and choose black (ISO 32000-1, 8.3.4, 8.5.2, 8.6.8)
-unfoldable pub page_start : ℕ → ℕ → List ℕ
-page_start micrometres width =
-    points micrometres ++ codes " 0 0 " ++ points micrometres ++ numbered (codes " 0 0 cm\n1 g 0 0 ") width
-    ++ numbered (codes " ") width ++ codes " re f\n0 g\n"
-
--- The content of a page: the boxes of a symbol, which are filled together (ISO 32000-1, 8.5.3.1)
-unfoldable pub page_content : ℕ → ℕ → Grid → List ℕ
-page_content micrometres margin g =
-    page_start micrometres (raster_width margin g) ++ symbol_lines (codes " 1 re\n") 0 margin g ++ codes "f\n"
 
 -- What comes before the bytes of a stream that has `length` bytes (ISO 32000-1, 7.3.8)
 unfoldable pub stream_start : ℕ → List ℕ
@@ -50,11 +47,11 @@ unfoldable pub stream : List ℕ → List ℕ
 stream text = stream_start (length text) ++ text ++ codes "endstream"
 
 -- What the object with the index `i`, counted from 0, contains. Its number is `i + 1` [own]
-unfoldable pub object_content : ℕ → ℕ → List Grid → ℕ → List ℕ
-object_content micrometres margin squares i =
-    let g = square_at squares ((i - 2) / 2) in
-    if i == 0 then catalog else (if i == 1 then page_tree (length squares)
-    else (if i % 2 == 0 then page micrometres (raster_width margin g) (i + 2) else stream (page_content micrometres margin g)))
+unfoldable pub object_content : Pages → ℕ → List ℕ
+object_content p i =
+    let k = (i - 2) / 2 in
+    if i == 0 then catalog else (if i == 1 then page_tree p.count
+    else (if i % 2 == 0 then page (p.width k) (p.height k) (i + 2) else stream (p.commands k)))
 
 -- The beginning of an object (ISO 32000-1, 7.3.10)
 unfoldable pub object_start : ℕ → List ℕ
@@ -65,20 +62,20 @@ unfoldable pub numbered_object : ℕ → List ℕ → List ℕ
 numbered_object number content = object_start number ++ content ++ codes "\nendobj\n"
 
 -- The object with the index `i` [own]
-unfoldable pub object : ℕ → ℕ → List Grid → ℕ → List ℕ
-object micrometres margin squares i = numbered_object (i + 1) (object_content micrometres margin squares i)
+unfoldable pub object : Pages → ℕ → List ℕ
+object p i = numbered_object (i + 1) (object_content p i)
 
 -- The header and the first `n` objects [own]
-unfoldable pub objects_below : ℕ → ℕ → List Grid → ℕ → List ℕ
-objects_below micrometres margin squares n = pdf_header ++ texts_below n (object micrometres margin squares)
+unfoldable pub objects_below : Pages → ℕ → List ℕ
+objects_below p n = pdf_header ++ texts_below n (object p)
 
 -- The line of the table for an object that has `offset` bytes of the document before it (ISO 32000-1, 7.5.4)
 unfoldable pub place_line : ℕ → List ℕ
 place_line offset = last_digits 10 offset ++ codes " 00000 n \n"
 
 -- The line of the table for the object with the index `i` [own]
-unfoldable pub place_of : ℕ → ℕ → List Grid → ℕ → List ℕ
-place_of micrometres margin squares i = place_line (length (objects_below micrometres margin squares i))
+unfoldable pub place_of : Pages → ℕ → List ℕ
+place_of p i = place_line (length (objects_below p i))
 
 -- The table with the lines of `n` objects. Its first line is for an object that is free (ISO 32000-1, 7.5.4)
 unfoldable pub table_of : ℕ → List ℕ → List ℕ
@@ -89,9 +86,40 @@ unfoldable pub trailer : ℕ → ℕ → List ℕ
 trailer n start =
     numbered (codes "trailer\n<</Size ") (n + 1) ++ codes "/Root 1 0 R>>\nstartxref\n" ++ decimal start ++ codes "\n%%EOF\n"
 
--- The PDF document of the symbols, with a page for each that is as large as its raster [own]
-unfoldable pub pdf_document : ℕ → ℕ → List Grid → List ℕ
-pdf_document micrometres margin squares =
-    let n = 2 + 2 * length squares in
-    let objects = objects_below micrometres margin squares n in
-    objects ++ table_of n (texts_below n (place_of micrometres margin squares)) ++ trailer n (length objects)
+-- How many objects a document has: the catalog, the page tree, and two for each page [own]
+abbrev pub object_count : Pages → ℕ
+object_count p = 2 + 2 * p.count
+
+-- The PDF document with these pages [own]
+unfoldable pub document_of_pages : Pages → List ℕ
+document_of_pages p =
+    let n = object_count p in
+    let objects = objects_below p n in
+    objects ++ table_of n (texts_below n (place_of p)) ++ trailer n (length objects)
+
+-- The commands that make a module the unit and a square of `width` modules white, and choose black. The lower left corner
+-- of the square is in `corner`, which has two numbers of points (ISO 32000-1, 8.3.4, 8.5.2, 8.6.8)
+unfoldable pub square_start : ℕ → List ℕ → ℕ → List ℕ
+square_start micrometres corner width =
+    points micrometres ++ codes " 0 0 " ++ points micrometres ++ codes " " ++ corner ++ numbered (codes " cm\n1 g 0 0 ") width
+    ++ numbered (codes " ") width ++ codes " re f\n0 g\n"
+
+-- The commands that draw a symbol with its margin: its boxes are filled together (ISO 32000-1, 8.5.3.1)
+unfoldable pub square_commands : ℕ → List ℕ → ℕ → Grid → List ℕ
+square_commands micrometres corner margin g =
+    square_start micrometres corner (raster_width margin g) ++ symbol_lines (codes " 1 re\n") 0 margin g ++ codes "f\n"
+
+-- The pages of symbols of which each has a page for itself, which is as large as its raster [own]
+abbrev pub symbol_pages : ℕ → ℕ → List Grid → Pages
+symbol_pages micrometres margin squares =
+    let size : ℕ → ℕ = λ k. raster_width margin (square_at squares k) * micrometres in
+    record {
+      count = length squares;
+      width = size;
+      height = size;
+      commands = λ k. square_commands micrometres (codes "0 0") margin (square_at squares k);
+    }
+
+-- The PDF document of the symbols, with a page for each [own]
+abbrev pub pdf_document : ℕ → ℕ → List Grid → List ℕ
+pdf_document micrometres margin squares = document_of_pages (symbol_pages micrometres margin squares)

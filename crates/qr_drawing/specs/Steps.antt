@@ -2,4 +2,3 @@
 pub mod Text
 pub mod Svg
 pub mod Document
-pub mod Pdf

@@ -12,7 +12,7 @@ ghost use Rattle.qr_drawing.specs.Steps.Document.{sized_head};
 use crate::drawing::{HasSquare, Raster};
 use crate::eps::put_eps;
 use crate::measures::{LENGTH_MAX, push_millimetres};
-use crate::pdf::put_pdf;
+use crate::pdf::{SymbolPages, put_pdf};
 use crate::svg::{TAIL, push_background, push_numbered, push_tail, put_stack};
 use qr_devices::{DrawFault, PEN_SIZE, Pen, Piece, Sink, WRITE_MAX};
 
@@ -152,7 +152,14 @@ pub fn write_document<S: HasSquare, W: Sink>(
     let put = match settings.format {
         Document::Svg => put_sized_svg(&mut pen, out, symbols, margin, micrometres),
         Document::Eps => put_eps(&mut pen, out, symbols, margin, micrometres),
-        Document::Pdf => put_pdf(&mut pen, out, symbols, margin, micrometres),
+        Document::Pdf => {
+            let pages = SymbolPages {
+                symbols,
+                margin,
+                micrometres,
+            };
+            put_pdf(&mut pen, out, &pages)
+        }
     };
     put?;
     pen.reserve(out, WRITE_MAX)

@@ -8,6 +8,7 @@ ghost use Rattle.qr_drawing.specs.Svg.{background, box_path, closing, declaratio
 ghost use Rattle.qr_drawing.specs.Drawing.{drawn};
 ghost use Rattle.qr_drawing.specs.declared.drawing.Drawing.TheVariants.{Ascii, AsciiInverse, Utf8};
 ghost use Rattle.qr_drawing.specs.Laws.{CharactersOfModules, HasItsPlaces, IsSizedAlone};
+ghost use Rattle.qr_drawing.specs.Pdf.{Pages};
 ghost use Rattle.qr_drawing.specs.Measures.{millimetres, points, whole_points};
 
 /// `CharactersOfModules` lists the characters that show modules. In the style `Plain` two characters show one module.
@@ -49,9 +50,9 @@ pub fn measures_compute()
 {}
 
 /// Each object of a PDF document begins after as many bytes as the table says, and the table after as many as the
-/// trailer says.
+/// trailer says. This is so whatever pages the document has.
 pub fn objects_are_in_their_places()
-    ensures { (micrometres margin : ℕ) → (squares : List Grid) → HasItsPlaces micrometres margin squares }
+    ensures { (p : Pages) → HasItsPlaces p }
 {}
 
 /// An SVG document with a size differs from the drawing of the same squares in its size alone.

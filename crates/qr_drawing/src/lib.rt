@@ -1,6 +1,6 @@
 //! Draws symbols as ASCII text, as UTF-8 text with two modules in each character, or as a Scalable Vector Graphics
 //! document. For print it writes documents that say how large they are on paper: SVG with a size in millimetres,
-//! Encapsulated PostScript, and PDF. What is drawn is written to a device in pieces, and no memory is allocated for it.
+//! Encapsulated PostScript, and PDF, also as labels on sheets of paper. What is drawn is written to a device in pieces, and no memory is allocated for it.
 //!
 //! The files of `src`:
 //!
@@ -10,7 +10,8 @@
 //! - `eps`: writes an EPS document
 //! - `laws`: laws of drawings and documents
 //! - `measures`: lengths in millimetres and points
-//! - `pdf`: writes a PDF document
+//! - `pdf`: writes PDF documents
+//! - `sheets`: writes labels on sheets of paper, and the call that does so
 //! - `svg`: draws an SVG document
 //! - `text`: draws lines of text
 #![tactic(auto)]
@@ -22,9 +23,11 @@ mod eps;
 pub mod laws;
 mod measures;
 mod pdf;
+mod sheets;
 mod svg;
 mod text;
 
 pub use document::{Document, DocumentSettings, write_document};
 pub use drawing::{Drawing, HasSquare, draw};
+pub use sheets::{Sheet, SheetSettings, write_sheets};
 pub use qr_devices::{DrawFault, WRITE_MAX, write_text};

@@ -48,12 +48,11 @@ fn push_last_six(text: &mut Piece<PEN_SIZE>, number: u64)
 }
 
 /// Appends the last ten digits of a number.
-pub(crate) fn push_last_ten<const CAP: usize>(text: &mut Piece<CAP>, number: u32)
+pub(crate) fn push_last_ten<const CAP: usize>(text: &mut Piece<CAP>, number: u64)
     requires room { length text.old + 10 ≤ CAP }
     ensures items { text.new ≡ text.old ++ last_digits 10 number }
     ensures len { length text.new ≡ length text.old + 10 }
 {
-    let number = u64::from(number);
     text.push(last_digit(number / 1_000_000_000));
     push_last_three(text, number / 1_000_000);
     push_last_three(text, number / 1000);

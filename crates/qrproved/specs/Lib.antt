@@ -9,5 +9,6 @@ pub mod Reading
 pub mod Mending
 pub mod Drawing
 pub mod Document
+pub mod Sheets
 pub mod Image
 pub mod Parsing

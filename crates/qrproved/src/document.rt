@@ -78,7 +78,7 @@ fn document(alloc: Global, modules: &[u8], asked: DocumentNumbers) -> Result<Vec
     ensures { IfOk result (λ text. text.items
         ≡ document asked.settings (squares_of_bytes asked.side asked.count modules.now)) }
 {
-    let squares = squares_of(alloc, modules, asked.side, asked.count)?;
+    let squares = squares_of(alloc, modules, asked.side, u16::from(asked.count))?;
     let mut text = Counted::new(without_bound(alloc));
     match write_document(&squares, &asked.settings, &mut text) {
         Ok(()) => Ok(text.into_inner().bytes),

@@ -51,7 +51,7 @@ pub(crate) fn squares_of(
     alloc: Global,
     modules: &[u8],
     side: u8,
-    count: u8,
+    count: u16,
 ) -> Result<Vec<Matrix>, AllocError>
     requires least { 1 ≤ side }
     requires most { side ≤ 177 }
@@ -90,7 +90,7 @@ fn drawn(alloc: Global, modules: &[u8], asked: DrawingSettings) -> Result<Vec<u8
     ensures { IfOk result (λ text. text.items
         ≡ drawn asked.drawing asked.margin (squares_of_bytes asked.side asked.count modules.now)) }
 {
-    let squares = squares_of(alloc, modules, asked.side, asked.count)?;
+    let squares = squares_of(alloc, modules, asked.side, u16::from(asked.count))?;
     let mut text = Counted::new(without_bound(alloc));
     match draw(&squares, asked.drawing, asked.margin, &mut text) {
         Ok(()) => Ok(text.into_inner().bytes),

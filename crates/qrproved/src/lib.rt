@@ -1,13 +1,13 @@
 //! A library for C, and for each language that can call C functions. In the comments of this crate a call is one of the
 //! library's functions, which `include/qrproved.h` declares. The calls encode an input as a symbol or a series, read
-//! symbols, mend damaged ones, draw squares of modules, write them as documents for print or as images, parse
+//! symbols, mend damaged ones, draw squares of modules, write them as documents for print, as labels or as images, parse
 //! drawings, and say how much fits a symbol. A call writes modules, bytes, ECI headers, texts and files to buffers of the
 //! caller, and numbers to a struct or a variable of the caller. It keeps no memory, so there is nothing to free.
 //!
 //! The contracts of the calls hold if the caller fulfils the conditions under 'What the caller owes' in
 //! `docs/LIBRARY.md`. If a buffer is longer than the result, the bytes after the result stay as they are. On each
 //! status but 0 the buffers, structs and variables of the caller are unchanged. There is one exception: if a buffer is
-//! too short, `qrproved_draw` and `qrproved_image` still set `written`.
+//! too short, `qrproved_draw`, `qrproved_document`, `qrproved_sheets` and `qrproved_image` still set `written`.
 //!
 //! If a call cannot do what it is asked for, it returns the status of the first cause that applies, in the order in
 //! which its comment lists the causes. If memory is refused, it returns `MEMORY`. The comment also names the causes
@@ -30,6 +30,7 @@
 //! - `samples`: symbols for the tests
 //! - `series`: the call that encodes an input as a series
 //! - `settings`: which numbers of a caller are allowed, and what they mean
+//! - `sheets`: the call that writes labels on sheets of paper
 //! - `status`: the statuses that calls return
 //! - `version`: the version of the library
 #![tactic(auto)]
@@ -51,6 +52,7 @@ mod room;
 mod samples;
 mod series;
 mod settings;
+mod sheets;
 mod status;
 mod version;
 
@@ -64,4 +66,5 @@ pub use parsing::{QrprovedDrawn, qrproved_parse_drawing};
 pub use reading::{QrprovedContent, qrproved_read};
 pub use room::qrproved_room;
 pub use series::{QrprovedSeries, qrproved_encode_series};
+pub use sheets::{QrprovedSheet, qrproved_sheets};
 pub use version::qrproved_version;

@@ -2,4 +2,4 @@ use Rattle.qr_drawing.proofs.lemmas.pdf.{has-its-places}
 use Rattle.qr_drawing.proofs.laws.objects_are_in_their_places.Goals as goal
 
 pub returns : goal.returns
-returns c micrometres margin squares = has-its-places micrometres margin squares
+returns c p = has-its-places p

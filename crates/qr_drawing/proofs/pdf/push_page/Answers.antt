@@ -4,12 +4,10 @@ use Rattle.qr_drawing.proofs.pdf.push_page.Goals as goal
 pub returns-clause-items : goal.returns-clause-items
 unfolding page
 returns-clause-items c = rw (
-  c.push_all-3.ensures.items,
+  c.push_all-2.ensures.items,
   c.push_numbered.ensures.items,
   c.push_points-2.ensures.items,
-  c.push_all-2.ensures.items,
+  c.push.ensures.items,
   c.push_points.ensures.items,
   c.push_all.ensures.items,
-  c.from.ensures,
-  c.from-2.ensures,
 ) (simp append_assoc)

@@ -1,9 +1,29 @@
-use Rattle.std.proofs.{lemmas.Result.err_from_is_err_and}
-use Rattle.qr_devices.proofs.Facts.{formed, stops-before}
+use Rattle.qr_devices.proofs.Facts.{formed, stops-between, stops-first, writes-on, writes-stop}
+use Rattle.qr_drawing.specs.Pdf.{numbered_object, object, object_start}
+use Rattle.std.proofs.{Common.{◌≡◌, ◌+◌, ◌++◌, append_assoc}, lemmas.Result.err_from_is_err_and}
 use Rattle.qr_drawing.proofs.pdf.put_object.Goals as goal
 
-pub returns-in_err-reserve-clause-writes : goal.returns-in_err-reserve-clause-writes
-returns-in_err-reserve-clause-writes g c = rw ((err_from_is_err_and c.from_residual.result c.from_residual.ensures.1).1) (stops-before _ _ _ _ _ c.in_err-reserve.ensures.writes)
+pub returns-in_err-put_content : goal.returns-in_err-put_content
+unfolding object numbered_object object_start
+returns-in_err-put_content g c =
+    let held = c.args.pen.now.piece in
+    let start : c.push_all.new.self ≡ c.reserve.new.self.piece ++ object_start (c.args.index + 1) = rw (c.push_all.ensures.items, c.push_number.ensures.items) (simp append_assoc) in
+    rw ((err_from_is_err_and c.from_residual-in_err-put_content.result c.from_residual-in_err-put_content.ensures.1).1) (stops-first _ _ _ held _ _ (writes-stop _ _ _ _ _ held _ _ _
+    (formed _ _ _ _ held _ _ _ c.in_ok-reserve.ensures.writes start) c.in_err-put_content.ensures))
 
-pub returns-clause-writes : goal.returns-clause-writes
-returns-clause-writes g c = formed _ _ _ _ _ _ _ _ c.in_ok-reserve.ensures.writes c.push_object.ensures.items
+pub returns-in_err-reserve-2 : goal.returns-in_err-reserve-2
+unfolding object numbered_object object_start
+returns-in_err-reserve-2 g c =
+    let held = c.args.pen.now.piece in
+    let start : c.push_all.new.self ≡ c.reserve.new.self.piece ++ object_start (c.args.index + 1) = rw (c.push_all.ensures.items, c.push_number.ensures.items) (simp append_assoc) in
+    rw ((err_from_is_err_and c.from_residual-in_err-reserve-2.result c.from_residual-in_err-reserve-2.ensures.1).1) (stops-between _ _ _ _ _ held _ _ _ (writes-on _ _ _ _ _ _ held _ _ _ _
+    (formed _ _ _ _ held _ _ _ c.in_ok-reserve.ensures.writes start) c.in_ok-put_content.ensures) c.in_err-reserve-2.ensures.writes)
+
+pub returns : goal.returns
+unfolding object numbered_object object_start
+returns g c =
+    let held = c.args.pen.now.piece in
+    let start : c.push_all.new.self ≡ c.reserve.new.self.piece ++ object_start (c.args.index + 1) = rw (c.push_all.ensures.items, c.push_number.ensures.items) (simp append_assoc) in
+    writes-on _ _ _ _ _ _ held _ _ _ _ (writes-on _ _ _ _ _ _ held _ _ _ _
+    (formed _ _ _ _ held _ _ _ c.in_ok-reserve.ensures.writes start) c.in_ok-put_content.ensures)
+    (formed _ _ _ _ _ _ _ _ c.in_ok-reserve-2.ensures.writes c.push_all-2.ensures.items)
