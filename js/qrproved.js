@@ -398,6 +398,7 @@ export function sheetsOf(symbols, sheet, options = {}) {
   whole('rows', rows, 1, LIMITS.COLUMNS_MAX);
   whole('first', first, 0, columns * rows - 1);
   const lengths = Object.fromEntries(Object.entries(given).map(([name, it]) => [name, it === 0 ? 0 : Math.round(1000 * length(name, it))]));
+  if (Math.max(lengths.width, lengths.height) > LIMITS.PAPER_MAX) throw new SettingsError(`paper is at most ${LIMITS.PAPER_MAX / 1000} mm wide and high`);
   const wide = roomOf(lengths.width, lengths.left, columns, lengths.across), high = roomOf(lengths.height, lengths.top, rows, lengths.down);
   const width = list[0].side + 2 * margin, least = Math.min(wide, high);
   const micrometres = mm === undefined ? Math.floor(Math.min(least, LIMITS.MICROMETRES_MAX * width) / width) : micrometresOf(mm, width);

@@ -56,7 +56,7 @@ PLACE_MAX, DPI, DOTS = LIMITS["PLACE_MAX"], LIMITS["DPI"], LIMITS["DOTS"]
 FORMATS, DOCUMENTS = DATA["formats"], DATA["documents"]
 LABELS = DATA["labels"]  # what a file with several labels has before and after each
 MICROMETRES, MICROMETRES_MAX = LIMITS["MICROMETRES"], LIMITS["MICROMETRES_MAX"]  # of a module
-LABELS_MAX, COLUMNS_MAX = LIMITS["LABELS_MAX"], LIMITS["COLUMNS_MAX"]  # symbols on sheets; and their columns, and rows
+LABELS_MAX, COLUMNS_MAX, PAPER_MAX = LIMITS["LABELS_MAX"], LIMITS["COLUMNS_MAX"], LIMITS["PAPER_MAX"]  # of sheets: symbols; columns, and rows; micrometres
 PIXELS = 8  # of a module of a picture, if nothing else is said
 IMAGE_LIKELY = 4096  # bytes, and 3 for each module: room for every PNG file up to scale 8, which is then written in one run
 MM_OF_INCH = 25.4
@@ -878,6 +878,8 @@ def _sheets(modules: bytes, count: int, side: int, sheet: Sheet, light: int, mm:
     lengths = {name: _on_paper(name, getattr(sheet, name)) for name in ("width", "height", "left", "top", "across", "down")}
     columns, rows = _setting("columns", sheet.columns, 1, COLUMNS_MAX), _setting("rows", sheet.rows, 1, COLUMNS_MAX)
     first = _setting("first", sheet.first, 0, columns * rows - 1)
+    if max(lengths["width"], lengths["height"]) > PAPER_MAX:
+        raise SettingsError(f"paper is at most {PAPER_MAX // 1000:,} mm wide and high")
     wide, high = _room(lengths["width"], lengths["left"], columns, lengths["across"]), _room(lengths["height"], lengths["top"], rows, lengths["down"])
     width = side + 2 * light
     micrometres = min(wide, high, MICROMETRES_MAX * width) // width if mm is None else _micrometres(mm, width)

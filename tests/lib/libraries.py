@@ -108,6 +108,10 @@ class Drawn(ctypes.Structure):
     _fields_ = bytes_of("drawing", "margin", "count", "side")
 
 
+class Sheet(ctypes.Structure):
+    _fields_ = [(name, ctypes.c_uint32) for name in ("width", "height", "left", "top", "across", "down", "columns", "rows", "first")]
+
+
 POINTER, BUFFER = [ctypes.c_void_p], [ctypes.c_void_p, ctypes.c_size_t]
 INPUT, NUMBER = [ctypes.c_char_p, ctypes.c_size_t], [ctypes.c_uint32]
 PARAMETERS = {
@@ -118,6 +122,7 @@ PARAMETERS = {
     "qrproved_draw": BUFFER + NUMBER * 4 + BUFFER + POINTER,
     "qrproved_image": BUFFER + NUMBER * 7 + BUFFER + POINTER,
     "qrproved_document": BUFFER + NUMBER * 5 + BUFFER + POINTER,
+    "qrproved_sheets": BUFFER + NUMBER * 4 + POINTER + BUFFER + POINTER,
     "qrproved_parse_drawing": INPUT + BUFFER + POINTER,
     "qrproved_room": NUMBER * 5 + POINTER,
 }
@@ -187,6 +192,17 @@ class Library:
             return STATUSES[status]
         text = (ctypes.c_uint8 * written.value)()
         status = self.library.qrproved_document(*asked, text, len(text), ctypes.byref(written))
+        return bytes(text) if STATUSES[status] == "DONE" and written.value == len(text) else STATUSES[status]
+
+    def sheets(self, squares, side, margin, micrometres, sheet):
+        """Returns the document of squares on label paper, or a status. `sheet` has the fields of the struct."""
+        written, paper = ctypes.c_size_t(MARK), Sheet(**sheet)
+        asked = b"".join(squares), sum(map(len, squares)), side, len(squares), margin, micrometres, ctypes.byref(paper)
+        status = self.library.qrproved_sheets(*asked, None, 0, ctypes.byref(written))
+        if STATUSES[status] != "ROOM":
+            return STATUSES[status]
+        text = (ctypes.c_uint8 * written.value)()
+        status = self.library.qrproved_sheets(*asked, text, len(text), ctypes.byref(written))
         return bytes(text) if STATUSES[status] == "DONE" and written.value == len(text) else STATUSES[status]
 
     def image(self, square, side, format, scale, margin, pixels_a_metre=0, left=0, top=0):
