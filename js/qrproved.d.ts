@@ -274,6 +274,33 @@ export function parsePicture(image: Picture): Uint8Array[];
  */
 export function documentOf(symbols: QRSymbol | QRSymbol[], options?: { type?: 'pdf' | 'eps' | 'svg'; margin?: number; mm?: number; quiet?: boolean }): Uint8Array;
 
+/** Label paper. Its lengths are in millimetres, to the nearest thousandth. */
+export interface Sheet {
+  /** The width of the paper. */
+  width: number;
+  height: number;
+  /** How many places for symbols are side by side, from 1 to 100. */
+  columns: number;
+  /** How many are one below the other, from 1 to 100. */
+  rows: number;
+  /** How far the first place is from the left edge of the paper; 0 unless given. */
+  left?: number;
+  top?: number;
+  /** How far the left edges of places side by side are from each other. */
+  across?: number;
+  /** How far the upper edges of places one below the other are. */
+  down?: number;
+  /** How many places of the first sheet stay free, as labels that are used up; 0 unless given. */
+  first?: number;
+}
+
+/**
+ * Returns a PDF with 1 to 10,000 symbols of one side on sheets of label paper, as many as they need. They follow one another in rows, from
+ * the upper left place on. `mm` is the width of a symbol with its margin; unless given, symbols are as large as fits their places. Throws
+ * SettingsError if symbols are larger than their places, or if a place is not on the paper.
+ */
+export function sheetsOf(symbols: QRSymbol | QRSymbol[], sheet: Sheet, options?: { margin?: number; mm?: number; quiet?: boolean }): Uint8Array;
+
 /**
  * Returns a file for a printer with a label for each symbol, one after the other. There may be any number of them, of different sides.
  * `type` is 'zpl' unless given, and the other options are those of zpl; in ESC/POS there is no x and no y. In TSPL the commands CLS and

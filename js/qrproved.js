@@ -2,7 +2,7 @@
  * QR Code symbols (ISO/IEC 18004:2015, QR Code Model 2) by the library libqrproved as WebAssembly, whose calls are proved to meet
  * their contracts. README.md shows the calls; qrproved.d.ts describes each.
  */
-import { drawn, encoded, encodedSeries, imageOf, mayHaveKanji, mendedOf, parsedOf, printed, readOf } from './calls.js';
+import { drawn, encoded, encodedSeries, imageOf, mayHaveKanji, mendedOf, parsedOf, printed, readOf, sheetsBy } from './calls.js';
 import { DOCUMENTS, INTERPRETATIONS, LABELS, LIMITS } from './common.js';
 import { Gs1Error, NoDrawingError, SettingsError, SideError } from './errors.js';
 import { dataOf, fieldsOf } from './gs1.js';
@@ -102,6 +102,8 @@ const OF_SERIES = { level: 'L', version: undefined, rule: undefined, eci: undefi
 const OF_SYMBOL = { ...OF_SERIES, version: 1, boost: true };
 // The options of a document for print.
 const OF_DOCUMENT = { margin: 4, mm: undefined, quiet: false };
+// Label paper.
+const SHEET = { width: undefined, height: undefined, columns: undefined, rows: undefined, left: 0, top: 0, across: 0, down: 0, first: 0 };
 // The options of an image for a receipt printer, and for a label printer.
 const OF_RECEIPT = { scale: undefined, margin: 4, mm: undefined, dpi: LIMITS.DPI, quiet: false };
 const OF_LABEL = { ...OF_RECEIPT, x: 0, y: 0 };
@@ -342,8 +344,8 @@ function symbolsOf(symbols) {
 }
 
 /** Returns the modules of symbols of one side, one after the other. */
-function joined(list) {
-  whole('the number of symbols', list.length, 1, LIMITS.COUNT_MAX);
+function joined(list, most = LIMITS.COUNT_MAX) {
+  whole('the number of symbols', list.length, 1, most);
   const { side } = list[0], modules = new Uint8Array(list.length * side * side);
   if (list.some((it) => it.side !== side)) throw new SettingsError('the symbols have one side');
   list.forEach((it, k) => modules.set(it.modules, k * side * side));
@@ -357,14 +359,18 @@ export function draw(symbols, options = {}) {
   return drawn(joined(list), list[0].side, list.length, drawing, margin);
 }
 
+/** Returns how wide a module is if so many are `mm` wide. */
+function micrometresOf(mm, modules) {
+  const micrometres = Math.round(1000 * length('mm', mm) / modules);
+  if (micrometres >= 1 && micrometres <= LIMITS.MICROMETRES_MAX) return micrometres;
+  throw new SettingsError(`a module is from 0.001 to ${LIMITS.MICROMETRES_MAX / 1000} mm wide, and ${modules} modules are not ${Number(mm.toPrecision(3))} mm wide`);
+}
+
 /** Returns a document for print with symbols of one side. */
 function documentFor(list, type, { margin, mm, quiet }) {
   whole('margin', margin, 0, LIMITS.MARGIN_MAX);
-  const given = joined(list), modules = list[0].side + 2 * margin;
-  const micrometres = mm === undefined ? LIMITS.MICROMETRES : Math.round(1000 * length('mm', mm) / modules);
-  if (!(micrometres >= 1 && micrometres <= LIMITS.MICROMETRES_MAX)) {
-    throw new SettingsError(`a module is from 0.001 to ${LIMITS.MICROMETRES_MAX / 1000} mm wide, and ${modules} modules are not ${Number(mm.toPrecision(3))} mm wide`);
-  }
+  const given = joined(list);
+  const micrometres = mm === undefined ? LIMITS.MICROMETRES : micrometresOf(mm, list[0].side + 2 * margin);
   warn(quiet, margin, micrometres / 1000);
   return printed(given, list[0].side, list.length, type, margin, micrometres);
 }
@@ -372,6 +378,36 @@ function documentFor(list, type, { margin, mm, quiet }) {
 export function documentOf(symbols, options = {}) {
   const { type, ...others } = chosen(options, { type: 'pdf', ...OF_DOCUMENT }), names = Object.keys(DOCUMENTS);
   return documentFor(symbolsOf(symbols), names[named('type', type, names)], others);
+}
+
+/**
+ * Returns how long a place may be, of so many that begin `before` behind the edge and `step` behind one another: up to the next one, and
+ * up to the other edge.
+ */
+function roomOf(paper, before, count, step) {
+  const last = paper - before - (count - 1) * step;
+  return count === 1 ? last : Math.min(step, last);
+}
+
+export function sheetsOf(symbols, sheet, options = {}) {
+  const { margin, mm, quiet } = chosen(options, OF_DOCUMENT), list = symbolsOf(symbols);
+  whole('margin', margin, 0, LIMITS.MARGIN_MAX);
+  const modules = joined(list, LIMITS.LABELS_MAX);
+  const { columns, rows, first, ...given } = chosen(sheet, SHEET);
+  whole('columns', columns, 1, LIMITS.COLUMNS_MAX);
+  whole('rows', rows, 1, LIMITS.COLUMNS_MAX);
+  whole('first', first, 0, columns * rows - 1);
+  const lengths = Object.fromEntries(Object.entries(given).map(([name, it]) => [name, it === 0 ? 0 : Math.round(1000 * length(name, it))]));
+  if (Math.max(lengths.width, lengths.height) > LIMITS.PAPER_MAX) throw new SettingsError(`paper is at most ${LIMITS.PAPER_MAX / 1000} mm wide and high`);
+  const wide = roomOf(lengths.width, lengths.left, columns, lengths.across), high = roomOf(lengths.height, lengths.top, rows, lengths.down);
+  const width = list[0].side + 2 * margin, least = Math.min(wide, high);
+  const micrometres = mm === undefined ? Math.floor(Math.min(least, LIMITS.MICROMETRES_MAX * width) / width) : micrometresOf(mm, width);
+  if (micrometres < 1 || micrometres * width > least) {
+    const asked = mm === undefined ? `${width} modules` : `a symbol ${(micrometres * width / 1000).toFixed(3)} mm wide with its margin`;
+    throw new SettingsError(`a place of the sheet is ${(Math.max(0, wide) / 1000).toFixed(3)} mm wide and ${(Math.max(0, high) / 1000).toFixed(3)} mm high, and has no room for ${asked}`);
+  }
+  warn(quiet, margin, micrometres / 1000);
+  return sheetsBy(modules, list[0].side, list.length, margin, micrometres, { ...lengths, columns, rows, first });
 }
 
 /** Returns how many dots of a printer a module has on each side, and how wide it is in millimetres. */

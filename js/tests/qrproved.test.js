@@ -10,7 +10,7 @@ import { inflateSync } from 'node:zlib';
 
 const folder = process.env.QRPROVED ?? fileURLToPath(new URL('../../out/npm/package', import.meta.url));
 const at = pathToFileURL(resolve(folder, 'qrproved.js')).href;
-const { documentOf, draw, encode, encodeSeries, labels, load, mend, parseDrawing, parsePicture, read, ...errors } = await import(at);
+const { documentOf, draw, encode, encodeSeries, labels, load, mend, parseDrawing, parsePicture, read, sheetsOf, ...errors } = await import(at);
 
 // The memory of the module, which the package keeps to itself.
 let memory;
@@ -455,6 +455,30 @@ test('files for printers and for print', () => {
   for (const wrong of [{ mm: 0 }, { mm: 0.01 }, { mm: 100000 }, { margin: 101 }]) {
     assert.throws(() => symbol.pdf(wrong), refused('SettingsError', 5, 'SETTINGS'), JSON.stringify(wrong));
   }
+});
+
+test('sheets of label paper', () => {
+  const few = Array.from({ length: 7 }, (_, k) => encode(`Shelf ${k}`, { version: 2 })), text = (file) => Buffer.from(file).toString('latin1');
+  const sheet = { width: 210, height: 297, columns: 3, rows: 2, left: 7, top: 15, across: 66, down: 140, first: 4 }, file = text(sheetsOf(few, sheet, { mm: 33 }));
+  // 210 and 297 mm are 595.275590 and 841.889763 points
+  assert.equal(file.split('/MediaBox[0 0 595.275590 841.889763]').length, 3);
+  // 33 modules of 1 mm. The fifth place is 7 + 66 mm from the left and 297 - 15 - 140 - 33 from the lower edge
+  assert.match(file, /stream\nq 2\.834645 0 0 2\.834645 206\.929133 308\.976377 cm\n/);
+  const dark = few.reduce((sum, { modules }) => sum + modules.reduce((left, right) => left + right), 0);
+  assert.equal([...file.matchAll(/\d+ \d+ (\d+) 1 re\n/g)].reduce((sum, [, run]) => sum + Number(run), 0), dark);
+  // without a width the symbols are as wide as their places, which are 66 mm wide: 33 modules of 2 mm
+  assert.deepEqual(sheetsOf(few, sheet), sheetsOf(few, sheet, { mm: 66 }));
+  assert.deepEqual(sheetsOf(few[0], sheet), sheetsOf(few.slice(0, 1), sheet));
+  for (const wrong of [{ mm: 66.1 }, { mm: 0 }, { margin: 101 }]) {
+    assert.throws(() => sheetsOf(few, sheet, wrong), refused('SettingsError', 5, 'SETTINGS'), JSON.stringify(wrong));
+  }
+  for (const wrong of [{ width: 205 }, { height: 220 }, { across: 1 }, { columns: 0 }, { columns: 1.5 }, { rows: 101 }, { first: 6 }, { left: -1 },
+    { width: 2000.001 }]) {
+    assert.throws(() => sheetsOf(few, { ...sheet, ...wrong }), refused('SettingsError', 5, 'SETTINGS'), JSON.stringify(wrong));
+  }
+  assert.throws(() => sheetsOf([], sheet), refused('SettingsError', 5, 'SETTINGS'));
+  assert.throws(() => sheetsOf([few[0], encode('A')], sheet), refused('SettingsError', 5, 'SETTINGS'));
+  for (const wrong of [{ width: '210' }, { left: true }, { gap: 3 }]) assert.throws(() => sheetsOf(few, { ...sheet, ...wrong }), TypeError, JSON.stringify(wrong));
 });
 
 test('files with several labels', () => {

@@ -1,8 +1,8 @@
 """QR Code symbols (ISO/IEC 18004:2015, QR Code Model 2) by the library libqrproved.
 
 encode returns the symbol of a text, of bytes or of GS1 data, encode_series the symbols of a series. A Symbol is drawn by its methods
-as PNG, SVG, PDF or EPS, as text, or in the language of a printer. document makes a document of several symbols, and labels a file for
-a printer. read reads a symbol that is as it was drawn; mend reads a damaged one, and says how damaged it is. parse_drawing finds the
+as PNG, SVG, PDF or EPS, as text, or in the language of a printer. document makes a document of several symbols, sheets one
+of label paper, and labels a file for a printer. read reads a symbol that is as it was drawn; mend reads a damaged one, and says how damaged it is. parse_drawing finds the
 modules of a drawing, parse_picture those of a PNG picture or of any SVG document. Modules are bytes, row by row from the top left,
 without the quiet zone of four light modules that a drawing needs on each side.
 
@@ -43,8 +43,8 @@ if TYPE_CHECKING:
 __all__ = ["BYTES_MAX", "COUNT_MAX", "ECI_MAX", "MARGIN_MAX", "SCALE_MAX", "SERIES_MAX", "SIDE_MAX", "SYMBOL_MAX", "CheckError", "Content",
            "Drawing", "Drawn", "Eci", "EciError", "EmptyError", "Error", "FieldsError", "FormatError", "Gs1Error", "Header", "Level",
            "Mended", "NoDrawingError", "OutOfMemoryError", "PrintWarning", "RoomError", "Rule", "SegmentsError", "SettingsError",
-           "SideError", "Symbol", "TooLongError", "TooManyError", "WORK_MAX", "document", "draw", "encode", "encode_series", "labels", "mend",
-           "parse_drawing", "parse_picture", "read"]
+           "Sheet", "SideError", "Symbol", "TooLongError", "TooManyError", "WORK_MAX", "document", "draw", "encode", "encode_series", "labels", "mend",
+           "parse_drawing", "parse_picture", "read", "sheets"]
 
 __version__ = "0.2.0"
 _calls = _library.load()
@@ -56,6 +56,7 @@ PLACE_MAX, DPI, DOTS = LIMITS["PLACE_MAX"], LIMITS["DPI"], LIMITS["DOTS"]
 FORMATS, DOCUMENTS = DATA["formats"], DATA["documents"]
 LABELS = DATA["labels"]  # what a file with several labels has before and after each
 MICROMETRES, MICROMETRES_MAX = LIMITS["MICROMETRES"], LIMITS["MICROMETRES_MAX"]  # of a module
+LABELS_MAX, COLUMNS_MAX, PAPER_MAX = LIMITS["LABELS_MAX"], LIMITS["COLUMNS_MAX"], LIMITS["PAPER_MAX"]  # of sheets: symbols; columns, and rows; micrometres
 PIXELS = 8  # of a module of a picture, if nothing else is said
 IMAGE_LIKELY = 4096  # bytes, and 3 for each module: room for every PNG file up to scale 8, which is then written in one run
 MM_OF_INCH = 25.4
@@ -786,6 +787,47 @@ def document(symbols: Union[Symbol, Sequence[Symbol]], *wrong: NoReturn, kind: s
     return _document(_listed(symbols), kind, margin, mm)
 
 
+class Sheet(NamedTuple):
+    """Label paper. Its lengths are in millimetres, to the nearest thousandth."""
+
+    width: float
+    """The width of the paper."""
+    height: float
+    columns: int
+    """How many places for symbols are side by side, from 1 to 100."""
+    rows: int
+    """How many are one below the other, from 1 to 100."""
+    left: float = 0
+    """How far the first place is from the left edge of the paper."""
+    top: float = 0
+    across: float = 0
+    """How far the left edges of places side by side are from each other."""
+    down: float = 0
+    """How far the upper edges of places one below the other are."""
+    first: int = 0
+    """How many places of the first sheet stay free, as labels that are used up."""
+
+
+def sheets(symbols: Union[Symbol, Iterable[Symbol]], sheet: Sheet, *wrong: NoReturn, margin: int = 4, mm: Optional[float] = None,
+           **others: NoReturn) -> bytes:
+    """Returns a PDF with symbols of one side on sheets of label paper, as many as they need. They follow one another in rows, from the
+    upper left place on.
+
+    symbols  from 1 to LABELS_MAX, or a symbol alone. To give all the same side, encode them with a `version` that has room for each
+    sheet    the paper and its places
+    margin   light modules on each side of each symbol, from 0 to MARGIN_MAX; a scanner needs 4
+    mm       the width of a symbol with its margin, in millimetres. Without it symbols are as large as fits their places. A module has
+             whole micrometres
+
+    Raises SettingsError if a number is out of range, if the sides are not the same, if symbols are larger than their places or a place
+    is not on the paper, RoomError if a symbol has too few modules, and OutOfMemoryError. Warns by PrintWarning of what scanners may not
+    read.
+    """
+    _no_more("sheets", "symbols, sheet, ", wrong, others, "margin", "mm")
+    light, (given, count, side) = _setting("margin", margin, 0, MARGIN_MAX), _squares(_listed(symbols), LABELS_MAX)
+    return _sheets(given, count, side, sheet, light, mm)
+
+
 def labels(symbols: Union[Symbol, Iterable[Symbol]], *wrong: NoReturn, kind: str = "zpl", scale: Optional[int] = None, margin: int = 4,
            mm: Optional[float] = None, dpi: Optional[float] = None, x: int = 0, y: int = 0, **others: NoReturn) -> bytes:
     """Returns a file for a printer with a label for each symbol, one after the other.
@@ -813,18 +855,62 @@ def labels(symbols: Union[Symbol, Iterable[Symbol]], *wrong: NoReturn, kind: str
 
 def _document(symbols: list[Symbol], kind: str, margin: int, mm: Optional[float]) -> bytes:
     light, (given, count, side) = _setting("margin", margin, 0, MARGIN_MAX), _squares(symbols)
-    modules = side + 2 * light
-    micrometres = MICROMETRES if mm is None else _nearest(1000 * _size("mm", mm) / modules)
-    if not 1 <= micrometres <= MICROMETRES_MAX:
-        raise SettingsError(f"a module is from 0.001 to {MICROMETRES_MAX // 1000} mm wide, and {modules} modules are not {mm:.3g} mm wide")
+    micrometres = MICROMETRES if mm is None else _micrometres(mm, side + 2 * light)
     _warn(light, micrometres / 1000)
     asked = (given, len(given), side, count, DOCUMENTS[kind], light, micrometres)
     return _written(lambda *buffer: _calls.qrproved_document(*asked, *buffer))
 
 
-def _squares(symbols: list[Symbol]) -> tuple[bytes, int, int]:
+def _micrometres(mm: float, modules: int) -> int:
+    """Returns how wide a module is if so many are `mm` wide."""
+    micrometres = _nearest(1000 * _size("mm", mm) / modules)
+    if not 1 <= micrometres <= MICROMETRES_MAX:
+        raise SettingsError(f"a module is from 0.001 to {MICROMETRES_MAX // 1000} mm wide, and {modules} modules are not {mm:.3g} mm wide")
+    return micrometres
+
+
+def _on_paper(name: str, value: float) -> int:
+    """Returns a length on label paper in micrometres. It may be 0."""
+    return _nearest(1000 * _size(name, value)) if value or isinstance(value, bool) else 0
+
+
+def _sheets(modules: bytes, count: int, side: int, sheet: Sheet, light: int, mm: Optional[float]) -> bytes:
+    lengths = {name: _on_paper(name, getattr(sheet, name)) for name in ("width", "height", "left", "top", "across", "down")}
+    columns, rows = _setting("columns", sheet.columns, 1, COLUMNS_MAX), _setting("rows", sheet.rows, 1, COLUMNS_MAX)
+    first = _setting("first", sheet.first, 0, columns * rows - 1)
+    if max(lengths["width"], lengths["height"]) > PAPER_MAX:
+        raise SettingsError(f"paper is at most {PAPER_MAX // 1000:,} mm wide and high")
+    wide, high = _room(lengths["width"], lengths["left"], columns, lengths["across"]), _room(lengths["height"], lengths["top"], rows, lengths["down"])
+    width = side + 2 * light
+    micrometres = min(wide, high, MICROMETRES_MAX * width) // width if mm is None else _micrometres(mm, width)
+    if micrometres < 1 or micrometres * width > min(wide, high):
+        asked = f"{width} modules" if mm is None else f"a symbol {micrometres * width / 1000:.3f} mm wide with its margin"
+        raise SettingsError(f"a place of the sheet is {max(0, wide) / 1000:.3f} mm wide and {max(0, high) / 1000:.3f} mm high, and has no room for {asked}")
+    _warn(light, micrometres / 1000)
+    given = _library.Sheet(columns=columns, rows=rows, first=first, **lengths)
+    asked = (modules, len(modules), side, count, light, micrometres, ctypes.byref(given))
+    return _written(lambda *buffer: _calls.qrproved_sheets(*asked, *buffer))
+
+
+def _pages(modules: bytes, side: int, margin: int, mm: Optional[float]) -> bytes:
+    """Returns a PDF with a page for each symbol, as large as the symbol with its margin."""
+    light = _setting("margin", margin, 0, MARGIN_MAX)
+    modules_wide = side + 2 * light
+    width = modules_wide * (MICROMETRES if mm is None else _micrometres(mm, modules_wide)) / 1000
+    count = _setting("the number of symbols", len(modules) // (side * side), 1, LABELS_MAX)
+    return _sheets(modules, count, side, Sheet(width, width, columns=1, rows=1), light, None)
+
+
+def _room(length: int, before: int, count: int, step: int) -> int:
+    """Returns how long a place may be, of so many that begin `before` behind the edge and `step` behind one another: up to the next one,
+    and up to the other edge."""
+    last = length - before - (count - 1) * step
+    return last if count == 1 else min(step, last)
+
+
+def _squares(symbols: list[Symbol], most: int = COUNT_MAX) -> tuple[bytes, int, int]:
     """Returns the modules of symbols, one after the other, their number and their side."""
-    count = _setting("the number of symbols", len(symbols), 1, COUNT_MAX)
+    count = _setting("the number of symbols", len(symbols), 1, most)
     side = _setting("side", symbols[0].side, 1, SIDE_MAX)
     if any(symbol.side != side for symbol in symbols):
         raise SettingsError("the symbols have one side")

@@ -16,7 +16,7 @@ from typing import TYPE_CHECKING, BinaryIO, Optional, Union
 
 import qrproved
 from qrproved import Content, EciError, Error, Gs1Error, Level, Mended, Rule
-from qrproved._batch import PART, Part, Settings, labels_of, processors, written
+from qrproved._batch import PART, Label, Part, Settings, labels_of, largest, processors, spread, write
 from qrproved._pictures import is_picture
 from qrproved._sources import BINARY, SourceError, decoded, encoding_of, is_text, lines_of
 
@@ -27,6 +27,7 @@ PROGRAM = "qrproved" if os.path.splitext(os.path.basename(sys.argv[0]))[0] == "q
 SOUND, READABLE, NOT_READABLE = range(3)
 KINDS = {".png": "png", ".svg": "svg", ".txt": "utf8", ".pdf": "pdf", ".eps": "eps", ".pbm": "pbm", ".zpl": "zpl", ".tspl": "tspl", ".bin": "escpos"}
 PRINTERS = tuple(qrproved.LABELS)
+ONE_FILE = ("pdf", *PRINTERS)  # of which a file may have all labels of --batch
 BINARIES = ("png", "pdf", "pbm", *PRINTERS)  # which a terminal does not show
 SUFFIXES = {"png": ".png", "svg": ".svg", "pdf": ".pdf", "eps": ".eps", "pbm": ".pbm", "zpl": ".zpl", "tspl": ".tspl", "escpos": ".bin", **dict.fromkeys(("txt", "utf8", "ascii", "asciii"), ".txt")}
 INPUT = "standard input"
@@ -64,7 +65,7 @@ def warn_of(warned: dict[str, list[int]]) -> None:
 
 def labelled(given: argparse.Namespace, settings: Settings, lines: list[Union[str, bytes]], file: BinaryIO, told: set[str]) -> int:
     """Writes a symbol for each line that is not empty, and those that are in one file to `file`."""
-    faults, warned = 0, {}
+    faults = 0
     for number, line in enumerate(lines, 1):
         if isinstance(line, str) and not is_text(line):
             why = f"it is no text in {given.encoding}" if given.encoding else "it is no UTF-8: --encoding names another encoding"
@@ -72,9 +73,33 @@ def labelled(given: argparse.Namespace, settings: Settings, lines: list[Union[st
             lines[number - 1] = ""
             faults += 1
     labels = labels_of(lines, given.output, SUFFIXES[settings.kind], given.names == "text")
-    parts = [Part(settings, labels[start:start + PART]) for start in range(0, len(labels), PART)]
-    start, done, is_shown, total = time.monotonic(), 0, sys.stderr.isatty(), len(labels) + faults
-    for part in written(parts, given.jobs or processors()):
+    if settings.kind == "pdf" and settings.is_label:
+        faults += paged(given, settings, labels, file, told)
+    else:
+        faults += shared(given, settings, labels, file, told)
+    file.flush()
+    return 1 if faults else 0
+
+
+def parts_of(settings: Settings, labels: list[Label]) -> list[Part]:
+    return [Part(settings, labels[start:start + PART]) for start in range(0, len(labels), PART)]
+
+
+def paged(given: argparse.Namespace, settings: Settings, labels: list[Label], file: BinaryIO, told: set[str]) -> int:
+    """Writes a PDF with a page for each label, all of the version of the largest, and returns how many are missing."""
+    version = max(spread(largest, parts_of(settings, labels), given.jobs or processors()), default=0)
+    modules = io.BytesIO()
+    faults = shared(given, settings._replace(version=max(version, settings.version)), labels, modules, told)
+    if modules.tell():
+        file.write(qrproved._pages(modules.getvalue(), 17 + 4 * version, settings.margin, settings.mm))
+    return faults
+
+
+def shared(given: argparse.Namespace, settings: Settings, labels: list[Label], file: BinaryIO, told: set[str]) -> int:
+    """Writes the labels, each part by a process that is free, says how far it is, and returns how many are missing."""
+    faults, warned = 0, {}
+    start, done, is_shown = time.monotonic(), 0, sys.stderr.isatty()
+    for part in spread(write, parts_of(settings, labels), given.jobs or processors()):
         file.write(part.file)
         done += part.count
         faults += len(part.faults)
@@ -88,11 +113,10 @@ def labelled(given: argparse.Namespace, settings: Settings, lines: list[Union[st
         if is_shown:
             print(f"qrproved: {done:,} of {len(labels):,}", end="", file=sys.stderr, flush=True)
     if is_shown:
-        print(f"\rqrproved: {total - faults:,} labels in {time.monotonic() - start:.1f} s", file=sys.stderr)
+        print(f"\rqrproved: {len(labels) - faults:,} labels in {time.monotonic() - start:.1f} s", file=sys.stderr)
     if not given.quiet:
         warn_of(warned)
-    file.flush()
-    return 1 if faults else 0
+    return faults
 
 
 def text_of(data: bytes) -> Union[str, bytes]:
@@ -281,8 +305,8 @@ def check(words: list[str]) -> int:
 
 
 def is_one_file(path: str, kind: Optional[str]) -> bool:
-    """Whether the labels of --batch for a printer go to one file: its name says so, or it is standard output or a device."""
-    return kind in PRINTERS or path == "-" or (os.path.exists(path) and not os.path.isdir(path))
+    """Whether the labels of --batch go to one file: its name says so, or it is standard output or a device."""
+    return kind in ONE_FILE or path == "-" or (os.path.exists(path) and not os.path.isdir(path))
 
 
 def eci(text: str) -> int:
@@ -300,7 +324,7 @@ def parsed(words: list[str]) -> argparse.Namespace:
     parser.add_argument("text", nargs="?", help="the text to encode; without it, the text that standard input has, with its line end if"
                         " it has one. If that is no UTF-8, its bytes are encoded as they are, with a note")
     parser.add_argument("-o", "--output", metavar="FILE", help="the file to write, .png, .svg, .pdf, .eps, .txt, .pbm, .zpl, .tspl or .bin, which is"
-                        " ESC/POS; with --batch a folder, or a file .zpl, .tspl or .bin with all labels")
+                        " ESC/POS; with --batch a folder, or a file .pdf, .zpl, .tspl or .bin with all labels")
     parser.add_argument("-t", "--type", choices=sorted(SUFFIXES), type=str.lower, help="the type of the drawing, if the file does not tell")
     parser.add_argument("-l", "--level", choices=list(Level.__members__), type=str.upper, default="L", help="the least level of error correction; L")
     parser.add_argument("--no-boost", dest="boost", action="store_false", help="take this level also where the version has room for a higher one")
@@ -325,7 +349,8 @@ def parsed(words: list[str]) -> argparse.Namespace:
     parser.add_argument("--gs1", action="store_true", help="the text is GS1 data, as '(01)04012345678901(10)AB'")
     parser.add_argument("-S", "--series", action="store_true", help="write a series of up to 16 symbols of the version -v: the pages of a PDF, the"
                         " labels of a file for a printer, and else one symbol below the other")
-    parser.add_argument("--batch", metavar="FILE", help="write a symbol for each line of a file; - is standard input")
+    parser.add_argument("--batch", metavar="FILE", help="write a symbol for each line of a file; - is standard input. A PDF has a page for each, and"
+                        " all get the version of the largest")
     parser.add_argument("--names", choices=["number", "text"], default="number", help="how --batch names files: by number")
     parser.add_argument("--jobs", type=int, metavar="N", help="processes of --batch; one for each processor")
     given = parser.parse_args(words)
@@ -342,8 +367,8 @@ def parsed(words: list[str]) -> argparse.Namespace:
     if given.type is None:
         if given.batch is None and given.output not in (None, "-") and given.kind is None:
             parser.error(f"{given.output} does not end in .png, .svg, .pdf, .eps, .txt, .pbm, .zpl, .tspl or .bin: name the type by -t")
-        given.type = "png" if given.batch is not None and given.kind not in PRINTERS else given.kind or "utf8"
-    given.is_one_file = given.batch is not None and given.type in PRINTERS and is_one_file(given.output, given.kind)
+        given.type = "png" if given.batch is not None and given.kind not in ONE_FILE else given.kind or "utf8"
+    given.is_one_file = given.batch is not None and given.type in ONE_FILE and is_one_file(given.output, given.kind)
     if given.is_one_file and given.names == "text":
         parser.error("--names is of the files of a folder, and all labels go to one file")
     if (given.batch is None or given.is_one_file) and given.output in (None, "-") and given.type in BINARIES and sys.stdout.isatty():
@@ -384,15 +409,17 @@ def main(words: Optional[list[str]] = None) -> int:
         told = set()  # the warnings that were said
 
         def warn(message: Union[Warning, str], *_: object) -> None:
-            told.add(str(message))
-            say(str(message))
+            if str(message) not in told:
+                told.add(str(message))
+                say(str(message))
 
         warnings.showwarning = warn
         warnings.simplefilter("ignore" if given.quiet else "always", qrproved.PrintWarning)
         if given.batch is None:
             return one(given, settings)
         # so that a setting that is out of range is told once, and not for each label
-        settings.drawn(settings.encoded("(20)01" if given.gs1 else "A"))
+        sample = settings._replace(is_label=settings.is_label and settings.kind in PRINTERS)
+        sample.drawn(sample.encoded("(20)01" if given.gs1 else "A"))
         return batch(given, settings, told)
     except BrokenPipeError:
         end_output()

@@ -2,13 +2,14 @@
 one, which a new process does not have."""
 from __future__ import annotations
 
+import contextlib
 import io
 import multiprocessing
 import os
 import re
 import warnings
 from collections.abc import Callable, Iterator
-from typing import NamedTuple, Optional, Union
+from typing import NamedTuple, Optional, TypeVar, Union
 
 import qrproved
 from qrproved import LABELS, Drawing, EciError, Error, Gs1Error, PrintWarning, Symbol
@@ -19,6 +20,8 @@ FEW, PART = 3000, 500
 WORKERS_MAX = 60  # Windows waits for at most 63 processes at once
 NAME_MAX = 80
 DIGITS = 5  # at least, of a file that is named by its line
+
+Result = TypeVar("Result")
 
 
 class Settings(NamedTuple):
@@ -51,7 +54,9 @@ class Settings(NamedTuple):
         return qrproved.encode_series(**given, **settings) if self.is_series else [qrproved.encode(**given, **settings, boost=self.boost)]
 
     def drawn(self, symbols: list[Symbol]) -> bytes:
-        """Returns the drawing of a symbol or of a series."""
+        """Returns the drawing of a symbol or of a series, or the modules of a symbol that gets a page of a PDF."""
+        if self.kind == "pdf" and self.is_label:
+            return symbols[0].modules
         if self.kind in LABELS and (self.is_series or self.is_label):
             return qrproved.labels(symbols, kind=self.kind, scale=self.scale, margin=self.margin, mm=self.mm, dpi=self.dpi, x=self.x, y=self.y)
         if self.kind in DRAWINGS:
@@ -116,6 +121,15 @@ def tried(part: Part, take: Callable[[str, bytes], None]) -> Done:
     return done
 
 
+def largest(part: Part) -> int:
+    """Returns the greatest version of the symbols of a part, or 0. Labels that are refused have none."""
+    versions = [0]
+    for _, _, data in part.labels:
+        with contextlib.suppress(Error, EciError, Gs1Error):
+            versions.append(part.settings.encoded(data)[0].version)
+    return max(versions)
+
+
 def write(part: Part) -> Done:
     """Writes each label of a part to its file, or all of them to the one that is returned."""
     if not part.settings.is_label:
@@ -149,8 +163,8 @@ def labels_of(lines: list[Union[str, bytes]], folder: str, suffix: str, by_text:
     return labels
 
 
-def written(parts: list[Part], workers: int) -> Iterator[Done]:
-    """Writes all parts, by a pool of processes if there are many, and yields what `write` returns of each, in their order."""
+def spread(work: Callable[[Part], Result], parts: list[Part], workers: int) -> Iterator[Result]:
+    """Yields what `work` returns of each part, in their order. If there are many parts, a pool of processes does it."""
     if workers > 1 and len(parts) * PART > FEW:
         try:
             # Not a fork: no call of the library may be made in the child of a process with threads.
@@ -159,9 +173,9 @@ def written(parts: list[Part], workers: int) -> Iterator[Done]:
             pool = None
         if pool is not None:
             with pool:
-                yield from pool.imap(write, parts)
+                yield from pool.imap(work, parts)
             return
-    yield from map(write, parts)
+    yield from map(work, parts)
 
 
 def processors() -> int:

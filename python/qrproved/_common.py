@@ -7,6 +7,7 @@ from pathlib import Path
 # common.json has nine parts:
 #   limits           the greatest sizes and counts, those of include/qrproved.h by their names there; widths of modules are in millimetres. DPI is the resolution of
 #                    most label printers, and DOTS how many of its dots a module has, if nothing else is said. MICROMETRES is the width of a module of a document for print
+#                    if nothing else is said, and PAPER_MAX that of the largest paper
 #   interpretations  the numbers of some ECIs, and those of the header that are no ECIs
 #   formats          the numbers of the header's formats of images
 #   documents        the numbers of the header's formats of documents for print

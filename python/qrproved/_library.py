@@ -51,6 +51,10 @@ class Drawn(ctypes.Structure):
     _fields_ = [("drawing", c_uint8), ("margin", c_uint8), ("count", c_uint8), ("side", c_uint8)]
 
 
+class Sheet(ctypes.Structure):
+    _fields_ = [(name, c_uint32) for name in ("width", "height", "left", "top", "across", "down", "columns", "rows", "first")]
+
+
 # A version, a level, an interpretation, a side or another number of 32 bits. ctypes cuts a larger one, so callers check it first.
 SETTING = c_uint32
 BYTES = [ctypes.c_char_p, c_size_t]
@@ -62,6 +66,7 @@ PARAMETERS = {
     "qrproved_mend": [*BYTES, SETTING, *BUFFER, *BUFFER, ctypes.POINTER(Mended)],
     "qrproved_draw": [*BYTES, SETTING, SETTING, SETTING, SETTING, *BUFFER, ctypes.POINTER(c_size_t)],
     "qrproved_document": [*BYTES, *[SETTING] * 5, *BUFFER, ctypes.POINTER(c_size_t)],
+    "qrproved_sheets": [*BYTES, *[SETTING] * 4, ctypes.POINTER(Sheet), *BUFFER, ctypes.POINTER(c_size_t)],
     "qrproved_image": [*BYTES, *[SETTING] * 7, *BUFFER, ctypes.POINTER(c_size_t)],
     "qrproved_parse_drawing": [*BYTES, *BUFFER, ctypes.POINTER(Drawn)],
     "qrproved_room": [SETTING, SETTING, SETTING, SETTING, SETTING, ctypes.POINTER(c_uint32)],

@@ -140,6 +140,21 @@ class Command(unittest.TestCase):
         self.assertEqual((self.room / "folder/00001.zpl").read_bytes(), symbols[0].zpl())
         self.assertIn("all labels go to one file", run("--batch", "-", "-o", self.room / "b.zpl", "--names", "text", status=2)[1])
 
+    def test_a_page_for_each_line(self):
+        lines = b"Shelf 1\r\n\nShelf 2\n" + b"a" * 3000 + b"\nof another version"
+        out, said = run("--batch", "-", "-o", self.room / "a.pdf", "--mm", "16.5", "-m", "2", "-q", given=lines, status=1)
+        self.assertEqual((out, said[:21], said.count("\n")), (b"", "qrproved: line 4: the", 1))
+        # all have the version of the largest, 2, which is 29 modules wide with this margin, and so of 0.569 mm each: 16.501 mm
+        symbols = [qrproved.encode(it, version=2) for it in ("Shelf 1", "Shelf 2", "of another version")]
+        page = qrproved.Sheet(16.501, 16.501, columns=1, rows=1)
+        file = (self.room / "a.pdf").read_bytes()
+        self.assertEqual(file, qrproved.sheets(symbols, page, margin=2))
+        self.assertEqual(file.count(b"/Type/Page/"), 3)
+        self.assertEqual(run("--batch", "-", "-o", self.room / "b.pdf", "-m", "1", given=b"1\n2\n")[1], "qrproved: a margin of 1 module: scanners need 4\n")
+        run("--batch", "-", "-t", "pdf", "-o", self.room / "pages", given=b"Shelf 1\n")
+        self.assertEqual((self.room / "pages/00001.pdf").read_bytes(), qrproved.encode("Shelf 1").pdf())
+        self.assertIn("from 0 to 100", run("--batch", "-", "-o", self.room / "c.pdf", "-m", "101", given=b"1\n2\n", status=1)[1])
+
     def test_small_modules_of_a_batch(self):
         # 29, 29, 33 and 37 modules of 8 mm; the one of 29 is that of the settings, and is told once
         lines = b"1\n2\n" + b"a" * 20 + b"\n" + b"a" * 40 + b"\n" + b"b" * 40

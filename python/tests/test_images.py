@@ -104,6 +104,31 @@ class Images(unittest.TestCase):
         with self.assertRaises(TypeError):
             symbol.save(io.BytesIO(), kind="pdf", dpi=300)
 
+    def test_sheets(self):
+        few = [qrproved.encode(f"Shelf {k}", version=2) for k in range(7)]
+        sheet = qrproved.Sheet(210, 297, columns=3, rows=2, left=7, top=15, across=66, down=140, first=4)
+        file = qrproved.sheets(few, sheet, mm=33)
+        # 210 and 297 mm are 595.275590 and 841.889763 points
+        self.assertEqual(file.count(b"/MediaBox[0 0 595.275590 841.889763]"), 2)
+        # 33 modules of 1 mm. The fifth place is 7 + 66 mm from the left and 297 - 15 - 140 - 33 from the lower edge
+        self.assertIn(b"stream\nq 2.834645 0 0 2.834645 206.929133 308.976377 cm\n", file)
+        self.assertEqual(sum(map(int, re.findall(rb"\d+ \d+ (\d+) 1 re\n", file))), sum(it.modules.count(1) for it in few))
+        # without a width the symbols are as wide as their places, which are 66 mm wide: 33 modules of 2 mm
+        self.assertEqual(qrproved.sheets(few, sheet), qrproved.sheets(few, sheet, mm=66))
+        self.assertEqual(qrproved.sheets(few[0], sheet), qrproved.sheets(few[:1], sheet))
+        for wrong in ({"mm": 66.1}, {"mm": 0}, {"margin": 101}):
+            with self.assertRaises(SettingsError, msg=wrong):
+                qrproved.sheets(few, sheet, **wrong)
+        for wrong in ({"width": 205}, {"height": 220}, {"across": 1}, {"columns": 0}, {"rows": 101}, {"first": 6}, {"left": -1}, {"width": 2000.001}):
+            with self.assertRaises(SettingsError, msg=wrong):
+                qrproved.sheets(few, sheet._replace(**wrong))
+        for wrong in ([], [few[0], qrproved.encode("A")]):
+            with self.assertRaises(SettingsError):
+                qrproved.sheets(wrong, sheet)
+        for wrong in ({"columns": 1.5}, {"width": "210"}, {"left": True}):
+            with self.assertRaises(TypeError, msg=wrong):
+                qrproved.sheets(few, sheet._replace(**wrong))
+
     def test_labels(self):
         few = [qrproved.encode("Shelf 12"), qrproved.encode("Shelf 13", version=5), qrproved.encode("Shelf 14")]
         sizes = {"scale": 3, "margin": 2, "x": 12, "y": 345}

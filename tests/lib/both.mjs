@@ -53,6 +53,7 @@ const CALLS = {
     const symbols = encoded(asked), { kind, isSeries, chosen } = asked, options = { ...chosen, quiet: true };
     if (kind === 'size') return Object.values(symbols[0].printedSize(chosen));
     if (!isSeries) return hashOf(symbols[0][kind](options));
+    if (asked.sheet) return hashOf(qr.sheetsOf(symbols, asked.sheet, options));
     return hashOf(['svg', 'pdf', 'eps'].includes(kind) ? qr.documentOf(symbols, { type: kind, ...options }) : qr.labels(symbols, { type: kind, ...options }));
   },
   parse: ({ text }) => {

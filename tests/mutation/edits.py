@@ -24,6 +24,8 @@ class Edit:
             if self.put({}) is None:
                 self.why_bad = "the text after 'old:' does not occur exactly once in its file, or nothing is changed"
         named = re.findall(r"^caller: (\S+)$", self.text, re.M)
+        # a function at which the prover refuses a wrong body that is tried alone, as the prover names it
+        self.refused = re.findall(r"^refused: (\S+)$", self.text, re.M)
         self.callers = [it for it in items.all if it.is_function and (f"{it.owner}::{it.name}" if it.owner else it.name) in named]
 
     def read_changes(self):

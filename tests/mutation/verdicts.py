@@ -55,7 +55,7 @@ class Said:
     def why_early(self, changed):
         """Returns the line that says why the check ended before it judged the changed bodies, or None."""
         bad = next((it for it in self.lines if is_unread(it, changed)), None)
-        if bad or self.status != 1 or self.lines[-1].startswith("logic=not-proved"):
+        if bad or self.status != 1 or re.match(r"logic=not-proved|only=\d+ proved=\d+", self.lines[-1]):
             return bad
         return next((it for it in self.lines if re.search(r"\berror\[[\w-]+\]", it)), self.lines[-1])
 

@@ -44,6 +44,19 @@ pub struct Eci {
 }
 
 #[repr(C)]
+pub struct Sheet {
+    pub width: u32,
+    pub height: u32,
+    pub left: u32,
+    pub top: u32,
+    pub across: u32,
+    pub down: u32,
+    pub columns: u32,
+    pub rows: u32,
+    pub first: u32,
+}
+
+#[repr(C)]
 #[derive(Default)]
 pub struct Content {
     pub len: u64,
@@ -185,6 +198,19 @@ extern "C" {
         format: Setting,
         margin: Setting,
         micrometres: Setting,
+        text: *mut c_uchar,
+        text_len: usize,
+        written: *mut usize,
+    ) -> u8;
+
+    pub fn qrproved_sheets(
+        modules: *const c_uchar,
+        modules_len: usize,
+        side: Setting,
+        count: Setting,
+        margin: Setting,
+        micrometres: Setting,
+        sheet: *const Sheet,
         text: *mut c_uchar,
         text_len: usize,
         written: *mut usize,

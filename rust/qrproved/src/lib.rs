@@ -246,6 +246,29 @@ pub enum Document {
     Pdf = 2,
 }
 
+/// Label paper. Its lengths are in micrometres.
+#[derive(Clone, Copy, Debug, PartialEq, Eq, Hash)]
+pub struct Sheet {
+    /// The width of the paper.
+    pub width: u32,
+    /// The height of the paper.
+    pub height: u32,
+    /// How far the first place is from the left edge of the paper.
+    pub left: u32,
+    /// How far it is from the upper edge.
+    pub top: u32,
+    /// How far the left edges of places side by side are from each other.
+    pub across: u32,
+    /// How far the upper edges of places one below the other are from each other.
+    pub down: u32,
+    /// How many places are side by side, from 1 to 100.
+    pub columns: u32,
+    /// How many are one below the other, from 1 to 100.
+    pub rows: u32,
+    /// How many places of the first sheet stay free, as labels that are used up.
+    pub first: u32,
+}
+
 /// The format of an image, with its number in the header.
 #[derive(Clone, Copy, Debug, PartialEq, Eq, Hash)]
 #[non_exhaustive]
@@ -731,16 +754,7 @@ pub fn document(
     micrometres: u32,
 ) -> Result<Vec<u8>, Error> {
     check_library();
-    let first = symbols.first().ok_or(Error::Settings)?;
-    if symbols.iter().any(|it| it.version != first.version) {
-        return Err(Error::Settings);
-    }
-    let modules = symbols
-        .iter()
-        .map(Symbol::modules)
-        .collect::<Vec<_>>()
-        .concat();
-    let count = symbols.len().try_into().map_err(|_| Error::Settings)?;
+    let (modules, side, count) = squares_of(symbols)?;
     let call = |text: *mut u8, len: usize| {
         let mut written = 0;
         // SAFETY: the version is checked, each length is that of its slice, or 0 beside a null pointer, and only the
@@ -749,7 +763,7 @@ pub fn document(
             c::qrproved_document(
                 modules.as_ptr(),
                 modules.len(),
-                first.side() as c::Setting,
+                side,
                 count,
                 format as c::Setting,
                 c::Setting::from(margin),
@@ -761,6 +775,72 @@ pub fn document(
         };
         (status, written)
     };
+    measured(call)
+}
+
+/// Returns a PDF with 1 to 10,000 symbols of one version on sheets of label paper, as many as they need. The symbols follow one
+/// another in rows, from the upper left place on. Each has `margin` light modules on each side; a scanner needs 4. A module is
+/// `micrometres` wide, from 1 to 1,000,000.
+///
+/// # Errors
+///
+/// [`Error::Settings`] if there are not 1 to 10,000 symbols, or not all of one version, if a number is out of its range, if a symbol
+/// with its margin is wider or higher than its place, or if a place is not on the paper; [`Error::Memory`].
+pub fn sheets(
+    symbols: &[Symbol],
+    sheet: &Sheet,
+    margin: u8,
+    micrometres: u32,
+) -> Result<Vec<u8>, Error> {
+    check_library();
+    let (modules, side, count) = squares_of(symbols)?;
+    let paper = c::Sheet {
+        width: sheet.width,
+        height: sheet.height,
+        left: sheet.left,
+        top: sheet.top,
+        across: sheet.across,
+        down: sheet.down,
+        columns: sheet.columns,
+        rows: sheet.rows,
+        first: sheet.first,
+    };
+    let call = |text: *mut u8, len: usize| {
+        let mut written = 0;
+        // SAFETY: the version is checked, each length is that of its slice, or 0 beside a null pointer, the call only reads
+        // `paper`, and only the call has `text` and `written`.
+        let status = unsafe {
+            c::qrproved_sheets(
+                modules.as_ptr(),
+                modules.len(),
+                side,
+                count,
+                c::Setting::from(margin),
+                micrometres,
+                &paper,
+                text,
+                len,
+                &mut written,
+            )
+        };
+        (status, written)
+    };
+    measured(call)
+}
+
+/// Returns the modules of symbols of one version, one symbol after the other, with their side and their number.
+fn squares_of(symbols: &[Symbol]) -> Result<(Vec<u8>, c::Setting, c::Setting), Error> {
+    let first = symbols.first().ok_or(Error::Settings)?;
+    if symbols.iter().any(|it| it.version != first.version) {
+        return Err(Error::Settings);
+    }
+    let modules = symbols.iter().flat_map(Symbol::modules).copied().collect();
+    let count = symbols.len().try_into().map_err(|_| Error::Settings)?;
+    Ok((modules, first.side() as c::Setting, count))
+}
+
+/// Calls `call` with no buffer, which tells how long the text is, and then with one that is as long.
+fn measured(call: impl Fn(*mut u8, usize) -> (u8, usize)) -> Result<Vec<u8>, Error> {
     match call(std::ptr::null_mut(), 0) {
         (status, needed) if status == Error::Room.status() => filled(needed, call),
         (status, _) => Err(Error::of_status(status).unwrap_or(Error::Settings)),

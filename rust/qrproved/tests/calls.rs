@@ -1,8 +1,8 @@
 //! What the crate adds to the library: its types, and its refusals. The symbols themselves are compared by tests/library.
 use qrproved::{
     document, draw, draw_squares, draw_svg, encode, encode_series, image, mend, parse_drawing,
-    read, room, Content, Document, Drawing, Eci, Error, Fnc1, Format, Header, ImageOptions,
-    Interpretation, Level, Mode, Options, Rule, SettingError, TextError, Version,
+    read, room, sheets, Content, Document, Drawing, Eci, Error, Fnc1, Format, Header, ImageOptions,
+    Interpretation, Level, Mode, Options, Rule, SettingError, Sheet, TextError, Version,
 };
 
 /// What the command has: the level that is asked for.
@@ -254,6 +254,39 @@ fn images_and_documents() {
         document(&[symbol], Document::Svg, 4, 0),
         Err(Error::Settings)
     );
+}
+
+#[test]
+fn sheets_of_label_paper() {
+    let symbol = encode(b"Shelf 12", Version::MIN, Level::L, &Options::default()).unwrap();
+    // places of 29 mm on paper of 61 by 94 mm, which is 172.913385 by 266.456692 points
+    let sheet = Sheet {
+        width: 61_000,
+        height: 94_000,
+        left: 1_000,
+        top: 2_000,
+        across: 30_000,
+        down: 31_000,
+        columns: 2,
+        rows: 3,
+        first: 5,
+    };
+    let pages = sheets(&[symbol.clone(), symbol.clone()], &sheet, 4, 1_000).unwrap();
+    let text = String::from_utf8(pages).unwrap();
+    assert_eq!(text.matches("/MediaBox[0 0 172.913385 266.456692]").count(), 2);
+    // 31 mm from the left, and 94 - 2 - 2 * 31 - 29 from the lower edge
+    assert!(text.contains("stream\nq 2.834645 0 0 2.834645 87.874015 2.834645 cm\n"));
+    for wrong in [
+        Sheet { width: 59_999, ..sheet },
+        Sheet { down: 31_001, ..sheet },
+        Sheet { first: 6, ..sheet },
+        Sheet { columns: 0, ..sheet },
+    ] {
+        let refused = sheets(&[symbol.clone()], &wrong, 4, 1_000);
+        assert_eq!(refused, Err(Error::Settings), "{wrong:?}");
+    }
+    assert_eq!(sheets(&[], &sheet, 4, 1_000), Err(Error::Settings));
+    assert_eq!(sheets(&[symbol], &sheet, 4, 1_035), Err(Error::Settings));
 }
 
 /// A module of each of the first five codewords of version 1. In the symbol of eight digits the first three are dark.
