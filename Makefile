@@ -13,7 +13,7 @@
 ## make wheel          the package for Python, in python/out
 ## make wheels         the packages for Python for all systems, and their sources, in python/out
 ## make wasm           the library as WebAssembly, in out/wasm (needs binaryen)
-## make c              the library as one C file for other machines, in out/c
+## make c              the library as one C file for other machines, in out/c, and one for little flash
 ## make everywhere     the library for Windows, musl and macOS, and the program for Windows, in out/everywhere
 ## make crate          the crate for Rust with this C file inside, in out/crate
 ## make npm            the package for JavaScript, in out/npm
@@ -250,7 +250,7 @@ wasm: $(if $(module_is_old)$(shell find $(MODULE) ports/wasm -newer $(WASM) 2>&1
 build-wasm: module
 	ports/wasm/build $(MODULE) out/wasm
 
-# The library as a C file, with the header beside it.
+# The library as a C file, and in the form for little flash, with the header beside them.
 C_FILE = out/c/qrproved.c
 c: $(if $(module_is_old)$(shell find $(MODULE) ports/c include/qrproved.h -newer $(C_FILE) 2>&1),build-c)
 

@@ -1,0 +1,16 @@
+/* The memory of mps2-an386. Below RAM there is none, so a stack that does not fit ends the program, and overwrites nothing. */
+MEMORY
+{
+	FLASH (rx) : ORIGIN = 0, LENGTH = 512K
+	RAM (rwx) : ORIGIN = 0x20000000, LENGTH = DEFINED(RAM_SIZE) ? RAM_SIZE : 32K
+}
+
+SECTIONS
+{
+	.text : { KEEP(*(.vectors)) *(.text .text.*) *(.rodata .rodata.*) . = ALIGN(4); } >FLASH
+	.ARM.exidx : { *(.ARM.exidx*) } >FLASH
+	.stack (NOLOAD) : { stack_begin = .; . += DEFINED(STACK_SIZE) ? STACK_SIZE : 8K; stack_end = .; } >RAM
+	.data : { data_begin = .; *(.data .data.* .sdata .sdata.*) . = ALIGN(4); data_end = .; } >RAM AT>FLASH
+	.bss (NOLOAD) : { bss_begin = .; *(.bss .bss.* .sbss .sbss.* COMMON) . = ALIGN(4); bss_end = .; } >RAM
+	data_load = LOADADDR(.data);
+}
