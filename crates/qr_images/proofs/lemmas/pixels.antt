@@ -150,8 +150,16 @@ pub bytes-shown : (margin row start scale : ℕ) (cells : List ℕ) (g : Grid) �
     → byte_of (λ j. not (is_dark_in margin cells ((start + j) / scale))) ≡ byte_of (λ j. not (is_dark_at margin g row ((start + j) / scale)))
 unfolding byte_of
 bytes-shown margin row start scale cells g same =
-    rw (same ((start + 0) / scale), same ((start + 1) / scale), same ((start + 2) / scale), same ((start + 3) / scale), same ((start + 4) / scale),
-      same ((start + 5) / scale), same ((start + 6) / scale), same ((start + 7) / scale)) refl
+    rw (
+      same ((start + 0) / scale),
+      same ((start + 1) / scale),
+      same ((start + 2) / scale),
+      same ((start + 3) / scale),
+      same ((start + 4) / scale),
+      same ((start + 5) / scale),
+      same ((start + 6) / scale),
+      same ((start + 7) / scale),
+    ) refl
 
 -- at most eight digits are a byte
 pub digits-in : (p : ℕ → Bool) (n byte : ℕ) → n ≤ 8 → byte ≡ digits_of p n → byte < 256
