@@ -36,7 +36,10 @@ line_count HalfBlocks rows = (rows + 1) / 2
 abbrev pub cells_of_line : TextStyle → ℕ → Grid → ℕ → List ℕ
 cells_of_line style margin g y = texts_below (raster_width margin g) (cell_of style margin g y)
 
--- All lines of the drawing from top to bottom, each with a newline at its end [own]
+-- Line `y` of the drawing, with the newline at its end [own]
+abbrev pub line_of : TextStyle → ℕ → Grid → ℕ → List ℕ
+line_of style margin g y = cells_of_line style margin g y ++ 10 ∷ []
+
+-- All lines of the drawing from top to bottom [own]
 abbrev pub text_drawing : TextStyle → ℕ → Grid → List ℕ
-text_drawing style margin g =
-    texts_below (line_count style (raster_width margin g)) (λ y. cells_of_line style margin g y ++ 10 ∷ [])
+text_drawing style margin g = texts_below (line_count style (raster_width margin g)) (line_of style margin g)

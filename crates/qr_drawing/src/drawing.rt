@@ -54,6 +54,46 @@ impl HasSquare for Symbol {
     }
 }
 
+/// A square of 1 to 177 modules on a side whose modules can be read eight at a time. It need not be a `Matrix`, which is
+/// stored in memory of its own.
+pub trait Eights {
+    ghost use Rattle.std.specs.Prelude.{◌≡◌, ℕ, ◌+◌, ◌<◌, ◌≤◌, ◌%◌};
+    ghost use Rattle.qr_matrix.specs.BitRow.{has_bit};
+    ghost use Rattle.qr_matrix.specs.Grid.{Grid, colour};
+
+    // The square, as contracts see it.
+    ghost seen: { Self → Grid };
+
+    /// Returns the number of modules on a side, from 1 to 177.
+    fn side(&self) -> u8
+        ensures value { result ≡ (seen self.now).side }
+        ensures least { 1 ≤ result }
+        ensures most { result ≤ 177 };
+
+    /// Returns the eight modules of row `row` from column `col` on as a number: the leftmost is the lowest bit, and a
+    /// set bit is dark. A bit whose column is outside the square may be 0 or 1.
+    fn eight(&self, row: u8, col: u8) -> u8
+        requires row_in { row < (seen self.now).side }
+        requires col_in { col < (seen self.now).side }
+        requires whole { col % 8 ≡ 0 }
+        ensures { (k : ℕ) → k < 8 → col + k < (seen self.now).side
+            → has_bit result k ≡ colour (seen self.now) row (col + k) };
+}
+
+impl Eights for Matrix {
+    ghost seen = { λ m. m };
+
+    #[inline(always)]
+    fn side(&self) -> u8 {
+        Matrix::side(self)
+    }
+
+    #[inline(always)]
+    fn eight(&self, row: u8, col: u8) -> u8 {
+        Matrix::eight(self, row, col)
+    }
+}
+
 // A square, and the width of the light margin around it in modules.
 #[derive(Drop)]
 pub(crate) struct Raster<'a> {

@@ -9,6 +9,7 @@
 //! - `drawing`: the types of drawing, and rasters
 //! - `eps`: writes an EPS document
 //! - `laws`: laws of drawings and documents
+//! - `line`: one line of a text
 //! - `measures`: lengths in millimetres and points
 //! - `pdf`: writes PDF documents
 //! - `sheets`: writes labels on sheets of paper, and the call that does so
@@ -21,6 +22,7 @@ mod document;
 mod drawing;
 mod eps;
 pub mod laws;
+mod line;
 mod measures;
 mod pdf;
 mod sheets;
@@ -28,6 +30,8 @@ mod svg;
 mod text;
 
 pub use document::{Document, DocumentSettings, write_document};
-pub use drawing::{Drawing, HasSquare, draw};
+pub use drawing::{Drawing, Eights, HasSquare, draw};
+pub use line::{draw_line, fill_line, line_len, line_room, text_lines};
 pub use sheets::{Sheet, SheetSettings, write_sheets};
 pub use qr_devices::{DrawFault, WRITE_MAX, write_text};
+pub use text::TextStyle;

@@ -12,17 +12,17 @@
 ghost use Rattle.std.specs.Prelude.{◌≡◌, ◌≤◌, ◌<◌, ◌+◌, ◌-◌, ◌*◌, ◌/◌, ◌%◌, ◌++◌, ◌∷◌, [], false, length, map};
 ghost use Rattle.std.specs.List.{flat_map};
 ghost use Rattle.qr_drawing.specs.Raster.{texts_below};
-ghost use Rattle.qr_drawing.specs.Text.{half_blocks, cells_of_line, text_drawing};
+ghost use Rattle.qr_drawing.specs.Text.{half_blocks, line_count, line_of, text_drawing};
 ghost use Rattle.qr_drawing.specs.Steps.Text.{AreDark, bits_text, cell_room, cell_text, pair_text};
 ghost use Rattle.qr_devices.specs.Pen.{Puts};
 ghost use Rattle.qr_drawing.specs.declared.text.TextStyle.TheVariants.{HalfBlocks, Plain};
 
-use crate::drawing::{HasSquare, Raster};
+use crate::drawing::{Eights, HasSquare, Raster};
 use qr_devices::{DrawFault, PEN_SIZE, Pen, Piece, Sink, WRITE_MAX};
 
 /// How a text shows modules.
 #[derive(Clone, Copy)]
-pub(crate) enum TextStyle {
+pub enum TextStyle {
     /// Two `#` show a dark module, and two spaces a light one.
     Plain,
     /// Two spaces show a dark module, and two `#` a light one.
@@ -71,16 +71,16 @@ fn push_cell(text: &mut Piece<PEN_SIZE>, style: TextStyle, upper: bool, lower: b
 // them is not in the square.
 #[inline(always)]
 #[tactic(auto, using(crate::proofs::lemmas::svg::is_dark_at_above, crate::proofs::lemmas::svg::is_dark_at_below, crate::proofs::lemmas::text::CellLemmas::dark_none))]
-fn dark_bits(raster: &Raster, y: u16, col: u8) -> u8
+fn dark_bits<M: Eights>(square: &M, margin: u8, y: u16, col: u8) -> u8
     requires { col % 8 ≡ 0 }
-    ensures { AreDark raster.now.margin raster.now.matrix.now y col result }
+    ensures { AreDark margin (M.seen square.now) y col result }
 {
-    let first = u16::from(raster.margin);
-    let side = raster.matrix.side();
+    let first = u16::from(margin);
+    let side = square.side();
     if y < first || y >= first + u16::from(side) || col >= side {
         return 0;
     }
-    raster.matrix.eight((y - first) as u8, col)
+    square.eight((y - first) as u8, col)
 }
 
 // The text of four modules in the style `Plain`. The index is the number whose bits are the modules.
@@ -184,39 +184,40 @@ fn push_light(text: &mut Piece<PEN_SIZE>, style: TextStyle, count: u16)
 // left. The third part is the last columns, of which there are fewer than four, with the right margin and the newline.
 // (In a symbol there is one last column.) The label of the loop is for the prover.
 #[inline(always)]
-fn put_line<W: Sink>(
+pub(crate) fn put_line<M: Eights, W: Sink>(
     pen: &mut Pen,
     out: &mut W,
     style: TextStyle,
-    raster: &Raster,
+    square: &M,
+    margin: u8,
     y: u16,
 ) -> Result<(), DrawFault>
     requires { y < 1000 }
     ensures { Puts (W.device out.old) (W.device out.new)
-        pen.old pen.new (cells_of_line style raster.now.margin raster.now.matrix.now y ++ 10 ∷ []) result }
+        pen.old pen.new (line_of style margin (M.seen square.now) y) result }
 {
     // The greatest number of bytes of a cell, and the first row of modules that the line shows.
     let (most, row) = match style {
         TextStyle::Plain | TextStyle::Inverse => (2, y),
         TextStyle::HalfBlocks => (3, 2 * y),
     };
-    let margin = u16::from(raster.margin);
-    let side = raster.matrix.side();
-    pen.reserve(out, usize::from(margin) * most)?;
-    push_light(&mut pen.piece, style, margin);
+    let margins = u16::from(margin);
+    let side = square.side();
+    pen.reserve(out, usize::from(margins) * most)?;
+    push_light(&mut pen.piece, style, margins);
     pen.reserve(out, usize::from(side) * most)?;
     let text = &mut pen.piece;
     let mut col = 0;
     'eights: while side - col >= 8 {
-        let upper = dark_bits(raster, row, col);
-        let lower = dark_bits(raster, row + 1, col);
+        let upper = dark_bits(square, margin, row, col);
+        let lower = dark_bits(square, margin, row + 1, col);
         push_quad(text, style, upper, lower);
         push_quad(text, style, upper / 16, lower / 16);
         col += 8;
     }
     // The columns that are left, of which there are fewer than eight, are the lowest bits of `upper` and `lower`.
-    let mut upper = dark_bits(raster, row, col);
-    let mut lower = dark_bits(raster, row + 1, col);
+    let mut upper = dark_bits(square, margin, row, col);
+    let mut lower = dark_bits(square, margin, row + 1, col);
     let mut left = side - col;
     if left >= 4 {
         push_quad(text, style, upper, lower);
@@ -224,7 +225,7 @@ fn put_line<W: Sink>(
         lower /= 16;
         left -= 4;
     }
-    pen.reserve(out, usize::from(u16::from(left) + margin) * most + 1)?;
+    pen.reserve(out, usize::from(u16::from(left) + margins) * most + 1)?;
     let text = &mut pen.piece;
     for done in 0..left {
         push_cell(
@@ -234,11 +235,23 @@ fn put_line<W: Sink>(
             (lower >> done) % 2 == 1,
         );
     }
-    push_light(text, style, margin);
+    push_light(text, style, margins);
     // Only for the prover: the pen contains at most `WRITE_MAX` bytes, with the newline too.
     prove!(text.len < WRITE_MAX);
     text.push_all(b"\n");
     Ok(())
+}
+
+/// Returns the number of lines that show `rows` rows of modules. If the number of rows is odd, the last line of half
+/// blocks shows one row, and light modules below it.
+#[inline(always)]
+pub(crate) fn line_count(style: TextStyle, rows: u16) -> u16
+    ensures { result ≡ line_count style rows }
+{
+    match style {
+        TextStyle::Plain | TextStyle::Inverse => rows,
+        TextStyle::HalfBlocks => rows.div_ceil(2),
+    }
 }
 
 /// Writes the texts of all symbols, and nothing between two of them. It is inlined into each of its calls in `draw`,
@@ -255,18 +268,14 @@ pub(crate) fn put_texts<S: HasSquare, W: Sink>(
         pen.old pen.new (flat_map (text_drawing style margin) (map S.grid symbols.now)) result }
 {
     for symbol in symbols {
+        let square = symbol.square();
         let raster = Raster {
-            matrix: symbol.square(),
+            matrix: square,
             margin,
         };
-        let rows = raster.width();
-        // If the number of rows is odd, the last line of half blocks shows one row, and light modules below it.
-        let lines = match style {
-            TextStyle::Plain | TextStyle::Inverse => rows,
-            TextStyle::HalfBlocks => rows.div_ceil(2),
-        };
+        let lines = line_count(style, raster.width());
         for y in 0..lines {
-            put_line(pen, out, style, &raster, y)?;
+            put_line(pen, out, style, square, margin, y)?;
         }
     }
     Ok(())

@@ -9,7 +9,6 @@ pub mod sums
 pub mod png
 pub mod texts
 pub mod bitmap_lines
-pub mod buffer
 pub mod printing
 pub mod runs
 pub mod pbm

@@ -2,6 +2,7 @@ pub mod Steps
 pub mod Settings
 pub mod Room
 pub mod Modules
+pub mod Bits
 pub mod Encoding
 pub mod Series
 pub mod Interpretation

@@ -3,7 +3,7 @@ use Rattle.std.proofs.Common.{◌≡◌, ◌++◌, ◌∙◌, ◌<◌, ◌≤◌
 use Rattle.std.{proofs.Math.Nat.{add-mul, mul-le-mul_right}, specs.Cmp.Lexicographic.{pointwise, same_text}}
 use Rattle.qr_matrix.specs.{Grid.{Grid, colour, is_same}, BitRow.has_bit, Sums.all_below}
 use Rattle.qr_matrix.proofs.Facts.{&&-left, &&-right, below-at, has_bit-shr, low-bits, same-same}
-use Rattle.qr_drawing.specs.{Raster.{is_dark_at, raster_width, texts_below}, Text.{cell_of, cells_of_line}}
+use Rattle.qr_drawing.specs.{Raster.{is_dark_at, raster_width, texts_below}, Text.{cell_of, cells_of_line, line_of}}
 use Rattle.qr_drawing.specs.Steps.Text.{AreDark, bits_text, cell_at, cell_room, cell_text, pair_text, top_row}
 use Rattle.qr_drawing.specs.declared.text.{TheConstants.{ASCII_QUADS, HALF_BLOCK_PAIRS}, TextStyle.{TextStyle, TheVariants.{Plain, Inverse, HalfBlocks}}}
 use Rattle.qr_drawing.proofs.lemmas.text.LineLemmas.{added-more, texts_below-add, texts_below-alike, texts_below-length}
@@ -27,7 +27,7 @@ dark_none margin g y col h k lt inside = light-bit k lt ∙ sym (h (margin + (co
 
 -- the bits of eight modules of the square are those of eight places of the raster
 pub dark-eight : (margin : ℕ) (g : Grid) (y row col bits : ℕ) → margin + row ≡ y → row < g.side
-    → ((k : ℕ) → k < 8 → has_bit bits k ≡ colour g row (col + k)) → AreDark margin g y col bits
+    → ((k : ℕ) → k < 8 → col + k < g.side → has_bit bits k ≡ colour g row (col + k)) → AreDark margin g y col bits
 dark-eight margin g y row col bits e inside h k lt col_in = search (arith, is_dark_at-inside)
 
 -- if n cells are added to the cells of `col` columns, the result is the cells of `col` + n columns
@@ -162,6 +162,19 @@ room-cells style margin g row first done n count h t e le fits =
 -- the cell in column x of a line is the cell of the definition
 cell-of : (style : TextStyle) (margin : ℕ) (g : Grid) (y x : ℕ) → cell_of style margin g y x ≡ cell_at style margin g (top_row style y) x
 cell-of style margin g y x = grind arith
+
+-- a cell of a line takes at most its room
+cell_of-length : (style : TextStyle) (margin : ℕ) (g : Grid) (y x : ℕ) → length (cell_of style margin g y x) ≤ cell_room style
+cell_of-length style margin g y x = grind arith
+
+-- a line takes at most the room of its cells, and a byte more
+pub line-length : (style : TextStyle) (margin : ℕ) (g : Grid) (y : ℕ) → length (line_of style margin g y) ≤ raster_width margin g * cell_room style + 1
+line-length style margin g y =
+    omega (
+      arith,
+      length-append (cells_of_line style margin g y) (10 ∷ []),
+      texts_below-length (raster_width margin g) (cell_room style) (cell_of style margin g y) (cell_of-length style margin g y),
+    )
 
 -- the cells of columns that are light are light cells
 light-cells : (style : TextStyle) (margin : ℕ) (g : Grid) (row first n : ℕ) →

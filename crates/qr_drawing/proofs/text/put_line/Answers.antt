@@ -17,14 +17,14 @@ style-is g c = search (rules, in-Plain, in-HalfBlocks)
 
 -- the first columns are in the pen, and the bits that are left are the last columns
 columns : (g : Over) (c : Joined-left-ge4 g) → c.match-style.most.1 ≡ top_row c.args.style c.args.y →
-    let side = c.args.raster.now.matrix.now.side in
-    let cells = λ (n first : ℕ). texts_below n (λ i. cell_at c.args.style c.args.raster.now.margin c.args.raster.now.matrix.now (top_row c.args.style c.args.y) (first + i)) in
-    (c.if-left-ge4.pen.piece ≡ c.reserve-2.new.self.piece ++ cells (side - c.if-left-ge4.left) c.args.raster.now.margin)
+    let side = (g.M.Eights.seen c.args.square.now).side in
+    let cells = λ (n first : ℕ). texts_below n (λ i. cell_at c.args.style c.args.margin (g.M.Eights.seen c.args.square.now) (top_row c.args.style c.args.y) (first + i)) in
+    (c.if-left-ge4.pen.piece ≡ c.reserve-2.new.self.piece ++ cells (side - c.if-left-ge4.left) c.args.margin)
     × (c.if-left-ge4.pen.interrupted ≡ c.reserve-2.new.self.interrupted) × (c.if-left-ge4.left ≤ side)
-    × (bits_text c.if-left-ge4.left c.args.style c.if-left-ge4.upper c.if-left-ge4.lower ≡ cells c.if-left-ge4.left (c.args.raster.now.margin + (side - c.if-left-ge4.left)))
+    × (bits_text c.if-left-ge4.left c.args.style c.if-left-ge4.upper c.if-left-ge4.lower ≡ cells c.if-left-ge4.left (c.args.margin + (side - c.if-left-ge4.left)))
 columns g c row =
     let i = c.eights.invariant in
-    let side = c.args.raster.now.matrix.now.side in
+    let side = (g.M.Eights.seen c.args.square.now).side in
     rw (← row) (elim c.if-left-ge4.branch [
       | then-left-ge4 w ↦
           let e : side - (c.side-side.result - c.eights.col - 4) ≡ c.eights.col + 4 = omega arith in
@@ -53,9 +53,9 @@ pub returns-in_err-reserve-2 : goal.returns-in_err-reserve-2
 returns-in_err-reserve-2 g c =
     let p = err_from_is_err_and c.from_residual-in_err-reserve-2.result c.from_residual-in_err-reserve-2.ensures.1 in
     let held = c.args.pen.now.piece in
-    rw (p.1, line-parts c.args.style c.args.raster.now.margin c.args.raster.now.matrix.now c.args.y 0 c.args.raster.now.matrix.now.side (omega arith))
+    rw (p.1, line-parts c.args.style c.args.margin (g.M.Eights.seen c.args.square.now) c.args.y 0 (g.M.Eights.seen c.args.square.now).side (omega arith))
     (stops-first _ _ _ held _ _ (stops-between _ _ _ _ _ held _ _ _
-    (formed _ _ _ _ held _ _ _ c.in_ok-reserve.ensures.writes (rw c.from-margin.ensures at c.push_light.ensures.items)) c.in_err-reserve-2.ensures.writes))
+    (formed _ _ _ _ held _ _ _ c.in_ok-reserve.ensures.writes (rw c.from-margins.ensures at c.push_light.ensures.items)) c.in_err-reserve-2.ensures.writes))
 
 pub eights-init : goal.eights-init
 eights-init g c = search (rules, added-none)
@@ -105,10 +105,10 @@ pub returns-in_err-reserve-3 : goal.returns-in_err-reserve-3
 returns-in_err-reserve-3 g c =
     let p = err_from_is_err_and c.from_residual-in_err-reserve-3.result c.from_residual-in_err-reserve-3.ensures.1 in
     let held = c.args.pen.now.piece in
-    let left = rw c.from-margin.ensures at c.push_light.ensures.items in
+    let left = rw c.from-margins.ensures at c.push_light.ensures.items in
     let at = goal.at.returns-in_err-reserve-3 g c in
     let done = columns g at.Joined-left-ge4 (style-is g at.Joined-style).1 in
-    rw (p.1, line-parts c.args.style c.args.raster.now.margin c.args.raster.now.matrix.now c.args.y (c.args.raster.now.matrix.now.side - c.if-left-ge4.left) c.if-left-ge4.left (omega (arith, done.2)))
+    rw (p.1, line-parts c.args.style c.args.margin (g.M.Eights.seen c.args.square.now) c.args.y ((g.M.Eights.seen c.args.square.now).side - c.if-left-ge4.left) c.if-left-ge4.left (omega (arith, done.2)))
     (stops-between _ _ _ _ _ held _ _ _ (writes-on _ _ _ _ _ _ held _ _ _ _
     (formed _ _ _ _ held _ _ _ c.in_ok-reserve.ensures.writes left)
     (formed _ _ _ _ _ _ _ _ c.in_ok-reserve-2.ensures.writes done.0)) (rw done.1 at c.in_err-reserve-3.ensures.writes))
@@ -119,7 +119,7 @@ loop-done-init g c = added-none _ _
 pub push_cell-requires : goal.push_cell-requires
 push_cell-requires g c =
     let most = (style-is g (goal.at.push_cell-requires g c).Joined-style).0 in
-    let fits = rw (c.from-4.ensures, c.from-3.ensures, c.from-margin.ensures, most, add-mul) at c.in_ok-reserve-3.ensures.room in
+    let fits = rw (c.from-4.ensures, c.from-3.ensures, c.from-margins.ensures, most, add-mul) at c.in_ok-reserve-3.ensures.room in
     record { room = grind (arith, room-left _ _ _ 1 c.if-left-ge4.left (cell_room c.args.style) 1200 _ (λ k. cell-length c.args.style _ _) c.loop-done.invariant) }
 
 pub loop-done-preserved : goal.loop-done-preserved
@@ -130,17 +130,17 @@ loop-done-preserved g c =
 pub push_light-requires-2 : goal.push_light-requires-2
 push_light-requires-2 g c =
     let most = (style-is g (goal.at.push_light-requires-2 g c).Joined-style).0 in
-    let fits = rw (c.from-4.ensures, c.from-3.ensures, c.from-margin.ensures, most, add-mul) at c.in_ok-reserve-3.ensures.room in
+    let fits = rw (c.from-4.ensures, c.from-3.ensures, c.from-margins.ensures, most, add-mul) at c.in_ok-reserve-3.ensures.room in
     let few = cells-length _ _ _ c.if-left-ge4.left (cell_room c.args.style) _ (λ k. cell-length c.args.style _ _) c.loop-done.invariant c.loop-done.auto.done-end in
-    record { room = rw c.from-margin.ensures (omega (arith, few, fits)) }
+    record { room = rw c.from-margins.ensures (omega (arith, few, fits)) }
 
 pub prove-unreachable-requires : goal.prove-unreachable-requires
 prove-unreachable-requires g c =
     let most = (style-is g (goal.at.prove-unreachable-requires g c).Joined-style).0 in
-    let fits = rw (c.from-4.ensures, c.from-3.ensures, c.from-margin.ensures, most, add-mul) at c.in_ok-reserve-3.ensures.room in
+    let fits = rw (c.from-4.ensures, c.from-3.ensures, c.from-margins.ensures, most, add-mul) at c.in_ok-reserve-3.ensures.room in
     let few = cells-length _ _ _ c.if-left-ge4.left (cell_room c.args.style) _ (λ k. cell-length c.args.style _ _) c.loop-done.invariant c.loop-done.auto.done-end in
     let long = length-take c.text.inside.len c.text.inside.bytes in
-    omega (arith, few, fits, rw c.from-margin.ensures at c.push_light-2.ensures.len, long, ap length c.text.view_is, c.text.invariant.0, c.text.invariant.1, c.if-prove.true)
+    omega (arith, few, fits, rw c.from-margins.ensures at c.push_light-2.ensures.len, long, ap length c.text.view_is, c.text.invariant.0, c.text.invariant.1, c.if-prove.true)
 
 pub push_all-requires : goal.push_all-requires
 push_all-requires g c =
@@ -150,12 +150,12 @@ pub returns : goal.returns
 returns g c =
     let held = c.args.pen.now.piece in
     let at = goal.at.returns g c in
-    let left = rw c.from-margin.ensures at c.push_light.ensures.items in
+    let left = rw c.from-margins.ensures at c.push_light.ensures.items in
     let done = columns g at.Joined-left-ge4 (style-is g at.Joined-style).1 in
     let e : c.loop-done.done ≡ c.if-left-ge4.left = omega arith in
     let rest = parts _ _ _ _ _ _ _ (rw (e, done.3) at c.loop-done.invariant)
-    (rw c.from-margin.ensures at c.push_light-2.ensures.items) c.push_all.ensures.items in
-    rw (line-parts c.args.style c.args.raster.now.margin c.args.raster.now.matrix.now c.args.y (c.args.raster.now.matrix.now.side - c.if-left-ge4.left) c.if-left-ge4.left (omega (arith, done.2)))
+    (rw c.from-margins.ensures at c.push_light-2.ensures.items) c.push_all.ensures.items in
+    rw (line-parts c.args.style c.args.margin (g.M.Eights.seen c.args.square.now) c.args.y ((g.M.Eights.seen c.args.square.now).side - c.if-left-ge4.left) c.if-left-ge4.left (omega (arith, done.2)))
     (writes-on _ _ _ _ _ _ held _ _ _ _ (writes-on _ _ _ _ _ _ held _ _ _ _
     (formed _ _ _ _ held _ _ _ c.in_ok-reserve.ensures.writes left)
     (formed _ _ _ _ _ _ _ _ c.in_ok-reserve-2.ensures.writes done.0))

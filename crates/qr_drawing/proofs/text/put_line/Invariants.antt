@@ -5,7 +5,7 @@ abbrev pub invariant-eights : goal.invariant-eights
 invariant-eights g l = record {
   within : l.col ≤ l.side;
   whole : l.col % 8 ≡ 0;
-  items : l.text ≡ l.initial.text ++ texts_below l.col (λ i. cell_at l.style l.raster.margin l.raster.matrix.now l.row (l.raster.margin + i));
+  items : l.text ≡ l.initial.text ++ texts_below l.col (λ i. cell_at l.style l.margin (g.M.Eights.seen l.square) l.row (l.margin + i));
 }
 
 abbrev pub decreases-eights : goal.decreases-eights

@@ -12,4 +12,4 @@ abbrev pub invariant-loop-y : goal.invariant-loop-y
 invariant-loop-y g l = Writes (g.W.Sink.device l.fn.out) (g.W.Sink.device l.out)
     l.fn.pen.interrupted l.pen.interrupted
     ((l.fn.pen.piece ++ texts_below l.symbol-index (λ k. text_drawing l.style l.margin (square_at (map g.S.HasSquare.grid l.symbols) k)))
-    ++ texts_below l.y (λ y. cells_of_line l.style l.margin l.raster.matrix.now y ++ 10 ∷ [])) l.pen.piece
+    ++ texts_below l.y (λ y. cells_of_line l.style l.margin l.square y ++ 10 ∷ [])) l.pen.piece

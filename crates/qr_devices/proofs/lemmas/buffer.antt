@@ -1,10 +1,10 @@
--- What is in a buffer into which a file was written.
+-- What is in a buffer into which a text was written.
 use Rattle.std.proofs.Common.{◌≡◌, ℕ, ◌+◌, ◌≤◌, refl, sym, ap, ◌∙◌, arith, true, is_err, List, [], ◌++◌, append-nil, length, length-append, take, drop, Some, OnErr, OnOk, Result, Ok, Err}
 use Rattle.std.proofs.lemmas.List.{drop_all, nil_from_length, take_all, take-append-drop}
 use Rattle.std.specs.Io.KnownBytes.{Appends}
 use Rattle.qr_devices.specs.{Device.{AppendsBeginning, is_write_fault}, declared.{device.WriteCounts.WriteCounts, pen.DrawFault.DrawFault}}
 
--- a file that has room is there, and the bytes after it are unchanged
+-- a text that has room is there, and the bytes after it are unchanged
 pub filled : {T : Type 0} (r : Result T DrawFault) (file old before now : List ℕ) (start len : ℕ) (counts : WriteCounts) → start ≡ 0 → before ≡ old
     → length file ≤ length old → length now ≡ length old → len ≤ length now → (is_write_fault counts ≡ true → len ≡ length now)
     → OnOk r (Appends (Some (take start before)) (Some (take len now)) file)
