@@ -51,7 +51,7 @@ struct SheetNumbers {
 fn fits(first: u32, number: u8, step: u32, size: u64, all: u32) -> bool
     requires some { 1 ≤ number }
     requires small { size ≤ 1000000000 }
-    ensures { (result ≡ true) ↔ ((first + (number - 1) * step + size ≤ all) × ((number ≡ 1) ⊎ (size ≤ step))) }
+    ensures { (result ≡ true) ↔ ((first + (number - 1) * step + size ≤ all) × (1 < number → size ≤ step)) }
 {
     let last = u64::from(first) + u64::from(number - 1) * u64::from(step);
     last + size <= u64::from(all) && (number == 1 || size <= u64::from(step))
