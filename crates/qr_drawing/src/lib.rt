@@ -29,5 +29,5 @@ mod text;
 
 pub use document::{Document, DocumentSettings, write_document};
 pub use drawing::{Drawing, HasSquare, draw};
-pub use sheets::{Sheet, SheetSettings, write_sheets};
 pub use qr_devices::{DrawFault, WRITE_MAX, write_text};
+pub use sheets::{Sheet, SheetSettings, write_sheets};
