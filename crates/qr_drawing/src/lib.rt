@@ -32,6 +32,6 @@ mod text;
 pub use document::{Document, DocumentSettings, write_document};
 pub use drawing::{Drawing, Eights, HasSquare, draw};
 pub use line::{draw_line, fill_line, line_len, line_room, text_lines};
-pub use sheets::{Sheet, SheetSettings, write_sheets};
 pub use qr_devices::{DrawFault, WRITE_MAX, write_text};
+pub use sheets::{Sheet, SheetSettings, write_sheets};
 pub use text::TextStyle;

@@ -503,7 +503,12 @@ impl<S: HasSquare> HasPages for SymbolPages<'_, S> {
         square_length(&self.raster(page), self.micrometres, b"0 0")
     }
 
-    fn put_commands<W: Sink>(&self, pen: &mut Pen, out: &mut W, page: u16) -> Result<(), DrawFault> {
+    fn put_commands<W: Sink>(
+        &self,
+        pen: &mut Pen,
+        out: &mut W,
+        page: u16,
+    ) -> Result<(), DrawFault> {
         put_square(pen, out, &self.raster(page), self.micrometres, b"0 0")
     }
 }

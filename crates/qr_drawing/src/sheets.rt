@@ -168,7 +168,13 @@ impl<S: HasSquare> SheetPages<'_, S> {
     }
 
     // Writes the commands for a place of a page.
-    fn put_label<W: Sink>(&self, pen: &mut Pen, out: &mut W, page: u16, place: u16) -> Result<(), DrawFault>
+    fn put_label<W: Sink>(
+        &self,
+        pen: &mut Pen,
+        out: &mut W,
+        page: u16,
+        place: u16,
+    ) -> Result<(), DrawFault>
         requires { place < places_of self.now.settings.sheet }
         ensures { Puts (W.device out.old) (W.device out.new)
             pen.old pen.new (place_commands self.now.settings (map S.grid self.now.symbols.now) page place) result }
@@ -179,7 +185,13 @@ impl<S: HasSquare> SheetPages<'_, S> {
         let corner = self.corner(&raster, place);
         pen.reserve(out, 2)?;
         pen.piece.push_all(b"q ");
-        put_square(pen, out, &raster, self.settings.micrometres, corner.as_slice())?;
+        put_square(
+            pen,
+            out,
+            &raster,
+            self.settings.micrometres,
+            corner.as_slice(),
+        )?;
         pen.reserve(out, 2)?;
         pen.piece.push_all(b"Q\n");
         Ok(())
@@ -207,7 +219,12 @@ impl<S: HasSquare> HasPages for SheetPages<'_, S> {
         len
     }
 
-    fn put_commands<W: Sink>(&self, pen: &mut Pen, out: &mut W, page: u16) -> Result<(), DrawFault> {
+    fn put_commands<W: Sink>(
+        &self,
+        pen: &mut Pen,
+        out: &mut W,
+        page: u16,
+    ) -> Result<(), DrawFault> {
         for place in 0..self.places() {
             self.put_label(pen, out, page, place)?;
         }

@@ -5,3 +5,4 @@ pub mod interpretation
 pub mod reading
 pub mod mending
 pub mod drawing
+pub mod sheets

@@ -51,7 +51,7 @@ struct SheetNumbers {
 fn fits(first: u32, number: u8, step: u32, size: u64, all: u32) -> bool
     requires some { 1 ≤ number }
     requires small { size ≤ 1000000000 }
-    ensures { (result ≡ true) ↔ ((first + (number - 1) * step + size ≤ all) × ((number ≡ 1) ⊎ (size ≤ step))) }
+    ensures { (result ≡ true) ↔ ((first + (number - 1) * step + size ≤ all) × (1 < number → size ≤ step)) }
 {
     let last = u64::from(first) + u64::from(number - 1) * u64::from(step);
     last + size <= u64::from(all) && (number == 1 || size <= u64::from(step))
@@ -308,7 +308,13 @@ mod tests {
     #[test]
     fn refusals(rt: HostRuntime) -> Result<(), Fail> {
         let rows = [
-            ("side 0", (0u32, 3u32, 0u32, 25_400u32), 12usize, SETTINGS, 9usize),
+            (
+                "side 0",
+                (0u32, 3u32, 0u32, 25_400u32),
+                12usize,
+                SETTINGS,
+                9usize,
+            ),
             ("side 178", (178, 3, 0, 1), 12, SETTINGS, 9),
             ("no square", (2, 0, 0, 25_400), 12, SETTINGS, 9),
             ("10,001 squares", (2, 10_001, 0, 25_400), 12, SETTINGS, 9),
@@ -344,14 +350,62 @@ mod tests {
     #[test]
     fn refused_sheets(rt: HostRuntime) -> Result<(), Fail> {
         let rows = [
-            ("paper too wide", QrprovedSheet { width: 2_000_001, ..SHEET }),
-            ("paper too high", QrprovedSheet { height: 2_000_001, ..SHEET }),
-            ("a label over the right edge", QrprovedSheet { width: 126_999, ..SHEET }),
-            ("a label over the lower edge", QrprovedSheet { height: 114_299, ..SHEET }),
-            ("labels on one another in a row", QrprovedSheet { across: 50_799, ..SHEET }),
-            ("labels on one another in a column", QrprovedSheet { down: 50_799, ..SHEET }),
-            ("no column", QrprovedSheet { columns: 0, ..SHEET }),
-            ("101 columns", QrprovedSheet { columns: 101, ..SHEET }),
+            (
+                "paper too wide",
+                QrprovedSheet {
+                    width: 2_000_001,
+                    ..SHEET
+                },
+            ),
+            (
+                "paper too high",
+                QrprovedSheet {
+                    height: 2_000_001,
+                    ..SHEET
+                },
+            ),
+            (
+                "a label over the right edge",
+                QrprovedSheet {
+                    width: 126_999,
+                    ..SHEET
+                },
+            ),
+            (
+                "a label over the lower edge",
+                QrprovedSheet {
+                    height: 114_299,
+                    ..SHEET
+                },
+            ),
+            (
+                "labels on one another in a row",
+                QrprovedSheet {
+                    across: 50_799,
+                    ..SHEET
+                },
+            ),
+            (
+                "labels on one another in a column",
+                QrprovedSheet {
+                    down: 50_799,
+                    ..SHEET
+                },
+            ),
+            (
+                "no column",
+                QrprovedSheet {
+                    columns: 0,
+                    ..SHEET
+                },
+            ),
+            (
+                "101 columns",
+                QrprovedSheet {
+                    columns: 101,
+                    ..SHEET
+                },
+            ),
             ("no row", QrprovedSheet { rows: 0, ..SHEET }),
             ("101 rows", QrprovedSheet { rows: 101, ..SHEET }),
             ("all places free", QrprovedSheet { first: 4, ..SHEET }),

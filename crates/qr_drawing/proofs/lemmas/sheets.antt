@@ -4,10 +4,10 @@ use Rattle.qr_drawing.specs.Sheets.{FitsSheet, IsSheet, corner_of, label_command
 use Rattle.qr_drawing.specs.declared.sheets.{Sheet.Sheet, SheetSettings.SheetSettings}
 use Rattle.qr_drawing.proofs.lemmas.svg.{square_at-item}
 use Rattle.qr_matrix.specs.Grid.{Grid, light}
-use Rattle.std.proofs.Common.{◌≡◌, ◌∙◌, ap, sym, subst, ℕ, ◌+◌, ◌-◌, ◌*◌, ◌/◌, ◌%◌, ◌<◌, ◌≤◌, false, true, List, [], append_assoc, arith, get_or, length, length-append, map, refl}
+use Rattle.std.proofs.Common.{◌≡◌, ◌∙◌, ap, sym, subst, ℕ, ◌+◌, ◌-◌, ◌*◌, ◌/◌, ◌%◌, ◌<◌, ◌≤◌, false, true, List, [], ◌++◌, arith, get_or, length, length-append, map, refl}
 use Rattle.std.proofs.Math.Nat.{div-le_self, div-lt_iff_lt-mul, mul_comm, mul-le-mul, mul-le-mul_right, mod-lt}
 use Rattle.std.proofs.lemmas.{Bool.Decides.nat_tests, List.{Elements.All-get_or, length-map}}
-use Rattle.std.specs.{List.All, Prelude.nat_lt}
+use Rattle.std.specs.{List.All, Prelude.{codes, nat_lt}}
 
 -- a sheet has at most 10,000 places
 pub few-places : (s : Sheet) → IsSheet s → places_of s ≤ 10000
@@ -80,3 +80,16 @@ pub label-length : (s : SheetSettings) (g : Grid) (place : ℕ) → length (labe
     ≡ length (square_commands s.micrometres (corner_of s.sheet (label_size s g) place) s.margin g) + 4
 unfolding label_commands
 label-length s g place = search (arith, length-append)
+
+-- the length of the commands of a place with a label
+pub label-length-is : (s : SheetSettings) (margin place n : ℕ) (g : Grid) (corner text : List ℕ) → text ≡ label_commands s g place → margin ≡ s.margin
+    → corner ≡ corner_of s.sheet (label_size s g) place → n ≡ length (square_commands s.micrometres corner margin g) → n + 4 ≡ length text
+label-length-is s margin place n g corner text e m k v =
+    let one : n ≡ length (square_commands s.micrometres (corner_of s.sheet (label_size s g) place) s.margin g) = cc (v, k, m) in
+    omega (arith, one, label-length s g place, ap length e)
+
+-- the commands of a place with a label are written in three parts
+pub label-parts : (s : SheetSettings) (margin place : ℕ) (g : Grid) (corner text : List ℕ) → text ≡ label_commands s g place → margin ≡ s.margin
+    → corner ≡ corner_of s.sheet (label_size s g) place → text ≡ (codes "q " ++ square_commands s.micrometres corner margin g) ++ codes "Q\n"
+unfolding label_commands
+label-parts s margin place g corner text e m k = rw (e, m, k) refl
