@@ -9,7 +9,7 @@ SECTIONS
 {
 	.text : { KEEP(*(.vectors)) *(.text .text.*) *(.rodata .rodata.*) . = ALIGN(4); } >FLASH
 	.ARM.exidx : { *(.ARM.exidx*) } >FLASH
-	.stack (NOLOAD) : { stack_begin = .; . += DEFINED(STACK_SIZE) ? STACK_SIZE : 8K; stack_end = .; } >RAM
+	.stack (NOLOAD) : { stack_begin = .; . += DEFINED(STACK_SIZE) ? STACK_SIZE : 10K; stack_end = .; } >RAM
 	.data : { data_begin = .; *(.data .data.* .sdata .sdata.*) . = ALIGN(4); data_end = .; } >RAM AT>FLASH
 	.bss (NOLOAD) : { bss_begin = .; *(.bss .bss.* .sbss .sbss.* COMMON) . = ALIGN(4); bss_end = .; } >RAM
 	data_load = LOADADDR(.data);
