@@ -1,7 +1,7 @@
 //! The calls that encode an input as one symbol (ISO/IEC 18004:2015, 7.1). One writes a byte for each module, and the
 //! other a bit.
 
-ghost use Rattle.std.specs.Prelude.{◌≡◌, ◌≢◌, ◌<◌, ◌↔◌, ◌⊎◌, [], length, Err, IfOk, OnErr};
+ghost use Rattle.std.specs.Prelude.{◌≡◌, ◌≢◌, ◌<◌, ◌↔◌, ◌⊎◌, [], length, Err, IfErr, IfOk};
 ghost use Rattle.qr_bits.specs.Interpretation.{MayWrite};
 ghost use Rattle.qr_symbol.specs.VersionChoice.{HasNoVersion};
 ghost use Rattle.qrproved.specs.Settings.{AreSymbolSettings, interpretation_of, level_of, rule_of};
@@ -43,8 +43,8 @@ fn symbol_of(
     interpretation: u32,
     boost: u32,
 ) -> Result<(Matrix, QrprovedSymbol), u8>
-    ensures symbol { IfOk result (λ made.
-        IsEncoded input.now version level rule interpretation boost made.0 made.1) }
+    ensures symbol { IfOk result (λ made. (IsEncoded input.now version level rule interpretation boost made.0 made.1)
+        × MayWrite (interpretation_of interpretation) input.now) }
     ensures settings { (result ≡ Err SETTINGS) ↔ (AreSymbolSettings version level rule interpretation boost → ⊥) }
     ensures empty { (result ≡ Err EMPTY)
         ↔ (AreSymbolSettings version level rule interpretation boost × (input.now ≡ [])) }
@@ -56,7 +56,7 @@ fn symbol_of(
         × HasNoVersion version (level_of level) (rule_of rule) (interpretation_of interpretation) input.now) }
     ensures long { AreSymbolSettings version level rule interpretation boost
         → MayWrite (interpretation_of interpretation) input.now → 7089 < length input.now → result ≡ Err TOO_LONG }
-    ensures status { OnErr result (λ status. (status ≡ EMPTY) ⊎ (status ≡ FIELDS) ⊎ (status ≡ TOO_LONG)
+    ensures status { IfErr result (λ status. (status ≡ EMPTY) ⊎ (status ≡ FIELDS) ⊎ (status ≡ TOO_LONG)
         ⊎ (status ≡ MEMORY) ⊎ (status ≡ SETTINGS)) }
 {
     let Some(settings) = settings_of(version, level, rule, interpretation) else {
