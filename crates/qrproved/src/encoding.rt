@@ -309,6 +309,82 @@ mod tests {
         Ok(())
     }
 
+    // The bits of `ROWS`, one after the other: 441 of them take 55 bytes and a bit.
+    #[test]
+    fn a_letter_as_bits(rt: HostRuntime) -> Result<(), Fail> {
+        let mut bits = [7u8; 58];
+        let mut symbol = nothing();
+        let status = qrproved_encode_bits(
+            rt.alloc(),
+            b"A",
+            1,
+            0,
+            1,
+            DEFAULT,
+            0,
+            &mut bits,
+            &mut symbol,
+        );
+        check_eq!(rt; status, DONE);
+        check_eq!(rt;
+            (symbol.version, symbol.side, symbol.level, symbol.mask),
+            (1, 21, 0, 0)
+        );
+        // The first row is 11111110 01011011 11111, and the second 100 00010011 10010000 01.
+        check!(rt; bits.starts_with(&[0xFE, 0x5B, 0xFC, 0x13, 0x90]));
+        check_eq!(rt; bits.get(55..), Some(&[0x80u8, 7, 7][..]));
+        for row in 0..21u8 {
+            for col in 0..21u8 {
+                let number = 21 * usize::from(row) + usize::from(col);
+                let is_dark = ROWS[usize::from(row)] >> (20 - col) & 1 == 1;
+                check_eq!(rt;
+                    bits[(number / 8).min(57)] >> (7 - number % 8) & 1,
+                    u8::from(is_dark),
+                    "row {row}, column {col}"
+                );
+            }
+        }
+        Ok(())
+    }
+
+    #[test]
+    fn refused_bits(rt: HostRuntime) -> Result<(), Fail> {
+        let digits = [b'7'; 7090];
+        let rows = [
+            ("no byte", &digits[..0], 1u32, 0u32, 56usize, EMPTY),
+            ("7,090 digits", &digits[..], 1, 0, 56, TOO_LONG),
+            ("version 41", &digits[..1], 41, 0, 56, SETTINGS),
+            ("level 4", &digits[..1], 1, 4, 56, SETTINGS),
+            ("55 bytes", &digits[..1], 1, 3, 55, ROOM),
+            ("56 bytes for version 2", &digits[..1], 2, 3, 56, ROOM),
+            ("no bytes", &digits[..1], 1, 3, 0, ROOM),
+        ];
+        for (name, input, version, level, room, wanted) in rows {
+            let mut bits = [7u8; 56];
+            let mut symbol = nothing();
+            check!(rt; room <= bits.len());
+            let status = qrproved_encode_bits(
+                rt.alloc(),
+                input,
+                version,
+                level,
+                0,
+                DEFAULT,
+                0,
+                &mut bits[..room],
+                &mut symbol,
+            );
+            check_eq!(rt; status, wanted, "{name}");
+            check!(rt; bits.iter().all(|byte| *byte == 7), "{name}");
+            check_eq!(rt;
+                (symbol.version, symbol.side, symbol.level, symbol.mask),
+                (9, 9, 9, 9),
+                "{name}"
+            );
+        }
+        Ok(())
+    }
+
     // The masks are those of another encoder: 0 for `g` at version 1 and level Q (1-Q), and 7 for five letters at 1-L.
     #[test]
     fn numbers_of_levels_and_rules(rt: HostRuntime) -> Result<(), Fail> {

@@ -26,9 +26,9 @@ bits_reversed b k l m =
 high-bit : (e s j : ℕ) → has_bit (e * 256 / 2 ^ s / 256) j ≡ has_bit e (j + s)
 high-bit e s j =
     let up : has_bit (e * 2 ^ 8) (j + 8 + s) ≡ has_bit e (j + s) =
-        let i : j + 8 + s - 8 ≡ j + s = omega arith in
-        let t : leb 8 (j + 8 + s) ≡ true = grind (arith, nat_tests) in
-        shl-bit e 8 (j + 8 + s) ∙ (rw (t, i) refl) in
+    let i : j + 8 + s - 8 ≡ j + s = omega arith in
+    let t : leb 8 (j + 8 + s) ≡ true = grind (arith, nat_tests) in
+    shl-bit e 8 (j + 8 + s) ∙ (rw (t, i) refl) in
     has_bit-shr (e * 256 / 2 ^ s) 8 j ∙ (has_bit-shr (e * 256) s (j + 8) ∙ up)
 
 -- and in the byte after it

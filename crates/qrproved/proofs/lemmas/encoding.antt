@@ -76,6 +76,6 @@ pub room-suffices : (bytes : ℕ → ℕ) (x : List ℕ) (version level rule int
     → IsEncoded x version level rule interpretation boost g s → bytes s.side ≤ length buffer → LacksRoom bytes x version level rule interpretation buffer → ⊥
 room-suffices bytes x version level rule interpretation boost g s buffer e room w =
     let least = version-one x (level_of level) version (rule_of rule) (interpretation_of interpretation) s.version w.least
-        (encoded-version x version level rule interpretation boost g s e) w.fits in
+    (encoded-version x version level rule interpretation boost g s e) w.fits in
     let side : s.side ≡ side_of w.least = encoded-side x version level rule interpretation boost g s e ∙ ap side_of least in
     omega (arith, ap bytes side, w.room)

@@ -16,10 +16,10 @@ loop-col-preserved c =
     let side : c.side-side.result ≡ c.args.matrix.now.side = c.side-side.ensures.value in
     let at = start + c.from-in-loop-col.result in
     let bit : (j : ℕ) → j < 8 → has_bit c.reversed-eight.result (7 - j) ≡ colour c.args.matrix.now c.args.row (col + j) = λ j l.
-        let turned : 7 - (7 - j) ≡ j = omega arith in
-        c.reversed-eight.ensures (7 - j) (omega arith) ∙ (ap (has_bit c.eight.result) turned ∙ c.eight.ensures j l) in
+    let turned : 7 - (7 - j) ≡ j = omega arith in
+    c.reversed-eight.ensures (7 - j) (omega arith) ∙ (ap (has_bit c.eight.result) turned ∙ c.eight.ensures j l) in
     let here : (k j : ℕ) → k ≡ at + j → j < 8 → k < 8 * c.args.len → bit_of new k ≡ colour c.args.matrix.now c.args.row (col + j) = λ k j e l m.
-        ap (bit_of new) e ∙ (put.here j l (omega arith) ∙ bit j l) in
+    ap (bit_of new) e ∙ (put.here j l (omega arith) ∙ bit j l) in
     record {
       long = put.long ∙ i.long;
       whole = omega (arith, i.whole);
