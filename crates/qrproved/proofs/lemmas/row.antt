@@ -25,7 +25,9 @@ pub same-square : (g : Grid) (blank bits empty modules : List ℕ) → HoldsBits
     → square_of_bits g.side bits ≡ square_of_bytes g.side modules
 same-square g blank bits empty modules p q =
     square-same g.side (λ row col. bit_of bits (row * g.side + col)) (λ row col. not (slice_index_or modules (row * g.side + col) 0 == 0)) (λ r c l m.
-    p.modules r c l m ∙ (sym (byte-colour (colour g r c)) ∙ ap (λ (n : ℕ). not (n == 0)) (sym (q.modules 0 r c (omega arith) l m))))
+    let place : r * g.side + c ≡ 0 * (g.side * g.side) + (r * g.side + c) = omega arith in
+    let byte : slice_index_or modules (r * g.side + c) 0 ≡ byte_of (colour g r c) = ap (λ (n : ℕ). slice_index_or modules n 0) place ∙ q.modules 0 r c (omega arith) l m in
+    p.modules r c l m ∙ (sym (byte-colour (colour g r c)) ∙ ap (λ (n : ℕ). not (n == 0)) (sym byte)))
 
 -- one square of the buffer
 pub one-square : (side : ℕ) (bytes : List ℕ) → squares_of_bytes side 1 bytes ≡ square_of_bytes side bytes ∷ []
