@@ -1,6 +1,6 @@
 -- Modules as bits of bytes: eight bits in the other order, eight bits that are put into two bytes, and eight bits that
 -- are read from two bytes.
-use Rattle.std.proofs.Common.{◌≡◌, ◌≢◌, ℕ, ◌+◌, ◌-◌, ◌*◌, ◌/◌, ◌%◌, ◌^◌, ◌<◌, ◌≤◌, Bool, true, false, ◌&&◌, ◌||◌, leb, List, length, get_or, set, bit_or, refl, sym, ap, ◌∙◌, inl, inr, arith}
+use Rattle.std.proofs.Common.{◌≡◌, ℕ, ◌+◌, ◌-◌, ◌*◌, ◌/◌, ◌%◌, ◌^◌, ◌<◌, ◌≤◌, Bool, true, false, ◌&&◌, ◌||◌, leb, List, length, get_or, set, bit_or, refl, sym, ◌∙◌, inl, inr, arith}
 use Rattle.std.proofs.lemmas.Bool.{cases_lt, Decides.nat_tests}
 use Rattle.std.proofs.{Math.ListN.{length-set}, lemmas.{List.{get_or-set_same, get_or-set_other}, Nat.Bits.{bit_at_cat_high, bit_at_cat_low}}}
 use Rattle.qr_matrix.{proofs.Facts.{below-at, has_bit-or, has_bit-shr, low-bits, same-same, shl-bit, unset-above}, specs.{BitRow.has_bit, Grid.is_same, Sums.all_below}}

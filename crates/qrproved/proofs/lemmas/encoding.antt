@@ -3,7 +3,7 @@ use Rattle.qr_bits.{proofs.Facts.may_write-none, specs.{Interpretation.MayWrite,
 use Rattle.{qr_layout.specs.{Version.side_of, declared.level.Level.Level}, qr_matrix.specs.Grid.Grid}
 use Rattle.{qr_symbol.specs.{Encoding.{IsBoostedSymbol, IsSymbol}, VersionChoice.IsVersion}, std.proofs.Common.{◌≡◌, ◌≢◌, ◌↔◌, ◌⊎◌, ℕ, Bool, true, false, List, [], Result, Ok, Err, refl, ap, arith}}
 use Rattle.{qr_symbol.specs.declared.fault.EncodeFault.EncodeFault, qrproved.specs.Steps.Status.encode_status}
-use Rattle.{qr_symbol.proofs.Facts.version-one, std.proofs.Common.{◌+◌, ◌<◌, ◌≤◌, ◌∙◌, inl, inr, length}, std.proofs.lemmas.Bool.cases_lt}
+use Rattle.{qr_symbol.proofs.Facts.version-one, std.proofs.Common.{◌<◌, ◌≤◌, ◌∙◌, inl, inr, length}, std.proofs.lemmas.Bool.cases_lt}
 use Rattle.qrproved.specs.{Encoding.{IsEncoded, LacksRoom}, Settings.{interpretation_of, level_of, rule_of}, declared.encoding.QrprovedSymbol.QrprovedSymbol}
 use Rattle.qr_symbol.specs.declared.fault.EncodeFault.TheVariants as fault
 

@@ -1,5 +1,5 @@
 -- The lines of a text, drawn from bits, and the whole text, drawn from bytes.
-use Rattle.std.proofs.Common.{◌≡◌, ℕ, ◌+◌, ◌*◌, ◌<◌, ◌++◌, ◌==◌, Bool, true, false, not, List, [], ◌∷◌, slice_index_or, append-nil, refl, sym, ap, ◌∙◌, inl, inr, arith}
+use Rattle.std.proofs.Common.{◌≡◌, ℕ, ◌+◌, ◌*◌, ◌<◌, ◌==◌, Bool, true, false, not, List, [], ◌∷◌, slice_index_or, append-nil, refl, sym, ap, ◌∙◌, inl, inr, arith}
 use Rattle.std.proofs.lemmas.Bool.{cases_lt}
 use Rattle.qr_matrix.{proofs.Facts.square-same, specs.Grid.{Grid, colour}}
 use Rattle.qr_drawing.specs.{Drawing.drawn, Text.text_drawing}

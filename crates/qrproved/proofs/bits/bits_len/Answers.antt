@@ -1,4 +1,4 @@
-use Rattle.std.proofs.{Common.{◌≡◌, ◌≤◌, ◌*◌, arith}, Math.Nat.mul-le-mul_right}
+use Rattle.std.proofs.{Common.{◌≤◌, arith}, Math.Nat.mul-le-mul_right}
 use Rattle.qrproved.proofs.bits.bits_len.Goals as goal
 
 pub returns-clause-most : goal.returns-clause-most

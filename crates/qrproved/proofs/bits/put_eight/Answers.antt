@@ -1,4 +1,4 @@
-use Rattle.std.proofs.Common.{◌≡◌, ℕ, ◌+◌, ◌*◌, ◌/◌, ◌∙◌, length, arith, rules}
+use Rattle.std.proofs.Common.{◌∙◌, arith, rules}
 use Rattle.qrproved.proofs.lemmas.bits.{first-before, put-after, put-one, put-two, second-before}
 use Rattle.qrproved.proofs.bits.put_eight.Goals as goal
 

@@ -1,4 +1,4 @@
-use Rattle.std.proofs.{Common.{◌≡◌, ℕ, ◌+◌, ◌*◌, ◌<◌, ◌≤◌, ◌∙◌, ap, inl, inr, arith}, lemmas.Bool.cases_lt}
+use Rattle.std.proofs.{Common.{◌≡◌, ℕ, ◌+◌, ◌*◌, ◌∙◌, ap, inl, inr, arith}, lemmas.Bool.cases_lt}
 use Rattle.{qr_matrix.specs.Grid.colour, qrproved.{specs.Bits.bit_of, proofs.lemmas.modules.place-in}}
 use Rattle.qrproved.proofs.bits.write_bits.Goals as goal
 

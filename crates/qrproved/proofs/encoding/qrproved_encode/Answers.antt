@@ -2,7 +2,7 @@ use Rattle.qr_bits.specs.Interpretation.{MayWrite}
 use Rattle.qr_symbol.specs.VersionChoice.{HasNoVersion}
 use Rattle.qrproved.proofs.lemmas.encoding.{encoded-version, refused-long, refused-room, room-lacks, room-suffices}
 use Rattle.qrproved.specs.{Encoding.HasNoRoom, Settings.{AreSymbolSettings, interpretation_of, level_of, rule_of}}
-use Rattle.std.proofs.Common.{◌≡◌, ℕ, ◌*◌, [], refl, ◌∙◌, arith, rules}
+use Rattle.std.proofs.Common.{◌≡◌, ℕ, ◌*◌, [], refl, arith, rules}
 use Rattle.qrproved.proofs.lemmas.modules.{one-held}
 use Rattle.qrproved.proofs.encoding.qrproved_encode.Goals as goal
 

@@ -2,7 +2,7 @@ use Rattle.qr_bits.specs.Interpretation.{MayWrite}
 use Rattle.qr_symbol.specs.VersionChoice.{HasNoVersion}
 use Rattle.qrproved.proofs.lemmas.encoding.{encoded-version, refused-long, refused-room, room-lacks, room-suffices}
 use Rattle.qrproved.specs.{Encoding.HasNoRoomForBits, Settings.{AreSymbolSettings, interpretation_of, level_of, rule_of}}
-use Rattle.std.proofs.Common.{◌≡◌, ℕ, ◌*◌, [], refl, ◌∙◌, arith, rules}
+use Rattle.std.proofs.Common.{◌≡◌, [], refl, arith}
 use Rattle.qrproved.specs.Bits.{bytes_of_bits}
 use Rattle.qrproved.proofs.encoding.qrproved_encode_bits.Goals as goal
 

@@ -1,9 +1,9 @@
-use Rattle.{qr_bits.specs.Interpretation.MayWrite, qr_layout.specs.{Version.side_of, declared.level.Level.Level}}
+use Rattle.{qr_bits.specs.Interpretation.MayWrite, qr_layout.specs.{declared.level.Level.Level}}
 use Rattle.qr_symbol.specs.{Encoding.{IsBoostedSymbol, IsSymbol}, Reading.IsReadBack, VersionChoice.{HasNoVersion, IsVersion}}
 use Rattle.qrproved.proofs.encoding.symbol_of.Goals.{After-long_inputs_have_none, Else-not-may_write, In-Err, In-Ok}
 use Rattle.qrproved.proofs.lemmas.encoding.{not-refused, refused-some, same-status, too-long-status, version-asked}
 use Rattle.qrproved.specs.{Encoding.IsEncoded, Settings.{AreSymbolSettings, interpretation_of, level_of, rule_of}, declared.settings.Settings.Settings}
-use Rattle.std.proofs.Common.{◌≡◌, ◌≢◌, ◌↔◌, ◌<◌, ℕ, ◌*◌, [], Err, refl, sym, ap, subst, ◌∙◌, arith, rules}
+use Rattle.std.proofs.Common.{◌≡◌, ◌≢◌, ◌↔◌, ◌<◌, ℕ, Err, refl, sym, subst, ◌∙◌, arith, rules}
 use Rattle.qr_symbol.specs.declared.fault.EncodeFault.TheVariants as fault
 use Rattle.qrproved.proofs.encoding.symbol_of.Goals as goal
 

@@ -1,7 +1,7 @@
-use Rattle.std.proofs.Common.{◌≡◌, ◌∙◌, ap}
+use Rattle.std.proofs.Common.{◌∙◌, ap}
 use Rattle.qr_matrix.specs.Grid.{Grid}
-use Rattle.qr_drawing.specs.{Drawing.drawn, Text.text_drawing}
-use Rattle.qrproved.{proofs.lemmas.row.{drawn-text, one-square, same-square}, specs.{Bits.square_of_bits, Drawing.drawing_of, Modules.square_of_bytes, Row.style_of}}
+use Rattle.qr_drawing.specs.{Text.text_drawing}
+use Rattle.qrproved.{proofs.lemmas.row.{drawn-text, one-square, same-square}, specs.{Modules.square_of_bytes, Row.style_of}}
 use Rattle.qrproved.proofs.laws.rows_are_the_drawing.Goals as goal
 
 pub returns : goal.returns

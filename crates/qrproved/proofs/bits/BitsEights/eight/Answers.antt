@@ -1,4 +1,4 @@
-use Rattle.std.proofs.{Common.{◌≡◌, ℕ, ◌+◌, ◌*◌, ◌/◌, ◌<◌, ◌≤◌, ◌∙◌, ap, sym, get_or, length, arith, rules}, lemmas.List.get_or_past}
+use Rattle.std.proofs.{Common.{◌≡◌, ℕ, ◌+◌, ◌*◌, ◌/◌, ◌<◌, ◌∙◌, ap, sym, get_or, arith, rules}, lemmas.List.get_or_past}
 use Rattle.qr_matrix.{proofs.Facts.colour-square, specs.Grid.{Grid, colour}}
 use Rattle.qrproved.{specs.Bits.bit_of, proofs.lemmas.bits.two-bytes}
 use Rattle.qrproved.proofs.bits.BitsEights.eight.Goals.{then-byte-self, else-byte-self}
