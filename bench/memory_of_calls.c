@@ -75,12 +75,16 @@ static __attribute__((noinline)) void make(void)
 	uint32_t count;
 	if (!strcmp(call, "encode"))
 		status = qrproved_encode(input, input_len, number, level, rule, interpretation, boost, out, sizeof out, &symbol);
+	else if (!strcmp(call, "encode_bits"))
+		status = qrproved_encode_bits(input, input_len, number, level, rule, interpretation, boost, out, sizeof out, &symbol);
 	else if (!strcmp(call, "encode_series"))
 		status = qrproved_encode_series(input, input_len, number, level, rule, interpretation, out, sizeof out, &series);
 	else if (!strcmp(call, "read"))
 		status = qrproved_read(input, input_len, number, out, sizeof out, NULL, 0, &content);
 	else if (!strcmp(call, "draw"))
 		status = qrproved_draw(input, input_len, number, (uint32_t)(input_len / number / number), level, 4, out, sizeof out, &written);
+	else if (!strcmp(call, "draw_row"))
+		status = qrproved_draw_row(input, input_len, number, level % 3, 4, 10, out, sizeof out, &written);
 	else if (!strcmp(call, "document"))
 		status = qrproved_document(input, input_len, number, (uint32_t)(input_len / number / number), level % 3, 4, 330, out, sizeof out, &written);
 	else if (!strcmp(call, "sheets"))

@@ -5,8 +5,10 @@
  *
  * A module is a byte in a buffer of the caller, in which the modules are row by row, from the top left. The buffer does not
  * contain the quiet zone, which is the four light modules that a drawing needs on each side; qrproved_draw and
- * qrproved_image add a margin, whose width the caller passes. After a call the library keeps no state, no file and no lock. A
- * call allocates memory by malloc and realloc, and frees all of it before it returns; qrproved_image allocates none.
+ * qrproved_image add a margin, whose width the caller passes. For machines with little memory, qrproved_encode_bits writes a bit
+ * for each module, and qrproved_draw_row draws such a square line by line. After a call the library keeps no state, no file and
+ * no lock. A call allocates memory by malloc and realloc, and frees all of it before it returns; qrproved_draw_row and
+ * qrproved_image allocate none.
  *
  * At each call the caller has to meet these conditions:
  * - each pointer with a length beside it points to as many bytes as the length says, or for `ecis` to as many structs; each
@@ -99,8 +101,8 @@ extern "C" {
 
 /* The statuses, of which each call except qrproved_version returns one. The comment at each call has the exact causes of its
  * statuses, in the order in which the call checks them. On every status but 0 the caller's buffers and struct are unchanged;
- * but on ROOM qrproved_draw, qrproved_document, qrproved_sheets and qrproved_image set the number `written`. Later versions may add statuses, and
- * do not change the meaning of these. */
+ * but on ROOM qrproved_draw, qrproved_draw_row, qrproved_document, qrproved_sheets and qrproved_image set the number `written`.
+ * Later versions may add statuses, and do not change the meaning of these. */
 #define QRPROVED_DONE 0     /* the result is written */
 #define QRPROVED_EMPTY 1    /* the input has no byte */
 #define QRPROVED_TOO_LONG 2 /* the input fits no version from the smallest allowed version on */
@@ -328,6 +330,23 @@ uint8_t qrproved_encode(const uint8_t *input, size_t input_len, uint32_t version
                         uint32_t interpretation, uint32_t boost, uint8_t *modules, size_t modules_len,
                         struct qrproved_symbol *symbol);
 
+/* Encodes the input as a symbol as qrproved_encode does, and writes its modules as bits, row by row and without gaps between two
+ * rows. The module in row `row` and column `column` has the number k = row * side + column. It is dark if bits[k / 8] has the bit
+ * 128 >> k % 8, and light if not. The bits after the last module, up to the end of its byte, are 0. Bytes of the buffer after this
+ * byte are unchanged.
+ *
+ * bits     the buffer for the modules; a symbol with `side` modules on a side takes QRPROVED_BITS(side) bytes, which are 56 for
+ *          version 1 and 3,917 for version 40
+ *
+ * The other arguments, and the statuses, are those of qrproved_encode, but for this one:
+ *   ROOM      bits_len is less than QRPROVED_BITS(side) of the symbol
+ */
+#define QRPROVED_BITS(side) (((size_t)(side) * (side) + 7) / 8)
+QRPROVED_CALL(10)
+uint8_t qrproved_encode_bits(const uint8_t *input, size_t input_len, uint32_t version, uint32_t level, uint32_t rule,
+                             uint32_t interpretation, uint32_t boost, uint8_t *bits, size_t bits_len,
+                             struct qrproved_symbol *symbol);
+
 /* Encodes the input as a series of symbols (structured append), all of one version, and writes their modules:
  * modules[(k * side + row) * side + column] is the module of symbol k in this row and column, where the first symbol has the
  * number 0. An input that fits one symbol is encoded as one plain symbol, which has no structured append header. Bytes of the
@@ -462,6 +481,32 @@ uint8_t qrproved_mend(const uint8_t *modules, size_t modules_len, uint32_t side,
 QRPROVED_CALL(9)
 uint8_t qrproved_draw(const uint8_t *modules, size_t modules_len, uint32_t side, uint32_t count, uint32_t drawing,
                       uint32_t margin, uint8_t *text, size_t text_len, size_t *written);
+
+/* Writes one line of the text that qrproved_draw writes of one square, with the line feed at its end. The lines one after the other
+ * are the whole text. The buffer `bits` contains the modules as qrproved_encode_bits writes them; bits after the last module are
+ * ignored. A square need not be a symbol. The call leaves the rest of the buffer `text` unchanged. It allocates no memory.
+ *
+ * side     number of modules on a side, from 1 to 177
+ * drawing  QRPROVED_ASCII, QRPROVED_ASCIIi or QRPROVED_UTF8
+ * margin   number of light modules on each side of the square, from 0 to QRPROVED_MARGIN_MAX; a scanner needs 4
+ * row      the number of the line, counted from 0. The text has side + 2 * margin lines, and with QRPROVED_UTF8 half as many,
+ *          rounded up
+ * text     the buffer for the line; it may be NULL if text_len is 0, to ask only for the length of the line. A line has at most
+ *          QRPROVED_ROW(drawing, side, margin) bytes
+ * written  on DONE, and on ROOM because of text_len, the call sets it to the length of the line; on ROOM because of bits_len it
+ *          sets it to 0; on SETTINGS it is unchanged
+ *
+ * Returns the first of these statuses whose cause applies:
+ *   SETTINGS  side, drawing or margin is out of its range, or the text has no line `row`
+ *   ROOM      bits_len is less than QRPROVED_BITS(side)
+ *   ROOM      text_len is less than the length of the line
+ *   DONE      the call succeeded
+ */
+#define QRPROVED_ROW(drawing, side, margin) \
+	(((drawing) == QRPROVED_UTF8 ? 3 : 2) * ((size_t)(side) + 2 * (size_t)(margin)) + 1)
+QRPROVED_CALL(9)
+uint8_t qrproved_draw_row(const uint8_t *bits, size_t bits_len, uint32_t side, uint32_t drawing, uint32_t margin, uint32_t row,
+                          uint8_t *text, size_t text_len, size_t *written);
 
 /* Writes the image of a square of modules as a file. Each module is a square of `scale` by `scale` pixels, and around the square
  * is a light margin. The buffer `modules` contains the modules, in the order in which qrproved_encode writes them. Any byte but 0
@@ -618,6 +663,10 @@ QRPROVED_CALL(12)
 uint8_t qrproved_encode_in(void *memory, size_t memory_len, const uint8_t *input, size_t input_len, uint32_t version,
                            uint32_t level, uint32_t rule, uint32_t interpretation, uint32_t boost, uint8_t *modules,
                            size_t modules_len, struct qrproved_symbol *symbol);
+QRPROVED_CALL(12)
+uint8_t qrproved_encode_bits_in(void *memory, size_t memory_len, const uint8_t *input, size_t input_len, uint32_t version,
+                                uint32_t level, uint32_t rule, uint32_t interpretation, uint32_t boost, uint8_t *bits,
+                                size_t bits_len, struct qrproved_symbol *symbol);
 QRPROVED_CALL(11)
 uint8_t qrproved_encode_series_in(void *memory, size_t memory_len, const uint8_t *input, size_t input_len, uint32_t version,
                                   uint32_t level, uint32_t rule, uint32_t interpretation, uint8_t *modules, size_t modules_len,

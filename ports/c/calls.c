@@ -171,13 +171,23 @@ static uint8_t sheets_by(struct heap *heap, const uint8_t *modules, size_t modul
 
 uint32_t qrproved_version(void) { return m_qrproved_version(); }
 
-/* The call takes no memory. */
+/* The two calls take no memory. */
 uint8_t qrproved_image(const uint8_t *modules, size_t modules_len, uint32_t side, uint32_t format, uint32_t scale, uint32_t margin,
                        uint32_t pixels_a_metre, uint32_t left, uint32_t top, uint8_t *image, size_t image_len, size_t *written)
 {
 	union slot len = {{0}};
 	uint8_t status = m_qrproved_image(BYTES(modules), modules_len, side, format, scale, margin, pixels_a_metre, left, top, image,
 	                                  image_len, len.b);
+	if (status == QRPROVED_DONE || status == QRPROVED_ROOM)
+		*written = (size_t)load_64(len.b);
+	return status;
+}
+
+uint8_t qrproved_draw_row(const uint8_t *bits, size_t bits_len, uint32_t side, uint32_t drawing, uint32_t margin, uint32_t row,
+                          uint8_t *text, size_t text_len, size_t *written)
+{
+	union slot len = {{0}};
+	uint8_t status = m_qrproved_draw_row(BYTES(bits), bits_len, side, drawing, margin, row, text, text_len, len.b);
 	if (status == QRPROVED_DONE || status == QRPROVED_ROOM)
 		*written = (size_t)load_64(len.b);
 	return status;
@@ -198,6 +208,15 @@ uint8_t qrproved_encode_in(void *memory, size_t memory_len, const uint8_t *input
 	struct heap heap = heap_of(memory, memory_len);
 	return m_qrproved_encode(&heap, BYTES(input), input_len, version, level, rule, interpretation, boost, modules, modules_len,
 	                         BYTES(symbol));
+}
+
+uint8_t qrproved_encode_bits_in(void *memory, size_t memory_len, const uint8_t *input, size_t input_len, uint32_t version,
+                                uint32_t level, uint32_t rule, uint32_t interpretation, uint32_t boost, uint8_t *bits, size_t bits_len,
+                                struct qrproved_symbol *symbol)
+{
+	struct heap heap = heap_of(memory, memory_len);
+	return m_qrproved_encode_bits(&heap, BYTES(input), input_len, version, level, rule, interpretation, boost, bits, bits_len,
+	                              BYTES(symbol));
 }
 
 uint8_t qrproved_encode_series_in(void *memory, size_t memory_len, const uint8_t *input, size_t input_len, uint32_t version,
@@ -261,6 +280,14 @@ uint8_t qrproved_encode(const uint8_t *input, size_t input_len, uint32_t version
 	struct heap heap = SYSTEM;
 	return m_qrproved_encode(&heap, BYTES(input), input_len, version, level, rule, interpretation, boost, modules, modules_len,
 	                         BYTES(symbol));
+}
+
+uint8_t qrproved_encode_bits(const uint8_t *input, size_t input_len, uint32_t version, uint32_t level, uint32_t rule,
+                             uint32_t interpretation, uint32_t boost, uint8_t *bits, size_t bits_len, struct qrproved_symbol *symbol)
+{
+	struct heap heap = SYSTEM;
+	return m_qrproved_encode_bits(&heap, BYTES(input), input_len, version, level, rule, interpretation, boost, bits, bits_len,
+	                              BYTES(symbol));
 }
 
 uint8_t qrproved_encode_series(const uint8_t *input, size_t input_len, uint32_t version, uint32_t level, uint32_t rule,

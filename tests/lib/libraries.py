@@ -116,10 +116,12 @@ POINTER, BUFFER = [ctypes.c_void_p], [ctypes.c_void_p, ctypes.c_size_t]
 INPUT, NUMBER = [ctypes.c_char_p, ctypes.c_size_t], [ctypes.c_uint32]
 PARAMETERS = {
     "qrproved_encode": INPUT + NUMBER * 5 + BUFFER + POINTER,
+    "qrproved_encode_bits": INPUT + NUMBER * 5 + BUFFER + POINTER,
     "qrproved_encode_series": INPUT + NUMBER * 4 + BUFFER + POINTER,
     "qrproved_read": BUFFER + NUMBER + BUFFER * 2 + POINTER,
     "qrproved_mend": BUFFER + NUMBER + BUFFER * 2 + POINTER,
     "qrproved_draw": BUFFER + NUMBER * 4 + BUFFER + POINTER,
+    "qrproved_draw_row": BUFFER + NUMBER * 4 + BUFFER + POINTER,
     "qrproved_image": BUFFER + NUMBER * 7 + BUFFER + POINTER,
     "qrproved_document": BUFFER + NUMBER * 5 + BUFFER + POINTER,
     "qrproved_sheets": BUFFER + NUMBER * 4 + POINTER + BUFFER + POINTER,

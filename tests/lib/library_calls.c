@@ -40,6 +40,15 @@ static int encode(void)
 	return 0;
 }
 
+static int encode_bits(void)
+{
+	struct qrproved_symbol symbol;
+	memset(modules, MARK, sizeof modules), memset(&symbol, MARK, sizeof symbol);
+	uint8_t status = qrproved_encode_bits(TEXT, sizeof TEXT - 1, 1, 0, 0, NONE, 0, modules, sizeof modules, &symbol);
+	tell("encode_bits", status, modules, sizeof modules, &symbol, sizeof symbol);
+	return 0;
+}
+
 static int encode_series(void)
 {
 	struct qrproved_series series;
@@ -255,6 +264,47 @@ static void fields(void)
 	want("its fields, mended", mended.len == 19 && !memcmp(bytes, SAID, 19) && mended.fnc1 == QRPROVED_FNC1_FIRST && mended.wrong_modules == 1);
 }
 
+/* A symbol as bytes and as bits, and its texts as a whole and line by line. */
+static void bits_and_lines(void)
+{
+	static uint8_t bits[QRPROVED_BITS(177)], text[20000], line[QRPROVED_ROW(QRPROVED_UTF8, 177, 100)];
+	struct qrproved_symbol symbol, other;
+	size_t written, len, line_len, at, k;
+	uint32_t drawing, row;
+	uint8_t status;
+	want("a symbol as bytes", qrproved_encode(TEXT, sizeof TEXT - 1, 1, 0, 0, NONE, 0, modules, sizeof modules, &symbol) == QRPROVED_DONE);
+	len = QRPROVED_BITS(symbol.side);
+	memset(bits, MARK, sizeof bits), memset(&other, MARK, sizeof other);
+	want("bits too few by a byte", qrproved_encode_bits(TEXT, sizeof TEXT - 1, 1, 0, 0, NONE, 0, bits, len - 1, &other) == QRPROVED_ROOM);
+	want("no bytes as bits", qrproved_encode_bits(NULL, 0, 1, 0, 0, NONE, 0, bits, sizeof bits, &other) == QRPROVED_EMPTY);
+	want("level 4 as bits", qrproved_encode_bits(TEXT, sizeof TEXT - 1, 1, 4, 0, NONE, 0, bits, sizeof bits, &other) == QRPROVED_SETTINGS);
+	want("boost 2 as bits", qrproved_encode_bits(TEXT, sizeof TEXT - 1, 1, 0, 0, NONE, 2, bits, sizeof bits, &other) == QRPROVED_SETTINGS);
+	want("no bits", is_marked(bits, 0, sizeof bits) && is_marked(&other, 0, sizeof other));
+	want("a symbol as bits", qrproved_encode_bits(TEXT, sizeof TEXT - 1, 1, 0, 0, NONE, 0, bits, len, &other) == QRPROVED_DONE);
+	want("the same symbol", !memcmp(&symbol, &other, sizeof symbol) && is_marked(bits, len, sizeof bits));
+	for (k = 0; k < 8 * len; k++)
+		want("a bit", (bits[k / 8] >> (7 - k % 8) & 1) == (k < (size_t)symbol.side * symbol.side ? modules[k] : 0));
+	for (drawing = QRPROVED_ASCII; drawing <= QRPROVED_UTF8; drawing++) {
+		want("a text", qrproved_draw(modules, sizeof modules, symbol.side, 1, drawing, 3, text, sizeof text, &written) == QRPROVED_DONE);
+		for (row = 0, at = 0; (status = qrproved_draw_row(bits, len, symbol.side, drawing, 3, row, line, sizeof line, &line_len)) == QRPROVED_DONE; row++) {
+			want("a line", line_len <= QRPROVED_ROW(drawing, symbol.side, 3) && at + line_len <= written && !memcmp(text + at, line, line_len));
+			at += line_len;
+		}
+		want("all lines", status == QRPROVED_SETTINGS && at == written);
+	}
+	memset(line, MARK, sizeof line), line_len = 5;
+	want("side 0 as a line", qrproved_draw_row(bits, len, 0, 0, 0, 0, line, sizeof line, &line_len) == QRPROVED_SETTINGS);
+	want("side 256 + 21 as a line", qrproved_draw_row(bits, len, 277, 0, 0, 0, line, sizeof line, &line_len) == QRPROVED_SETTINGS);
+	want("a line of SVG", qrproved_draw_row(bits, len, 21, QRPROVED_SVG, 0, 0, line, sizeof line, &line_len) == QRPROVED_SETTINGS);
+	want("margin 101 of a line", qrproved_draw_row(bits, len, 21, 0, 101, 0, line, sizeof line, &line_len) == QRPROVED_SETTINGS);
+	want("line 2^32 - 1", qrproved_draw_row(bits, len, 21, 0, 0, UINT32_MAX, line, sizeof line, &line_len) == QRPROVED_SETTINGS && line_len == 5);
+	want("a byte of bits too few", qrproved_draw_row(bits, 55, 21, 0, 0, 0, line, sizeof line, &line_len) == QRPROVED_ROOM && line_len == 0);
+	want("length of a line", qrproved_draw_row(bits, 56, 21, 0, 0, 0, NULL, 0, &line_len) == QRPROVED_ROOM && line_len == 43);
+	want("a line too long by a byte", qrproved_draw_row(bits, 56, 21, 0, 0, 0, line, 42, &line_len) == QRPROVED_ROOM && line_len == 43);
+	want("nothing of a line", is_marked(line, 0, sizeof line));
+	want("a whole line", qrproved_draw_row(bits, 56, 21, 0, 0, 0, line, 43, &line_len) == QRPROVED_DONE && line_len == 43 && is_marked(line, 43, sizeof line));
+}
+
 /* Symbols and series that say what their input is, and symbols of a higher level than the one that was asked for. */
 static void interpretations(void)
 {
@@ -446,6 +496,7 @@ static int edges(void)
 	rooms();
 	two_ecis();
 	fields();
+	bits_and_lines();
 	interpretations();
 	want("the version", qrproved_version() == QRPROVED_VERSION_NUMBER);
 	if (!wrong)
@@ -505,6 +556,8 @@ int main(int argc, char **argv)
 	setvbuf(stdout, NULL, _IONBF, 0);
 	if (!strcmp(what, "encode"))
 		return encode();
+	if (!strcmp(what, "encode_bits"))
+		return encode_bits();
 	if (!strcmp(what, "encode_series"))
 		return encode_series();
 	if (!strcmp(what, "read"))

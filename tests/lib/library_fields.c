@@ -31,11 +31,17 @@ static void tell_all(const char *name, const uint8_t *all, size_t len)
 
 static void encode(void)
 {
-	struct qrproved_symbol symbol;
+	struct qrproved_symbol symbol, other;
+	size_t written;
 	want_done("encode", qrproved_encode(DIGITS, sizeof DIGITS - 1, 4, QRPROVED_LEVEL_Q, QRPROVED_RULE_AUTO, QRPROVED_ECI_UTF8, 1,
 	                                    modules, sizeof modules, &symbol));
 	TELL(symbol.version), TELL(symbol.side), TELL(symbol.level), TELL(symbol.mask);
 	tell_all("encoded", modules, (size_t)symbol.side * symbol.side);
+	want_done("encode_bits", qrproved_encode_bits(DIGITS, sizeof DIGITS - 1, 4, QRPROVED_LEVEL_Q, QRPROVED_RULE_AUTO, QRPROVED_ECI_UTF8, 1,
+	                                              modules, sizeof modules, &other));
+	tell_all("bits", modules, QRPROVED_BITS(other.side));
+	want_done("draw_row", qrproved_draw_row(modules, sizeof modules, other.side, QRPROVED_ASCIIi, 6, 9, text, sizeof text, &written));
+	tell_all("line", text, written);
 }
 
 /* Encodes 75 times one kanji of Shift JIS, draws two of the symbols, and parses the drawing. */

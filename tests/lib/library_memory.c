@@ -14,9 +14,9 @@
 #include <string.h>
 
 enum { MARK = 7, MEMORY_MAX = 16000000, TEXT_MAX = 8000000, LEVELS = 4, RULES = 3, DRAWINGS = 4, VERSIONS = 40, KINDS = 12, SHORTER = 12 };
-enum call { ENCODE, SERIES, READ, MEND, DRAW, DOCUMENT, SHEETS, PARSE, CALLS };
+enum call { ENCODE, BITS, SERIES, READ, MEND, DRAW, DOCUMENT, SHEETS, PARSE, CALLS };
 
-static const char *const NAMES[CALLS] = {"encode", "encode_series", "read", "mend", "draw", "document", "sheets", "parse_drawing"};
+static const char *const NAMES[CALLS] = {"encode", "encode_bits", "encode_series", "read", "mend", "draw", "document", "sheets", "parse_drawing"};
 static const uint32_t INTERPRETATIONS[] = {QRPROVED_INTERPRETATION_DEFAULT, 999999, QRPROVED_INTERPRETATION_GS1};
 
 /* Paper with one label on each sheet. */
@@ -45,6 +45,8 @@ static uint8_t call_with(enum call call, uint8_t *place, size_t len)
 	switch (call) {
 	case ENCODE:
 		return qrproved_encode_in(place, len, input, input_len, 1, level, rule, interpretation, 0, out, QRPROVED_SYMBOL_MAX, &told.symbol);
+	case BITS:
+		return qrproved_encode_bits_in(place, len, input, input_len, 1, level, rule, interpretation, 0, out, QRPROVED_BITS(177), &told.symbol);
 	case SERIES:
 		return qrproved_encode_series_in(place, len, input, input_len, version, level, rule, interpretation, out, QRPROVED_SERIES_MAX, &told.series);
 	case READ:
@@ -65,7 +67,8 @@ static uint8_t call_with(enum call call, uint8_t *place, size_t len)
 /* The bytes of `out` that a call may write. */
 static size_t room_of(enum call call)
 {
-	const size_t rooms[CALLS] = {QRPROVED_SYMBOL_MAX, QRPROVED_SERIES_MAX, QRPROVED_BYTES_MAX, QRPROVED_BYTES_MAX, TEXT_MAX, TEXT_MAX, TEXT_MAX, QRPROVED_SERIES_MAX};
+	const size_t rooms[CALLS] = {QRPROVED_SYMBOL_MAX, QRPROVED_BITS(177), QRPROVED_SERIES_MAX, QRPROVED_BYTES_MAX, QRPROVED_BYTES_MAX, TEXT_MAX, TEXT_MAX,
+				     TEXT_MAX, QRPROVED_SERIES_MAX};
 	return rooms[call];
 }
 
@@ -73,6 +76,7 @@ static size_t enough_for(enum call call)
 {
 	switch (call) {
 	case ENCODE:
+	case BITS:
 		return QRPROVED_ENCODE_MEMORY(version);
 	case SERIES:
 		return QRPROVED_ENCODE_SERIES_MEMORY(version, count);
@@ -219,6 +223,7 @@ static void try_symbols(uint32_t kind)
 	if (!find_longest())
 		return;
 	try_call(ENCODE);
+	try_call(BITS);
 	side = 17 + 4 * version, count = 1;
 	call_with(ENCODE, memory, MEMORY_MAX);
 	memcpy(modules, out, (size_t)side * side);

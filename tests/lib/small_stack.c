@@ -37,6 +37,12 @@ static void *encode(void *none)
 	return none;
 }
 
+static void *encode_bits(void *none)
+{
+	status = qrproved_encode_bits(input, input_len, version, level, rule, interpretation, boost, bytes, sizeof bytes, &symbol);
+	return none;
+}
+
 static void *encode_series(void *none)
 {
 	status = qrproved_encode_series(input, input_len, version, level, rule, interpretation, modules, sizeof modules, &series);
@@ -58,6 +64,14 @@ static void *mend(void *none)
 static void *draw(void *none)
 {
 	status = qrproved_draw(modules, (size_t)side * side * count, side, count, drawing, 4, text, sizeof text, &written);
+	return none;
+}
+
+static void *draw_row(void *none)
+{
+	static uint8_t line[QRPROVED_ROW(QRPROVED_UTF8, 177, 4)];
+	size_t length;
+	status = qrproved_draw_row(modules, sizeof modules, side, drawing % 3, 4, 20, line, sizeof line, &length);
 	return none;
 }
 
@@ -189,6 +203,7 @@ static void all(void)
 			for (rule = 0; rule < RULES; rule++) {
 				encode_interpreted();
 				encode_longest();
+				want("encode_bits", in_small_stack(encode_bits), QRPROVED_DONE);
 				want("read", in_small_stack(read_symbol), QRPROVED_DONE);
 				mend_until_refused(1);
 				mend_until_refused(0);
@@ -196,6 +211,7 @@ static void all(void)
 					want("document", in_small_stack(document), QRPROVED_DONE);
 					want("sheets", in_small_stack(sheets), QRPROVED_DONE);
 					want("draw", in_small_stack(draw), QRPROVED_DONE);
+					want("draw_row", in_small_stack(draw_row), QRPROVED_DONE);
 					want("parse", in_small_stack(parse_drawing), QRPROVED_DONE);
 				}
 				for (format = 0; format < FORMATS; format++)
@@ -214,8 +230,9 @@ static void all(void)
 static int once(const char *name)
 {
 	static const struct { const char *name; void *(*call)(void *); } CALLS[] = {
-		{"encode", encode}, {"encode_series", encode_series}, {"read", read_symbol}, {"mend", mend}, {"draw", draw},
-		{"document", document}, {"sheets", sheets}, {"image", image}, {"parse_drawing", parse_drawing}, {"room", room}};
+		{"encode", encode}, {"encode_bits", encode_bits}, {"encode_series", encode_series}, {"read", read_symbol}, {"mend", mend},
+		{"draw", draw}, {"draw_row", draw_row}, {"document", document}, {"sheets", sheets}, {"image", image},
+		{"parse_drawing", parse_drawing}, {"room", room}};
 	written = fread(text, 1, sizeof text, stdin);
 	memcpy(modules, text, written < sizeof modules ? written : sizeof modules);
 	while (side * side < written)

@@ -9,6 +9,7 @@ pub mod Interpretation
 pub mod Reading
 pub mod Mending
 pub mod Drawing
+pub mod Row
 pub mod Document
 pub mod Sheets
 pub mod Image

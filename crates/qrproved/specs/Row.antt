@@ -1,11 +1,15 @@
 -- What `qrproved_draw_row` writes, and when it refuses a buffer as too short. It writes one line of the text that
 -- `qrproved_draw` writes of a square of `side` rows. The lines are counted from 0, and `row` is the number of this line.
 -- The first bits of the buffer `bits` are the modules, row by row.
-use Rattle.std.specs.Prelude.{◌≡◌, ℕ, ◌+◌, ◌*◌, ◌<◌, ◌≤◌, ◌==◌, if◌then◌else◌, List, length}
+use Rattle.std.specs.Prelude.{◌≡◌, ℕ, ◌+◌, ◌*◌, ◌<◌, ◌≤◌, ◌==◌, if◌then◌else◌, List, [], ◌∷◌, length}
+use Rattle.qr_matrix.specs.Grid.{Grid}
+use Rattle.qr_drawing.specs.Raster.{texts_below}
 use Rattle.qr_drawing.specs.declared.text.TextStyle.{TextStyle}
 use Rattle.qr_drawing.specs.declared.text.TextStyle.TheVariants.{Plain, Inverse, HalfBlocks}
 use Rattle.qr_drawing.specs.Text.{line_count, line_of}
-use Rattle.qrproved.specs.Bits.{bytes_of_bits, square_of_bits}
+use Rattle.qrproved.specs.Bits.{HoldsBits, bytes_of_bits, square_of_bits}
+use Rattle.qrproved.specs.Drawing.{drawing_of_bytes}
+use Rattle.qrproved.specs.Modules.{HoldsSquares}
 
 -- The style of the text that the number `n` of a caller means: 0 is ASCII, 1 is inverse ASCII and 2 is UTF8. Numbers
 -- above 2 are out of range [own]
@@ -37,3 +41,11 @@ pub record HasNoRowRoom (bits : List ℕ) (side drawing margin row : ℕ) (text 
   pub settings : AreRowSettings side drawing margin row
   pub whole : bytes_of_bits side ≤ length bits
   pub room : length text < length (row_of_bits side drawing margin row bits)
+
+-- A square `g` was written as bits and as bytes. Then the lines of the text that are drawn from the bits are, one after
+-- the other, the text that is drawn from the bytes [own]
+abbrev pub RowsAreTheDrawing : Type 0
+RowsAreTheDrawing = (drawing margin : ℕ) (g : Grid) (blank bits empty modules : List ℕ) → drawing < 3
+    → HoldsBits g blank bits → HoldsSquares g.side (g ∷ []) empty modules
+    → texts_below (row_count g.side drawing margin) (λ row. row_of_bits g.side drawing margin row bits)
+    ≡ drawing_of_bytes g.side 1 drawing margin modules

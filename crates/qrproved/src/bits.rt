@@ -13,7 +13,8 @@ use std::marker::Model;
 
 /// Returns the number of bytes that have the bits of a square of `side` rows.
 pub(crate) fn bits_len(side: u8) -> usize
-    ensures { result ≡ bytes_of_bits side }
+    ensures value { result ≡ bytes_of_bits side }
+    ensures most { result ≤ 8192 }
 {
     (area(side) + 7) / 8
 }
@@ -26,7 +27,7 @@ static REVERSED: [u8; 16] = [0, 8, 4, 12, 2, 10, 6, 14, 1, 9, 5, 13, 3, 11, 7, 1
 fn reversed(bits: u8) -> u8
     ensures { (k : ℕ) → k < 8 → has_bit result k ≡ has_bit bits (7 - k) }
 {
-    REVERSED[usize::from(bits % 16)] * 16 + REVERSED[usize::from(bits / 16)]
+    REVERSED[usize::from(bits % 16)] << 4 | REVERSED[usize::from(bits / 16)]
 }
 
 // Writes eight bits from bit `at` on, the highest first. If they end in the byte after the one in which they begin, its
@@ -54,6 +55,7 @@ fn write_row(matrix: &Matrix, row: u8, start: usize, len: usize, bits: &mut [u8]
     requires row_in { row < matrix.now.side }
     requires room { start + matrix.now.side ≤ 8 * len }
     requires len_in { len ≤ length bits.old }
+    requires short { len ≤ 8192 }
     requires clear { (k : ℕ) → start ≤ k → k < 8 * (start / 8 + 1) → k < 8 * len → bit_of bits.old k ≡ false }
     ensures long { length bits.new ≡ length bits.old }
     ensures before { (k : ℕ) → k < start → bit_of bits.new k ≡ bit_of bits.old k }

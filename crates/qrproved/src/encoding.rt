@@ -1,7 +1,7 @@
 //! The calls that encode an input as one symbol (ISO/IEC 18004:2015, 7.1). One writes a byte for each module, and the
 //! other a bit.
 
-ghost use Rattle.std.specs.Prelude.{◌≡◌, ◌≢◌, ◌<◌, ◌↔◌, ◌⊎◌, [], length, Err, IfOk, OnErr};
+ghost use Rattle.std.specs.Prelude.{◌≡◌, ◌≢◌, ◌<◌, ◌↔◌, ◌⊎◌, [], length, Err, IfErr, IfOk};
 ghost use Rattle.qr_bits.specs.Interpretation.{MayWrite};
 ghost use Rattle.qr_symbol.specs.VersionChoice.{HasNoVersion};
 ghost use Rattle.qrproved.specs.Settings.{AreSymbolSettings, interpretation_of, level_of, rule_of};
@@ -43,8 +43,8 @@ fn symbol_of(
     interpretation: u32,
     boost: u32,
 ) -> Result<(Matrix, QrprovedSymbol), u8>
-    ensures symbol { IfOk result (λ made.
-        IsEncoded input.now version level rule interpretation boost made.0 made.1) }
+    ensures symbol { IfOk result (λ made. (IsEncoded input.now version level rule interpretation boost made.0 made.1)
+        × MayWrite (interpretation_of interpretation) input.now) }
     ensures settings { (result ≡ Err SETTINGS) ↔ (AreSymbolSettings version level rule interpretation boost → ⊥) }
     ensures empty { (result ≡ Err EMPTY)
         ↔ (AreSymbolSettings version level rule interpretation boost × (input.now ≡ [])) }
@@ -56,7 +56,7 @@ fn symbol_of(
         × HasNoVersion version (level_of level) (rule_of rule) (interpretation_of interpretation) input.now) }
     ensures long { AreSymbolSettings version level rule interpretation boost
         → MayWrite (interpretation_of interpretation) input.now → 7089 < length input.now → result ≡ Err TOO_LONG }
-    ensures status { OnErr result (λ status. (status ≡ EMPTY) ⊎ (status ≡ FIELDS) ⊎ (status ≡ TOO_LONG)
+    ensures status { IfErr result (λ status. (status ≡ EMPTY) ⊎ (status ≡ FIELDS) ⊎ (status ≡ TOO_LONG)
         ⊎ (status ≡ MEMORY) ⊎ (status ≡ SETTINGS)) }
 {
     let Some(settings) = settings_of(version, level, rule, interpretation) else {
@@ -306,6 +306,82 @@ mod tests {
             Some(&[7u8, 7][..]),
             "past the last module"
         );
+        Ok(())
+    }
+
+    // The bits of `ROWS`, one after the other: 441 of them take 55 bytes and a bit.
+    #[test]
+    fn a_letter_as_bits(rt: HostRuntime) -> Result<(), Fail> {
+        let mut bits = [7u8; 58];
+        let mut symbol = nothing();
+        let status = qrproved_encode_bits(
+            rt.alloc(),
+            b"A",
+            1,
+            0,
+            1,
+            DEFAULT,
+            0,
+            &mut bits,
+            &mut symbol,
+        );
+        check_eq!(rt; status, DONE);
+        check_eq!(rt;
+            (symbol.version, symbol.side, symbol.level, symbol.mask),
+            (1, 21, 0, 0)
+        );
+        // The first row is 11111110 01011011 11111, and the second 100 00010011 10010000 01.
+        check!(rt; bits.starts_with(&[0xFE, 0x5B, 0xFC, 0x13, 0x90]));
+        check_eq!(rt; bits.get(55..), Some(&[0x80u8, 7, 7][..]));
+        for row in 0..21u8 {
+            for col in 0..21u8 {
+                let number = 21 * usize::from(row) + usize::from(col);
+                let is_dark = ROWS[usize::from(row)] >> (20 - col) & 1 == 1;
+                check_eq!(rt;
+                    bits[(number / 8).min(57)] >> (7 - number % 8) & 1,
+                    u8::from(is_dark),
+                    "row {row}, column {col}"
+                );
+            }
+        }
+        Ok(())
+    }
+
+    #[test]
+    fn refused_bits(rt: HostRuntime) -> Result<(), Fail> {
+        let digits = [b'7'; 7090];
+        let rows = [
+            ("no byte", &digits[..0], 1u32, 0u32, 56usize, EMPTY),
+            ("7,090 digits", &digits[..], 1, 0, 56, TOO_LONG),
+            ("version 41", &digits[..1], 41, 0, 56, SETTINGS),
+            ("level 4", &digits[..1], 1, 4, 56, SETTINGS),
+            ("55 bytes", &digits[..1], 1, 3, 55, ROOM),
+            ("56 bytes for version 2", &digits[..1], 2, 3, 56, ROOM),
+            ("no bytes", &digits[..1], 1, 3, 0, ROOM),
+        ];
+        for (name, input, version, level, room, wanted) in rows {
+            let mut bits = [7u8; 56];
+            let mut symbol = nothing();
+            check!(rt; room <= bits.len());
+            let status = qrproved_encode_bits(
+                rt.alloc(),
+                input,
+                version,
+                level,
+                0,
+                DEFAULT,
+                0,
+                &mut bits[..room],
+                &mut symbol,
+            );
+            check_eq!(rt; status, wanted, "{name}");
+            check!(rt; bits.iter().all(|byte| *byte == 7), "{name}");
+            check_eq!(rt;
+                (symbol.version, symbol.side, symbol.level, symbol.mask),
+                (9, 9, 9, 9),
+                "{name}"
+            );
+        }
         Ok(())
     }
 

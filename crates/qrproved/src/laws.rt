@@ -16,8 +16,10 @@ ghost use Rattle.qrproved.specs.Mending.{spent_in, square_of_unknown, wrong_in};
 ghost use Rattle.qr_matrix.specs.Grid.{colour};
 ghost use Rattle.qr_drawing.specs.declared.document.Document.{Document};
 ghost use Rattle.qr_drawing.specs.declared.drawing.Drawing.{Drawing};
+ghost use Rattle.qr_drawing.specs.declared.text.TextStyle.{TextStyle};
 ghost use Rattle.qrproved.specs.Interpretation.{TellsFnc1, TellsKanji};
 ghost use Rattle.qrproved.specs.Room.{mode_of};
+ghost use Rattle.qrproved.specs.Row.{AreRowSettings, RowsAreTheDrawing, style_of};
 ghost use Rattle.qrproved.specs.Settings.{AreSymbolSettings, interpretation_of, level_of, rule_of};
 
 use crate::status::{
@@ -90,4 +92,20 @@ pub fn numbers_of_documents()
     ensures least { AreDocumentSettings 1 1 0 0 1 }
     ensures range { (side count format margin micrometres : ℕ) → AreDocumentSettings side count format margin micrometres
         → (side ≤ 177) × (count ≤ 16) × (format ≤ 2) × (margin ≤ 100) × (micrometres ≤ 1000000) }
+{}
+
+/// The lines that `qrproved_draw_row` draws of the bits of a square are, one after the other, the text that
+/// `qrproved_draw` draws of the bytes of this square.
+pub fn rows_are_the_drawing()
+    ensures { RowsAreTheDrawing }
+{}
+
+/// In `qrproved_draw_row` the numbers 0 to 2 mean the styles of ASCII, ASCIIi and UTF8. A square of 177 rows with a margin
+/// of 100 modules has 377 lines in ASCII, and 189 in UTF8.
+pub fn numbers_of_rows()
+    ensures styles { map style_of (0 ∷ 1 ∷ 2 ∷ []) ≡ TextStyle.Plain ∷ TextStyle.Inverse ∷ TextStyle.HalfBlocks ∷ [] }
+    ensures most { AreRowSettings 177 1 100 376 }
+    ensures most_of_utf8 { AreRowSettings 177 2 100 188 }
+    ensures least { AreRowSettings 1 0 0 0 }
+    ensures past { AreRowSettings 177 2 100 189 → ⊥ }
 {}

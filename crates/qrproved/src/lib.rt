@@ -7,7 +7,8 @@
 //! The contracts of the calls hold if the caller fulfils the conditions under 'What the caller owes' in
 //! `docs/LIBRARY.md`. If a buffer is longer than the result, the bytes after the result stay as they are. On each
 //! status but 0 the buffers, structs and variables of the caller are unchanged. There is one exception: if a buffer is
-//! too short, `qrproved_draw`, `qrproved_document`, `qrproved_sheets` and `qrproved_image` still set `written`.
+//! too short, `qrproved_draw`, `qrproved_draw_row`, `qrproved_document`, `qrproved_sheets` and `qrproved_image` still set
+//! `written`.
 //!
 //! If a call cannot do what it is asked for, it returns the status of the first cause that applies, in the order in
 //! which its comment lists the causes. If memory is refused, it returns `MEMORY`. The comment also names the causes
@@ -15,10 +16,11 @@
 //!
 //! The files of `src`:
 //!
+//! - `bits`: squares of modules as bits of a buffer
 //! - `checks`: the macros `check!` and `check_eq!` for tests
 //! - `document`: the call that writes documents for print
 //! - `drawing`: the call that draws squares of modules
-//! - `encoding`: the call that encodes an input as one symbol
+//! - `encoding`: the calls that encode an input as one symbol
 //! - `image`: the call that writes the image of a square as a file
 //! - `interpretation`: ECI headers and FNC1, as numbers for C
 //! - `laws`: laws about the calls and their numbers
@@ -27,6 +29,7 @@
 //! - `parsing`: the call that parses a drawing
 //! - `reading`: the call that reads a symbol without error correction
 //! - `room`: the call that says how much fits a symbol
+//! - `row`: the call that draws one line of a text
 //! - `samples`: symbols for the tests
 //! - `series`: the call that encodes an input as a series
 //! - `settings`: which numbers of a caller are allowed, and what they mean
@@ -35,6 +38,7 @@
 //! - `version`: the version of the library
 #![tactic(auto)]
 
+mod bits;
 #[cfg(test)]
 mod checks;
 mod document;
@@ -48,6 +52,7 @@ mod modules;
 mod parsing;
 mod reading;
 mod room;
+mod row;
 #[cfg(test)]
 mod samples;
 mod series;
@@ -58,13 +63,14 @@ mod version;
 
 pub use document::qrproved_document;
 pub use drawing::qrproved_draw;
-pub use encoding::{QrprovedSymbol, qrproved_encode};
+pub use encoding::{QrprovedSymbol, qrproved_encode, qrproved_encode_bits};
 pub use image::qrproved_image;
 pub use interpretation::QrprovedEci;
 pub use mending::{QrprovedMended, qrproved_mend};
 pub use parsing::{QrprovedDrawn, qrproved_parse_drawing};
 pub use reading::{QrprovedContent, qrproved_read};
 pub use room::qrproved_room;
+pub use row::qrproved_draw_row;
 pub use series::{QrprovedSeries, qrproved_encode_series};
 pub use sheets::{QrprovedSheet, qrproved_sheets};
 pub use version::qrproved_version;

@@ -1,138 +1,54 @@
-use Rattle.{qr_bits.specs.Interpretation.MayWrite, qr_layout.specs.{Version.side_of, declared.level.Level.Level}}
-use Rattle.qr_symbol.{proofs.Facts.version-one, specs.{Encoding.{IsBoostedSymbol, IsSymbol}, Reading.IsReadBack, VersionChoice.{HasNoVersion, IsVersion}}}
-use Rattle.qrproved.proofs.encoding.qrproved_encode.Goals.{After-long_inputs_have_none, Else-not-may_write, In-Err, In-Ok}
-use Rattle.qrproved.{proofs.lemmas.{encoding.{refused-some, room-status, side-asked, too-long-status, version-asked}, modules.one-held}, specs.Encoding.HasNoRoom}
-use Rattle.qrproved.specs.{Settings.{AreSymbolSettings, interpretation_of, level_of, rule_of}, declared.settings.Settings.Settings}
-use Rattle.std.proofs.Common.{◌≡◌, ◌≢◌, ◌↔◌, ◌<◌, ℕ, ◌*◌, [], Err, refl, sym, ap, subst, ◌∙◌, arith, rules}
-use Rattle.qr_symbol.specs.declared.fault.EncodeFault.TheVariants as fault
+use Rattle.qr_bits.specs.Interpretation.{MayWrite}
+use Rattle.qr_symbol.specs.VersionChoice.{HasNoVersion}
+use Rattle.qrproved.proofs.lemmas.encoding.{encoded-version, refused-long, refused-room, room-lacks, room-suffices}
+use Rattle.qrproved.specs.{Encoding.HasNoRoom, Settings.{AreSymbolSettings, interpretation_of, level_of, rule_of}}
+use Rattle.std.proofs.Common.{◌≡◌, ℕ, ◌*◌, [], refl, arith, rules}
+use Rattle.qrproved.proofs.lemmas.modules.{one-held}
 use Rattle.qrproved.proofs.encoding.qrproved_encode.Goals as goal
-
--- the numbers are allowed, and the input may be written
-allowed : (c : Else-not-may_write) → AreSymbolSettings c.args.version c.args.level c.args.rule c.args.interpretation c.args.boost
-allowed c = (c.in-Some.ensures.0, omega arith)
-
-may : (c : Else-not-may_write) → MayWrite (interpretation_of c.args.interpretation) c.args.input.now
-may c = search rules
-
-pub returns-then-not-may_write-clause-empty : goal.returns-then-not-may_write-clause-empty
-returns-then-not-may_write-clause-empty c =
-    (λ h. absurd (omega arith), λ w. absurd (search (rules, refused-some)))
-
--- an input that is longer than every symbol holds has no version
-none : (c : After-long_inputs_have_none)
-    → HasNoVersion c.args.version (level_of c.args.level) (rule_of c.args.rule) (interpretation_of c.args.interpretation) c.args.input.now
-none c =
-    let law = c.long_inputs_have_none.ensures.symbol c.args.input.now (level_of c.args.level) (rule_of c.args.rule) (interpretation_of c.args.interpretation) in
-    λ v least most fits. law (omega arith) v (search rules) most fits
-
-pub returns-then-input-gt-INPUT_MAX-clause-too_long : goal.returns-then-input-gt-INPUT_MAX-clause-too_long
-returns-then-input-gt-INPUT_MAX-clause-too_long c =
-    let at = goal.at.returns-then-input-gt-INPUT_MAX-clause-too_long c in
-    (λ _. (λ m. absurd (omega arith), allowed at.Else-not-may_write, may at.Else-not-may_write, none at.After-long_inputs_have_none), λ _. refl)
-
-pub returns-then-input-gt-INPUT_MAX-clause-room : goal.returns-then-input-gt-INPUT_MAX-clause-room
-returns-then-input-gt-INPUT_MAX-clause-room c =
-    let no = none (goal.at.returns-then-input-gt-INPUT_MAX-clause-room c).After-long_inputs_have_none in
-    (λ h. absurd (omega arith), λ w. let is = w.4.fits in absurd (no w.4.least is.least is.most is.fits))
-
--- ---- a refusal
-
-told : (c : In-Err) → (c.encode_as.result ≡ Err fault.TooLong) ↔ ((c.encode_as.result ≢ Err fault.Memory)
-    × HasNoVersion c.args.version (level_of c.args.level) (rule_of c.args.rule) (interpretation_of c.args.interpretation) c.args.input.now)
-told c = subst (λ (s : Settings). (c.encode_as.result ≡ Err fault.TooLong)
-    ↔ ((c.encode_as.result ≢ Err fault.Memory) × HasNoVersion s.size.version s.size.level s.writing.rule s.writing.interpretation c.args.input.now))
-    c.in-Some.ensures.1 c.encode_as.ensures.too_long
 
 pub returns-in-Err-clause-too_long : goal.returns-in-Err-clause-too_long
 returns-in-Err-clause-too_long c =
-    let at = goal.at.returns-in-Err-clause-too_long c in
-    rw c.encode_status.ensures (too-long-status c.encode_as.result c.in-Err.fault
+    refused-long c.symbol_of.result c.in-Err.status
     (AreSymbolSettings c.args.version c.args.level c.args.rule c.args.interpretation c.args.boost)
     (MayWrite (interpretation_of c.args.interpretation) c.args.input.now)
     (HasNoVersion c.args.version (level_of c.args.level) (rule_of c.args.rule) (interpretation_of c.args.interpretation) c.args.input.now)
-    c.in-Err.is (allowed at.Else-not-may_write) (may at.Else-not-may_write) (told at.In-Err))
+    c.in-Err.is c.symbol_of.ensures.too_long
 
 pub returns-in-Err-clause-room : goal.returns-in-Err-clause-room
-returns-in-Err-clause-room c = rw c.encode_status.ensures (room-status c.encode_as.result c.in-Err.fault c.args.input.now
+returns-in-Err-clause-room c =
+    refused-room c.symbol_of.result c.in-Err.status c.args.input.now
     (AreSymbolSettings c.args.version c.args.level c.args.rule c.args.interpretation c.args.boost)
     (MayWrite (interpretation_of c.args.interpretation) c.args.input.now)
     (HasNoVersion c.args.version (level_of c.args.level) (rule_of c.args.rule) (interpretation_of c.args.interpretation) c.args.input.now)
     (HasNoRoom c.args.input.now c.args.version c.args.level c.args.rule c.args.interpretation c.args.modules.now) c.in-Err.is
-    (λ w none. let is = w.fits in none w.least is.least is.most is.fits) c.encode_as.ensures.empty
-    (told (goal.at.returns-in-Err-clause-room c).In-Err) c.in-Err.ensures.fault)
-
--- ---- a symbol
-
-version : (c : In-Ok) → IsVersion c.args.version (level_of c.args.level) (rule_of c.args.rule) (interpretation_of c.args.interpretation) c.args.input.now c.in-Ok.made.version
-version c = subst (λ (s : Settings). IsVersion s.size.version s.size.level s.writing.rule s.writing.interpretation c.args.input.now c.in-Ok.made.version)
-    c.in-Some.ensures.1 (version-asked _ _ _ _ _ _ _ _ _ _ c.in-Ok.ensures.symbol c.in-Ok.ensures.boosted)
+    (λ w none. let is = w.fits in none w.least is.least is.most is.fits)
+    c.symbol_of.ensures.settings c.symbol_of.ensures.empty c.symbol_of.ensures.fields c.symbol_of.ensures.too_long c.in-Err.ensures.status
 
 pub returns-then-modules-area-clause-too_long : goal.returns-then-modules-area-clause-too_long
 returns-then-modules-area-clause-too_long c =
-    let is = version (goal.at.returns-then-modules-area-clause-too_long c).In-Ok in
-    (λ h. absurd (omega arith), λ w. absurd (w.3 c.in-Ok.made.version is.least is.most is.fits))
+    let is = encoded-version _ _ _ _ _ _ _ _ c.in-Ok.ensures.symbol.0 in
+    (λ h. absurd (omega arith), λ w. absurd (w.3 c.in-Ok.numbers.version is.least is.most is.fits))
 
 pub returns-then-modules-area-clause-room : goal.returns-then-modules-area-clause-room
 returns-then-modules-area-clause-room c =
-    let at = goal.at.returns-then-modules-area-clause-room c in
-    let side : c.side-side.result ≡ side_of c.in-Ok.made.version = c.side-side.ensures.value ∙ side-asked _ _ _ _ _ _ _ _ _ _ c.in-Ok.ensures.symbol c.in-Ok.ensures.boosted in
-    let area = ap (λ (n : ℕ). n * n) side in
-    let none : c.args.input.now ≡ [] → ⊥ = λ e. let bad = c.in-Ok.ensures.empty.1 e in cc in
-    let room : HasNoRoom c.args.input.now c.args.version c.args.level c.args.rule c.args.interpretation c.args.modules.now = record {
-      least = c.in-Ok.made.version;
-      fits = version at.In-Ok;
-      room = omega (arith, area, c.area.ensures, c.if-modules-area.true);
-    } in
-    (λ _. (λ m. absurd (omega arith), allowed at.Else-not-may_write, none, may at.Else-not-may_write, room), λ _. refl)
-
--- two numbers of one level are equal
-number-one : (m n : ℕ) → m < 4 → n < 4 → level_of m ≡ level_of n → m ≡ n
-number-one m n p q e = grind arith
+    let made = c.in-Ok.ensures.symbol in
+    let none : c.args.input.now ≡ [] → ⊥ = λ e. let bad = c.symbol_of.ensures.empty.1 (made.0.settings, e) in cc (bad, c.in-Ok.is) in
+    (λ _. (λ m. absurd (omega arith), made.0.settings, none, made.1, room-lacks (λ (side : ℕ). side * side) _ _ _ _ _ _ _ _ c.args.modules.now made.0 (omega (arith, c.area.ensures, c.if-modules-area.true))), λ _. refl)
 
 pub returns-else-modules-area-clause-done : goal.returns-else-modules-area-clause-done
 returns-else-modules-area-clause-done c _ =
-    let m = c.in-Ok.made in
-    let x = c.args.input.now in
-    let v = c.number-symbol.result in
-    let k = c.number_of_level-symbol.result in
-    let rule = rule_of c.args.rule in
-    let how = interpretation_of c.args.interpretation in
-    let read = subst (λ (s : Settings). IsReadBack m.version s.writing.rule s.writing.interpretation x m.matrix) c.in-Some.ensures.1 c.in-Ok.ensures.read in
-    let version = sym c.number-symbol.ensures.value in
     record {
-      settings = allowed (goal.at.returns-else-modules-area-clause-done c).Else-not-may_write;
-      square = m.matrix;
-      level_in = c.number_of_level-symbol.ensures.in_range;
-      made = λ plain.
-          let is = subst (λ (s : Settings). (m.level ≡ s.size.level) × IsSymbol s.size.version s.size.level s.writing.rule s.writing.interpretation x m.version m.mask m.matrix)
-          c.in-Some.ensures.1 (c.in-Ok.ensures.symbol (rw plain refl)) in (
-            number-one k c.args.level c.number_of_level-symbol.ensures.in_range c.in-Some.ensures.0.level_in (c.number_of_level-symbol.ensures.same ∙ is.0),
-            subst (λ (v : ℕ). IsSymbol c.args.version (level_of c.args.level) rule how x v m.mask m.matrix) version is.1,
-          );
-      boosted = λ boost.
-          let is = subst (λ (s : Settings). IsBoostedSymbol s.size.version s.size.level s.writing.rule s.writing.interpretation x m.version m.level m.mask m.matrix)
-          c.in-Some.ensures.1 (c.in-Ok.ensures.boosted (rw boost refl)) in
-          subst (λ (l : Level). IsBoostedSymbol c.args.version (level_of c.args.level) rule how x v l m.mask m.matrix) (sym c.number_of_level-symbol.ensures.same)
-          (subst (λ (v : ℕ). IsBoostedSymbol c.args.version (level_of c.args.level) rule how x v m.level m.mask m.matrix) version is);
-      read = subst (λ (v : ℕ). IsReadBack v rule how x m.matrix) version read;
-      side = c.side-side.ensures.value;
-      holds = one-held c.side-side.result m.matrix c.args.modules.now c.write_square.new.bytes c.side-side.ensures.value
+      square = c.in-Ok.matrix;
+      encoded = c.in-Ok.ensures.symbol.0;
+      holds = one-held c.in-Ok.numbers.side c.in-Ok.matrix c.args.modules.now c.write_square.new.bytes c.in-Ok.ensures.symbol.0.side
           (omega (arith, c.area.ensures)) (search rules) c.write_square.ensures.modules c.write_square.ensures.others;
     }
 
 pub returns-else-modules-area-clause-too_long : goal.returns-else-modules-area-clause-too_long
 returns-else-modules-area-clause-too_long c =
-    let is = version (goal.at.returns-else-modules-area-clause-too_long c).In-Ok in
-    (λ h. absurd (omega arith), λ w. absurd (w.3 c.in-Ok.made.version is.least is.most is.fits))
+    let is = encoded-version _ _ _ _ _ _ _ _ c.in-Ok.ensures.symbol.0 in
+    (λ h. absurd (omega arith), λ w. absurd (w.3 c.in-Ok.numbers.version is.least is.most is.fits))
 
 pub returns-else-modules-area-clause-room : goal.returns-else-modules-area-clause-room
 returns-else-modules-area-clause-room c =
-    let is = version (goal.at.returns-else-modules-area-clause-room c).In-Ok in (
-      λ h. absurd (omega arith),
-      λ w.
-          let n = w.4.least in
-          let least = version-one c.args.input.now (level_of c.args.level) c.args.version (rule_of c.args.rule) (interpretation_of c.args.interpretation)
-          c.in-Ok.made.version n is w.4.fits in
-          let side : c.side-side.result ≡ side_of n = c.side-side.ensures.value ∙ (side-asked _ _ _ _ _ _ _ _ _ _ c.in-Ok.ensures.symbol c.in-Ok.ensures.boosted ∙ ap side_of least) in
-          absurd (omega (arith, ap (λ (n : ℕ). n * n) side, w.4.room, c.area.ensures)),
-    )
+    (λ h. absurd (omega arith), λ w. absurd (room-suffices (λ (side : ℕ). side * side) _ _ _ _ _ _ _ _ c.args.modules.now c.in-Ok.ensures.symbol.0 (omega (arith, c.area.ensures, c.if-modules-area.false)) w.4))
