@@ -23,7 +23,7 @@ from dataclasses import dataclass
 from enum import IntEnum
 from typing import TYPE_CHECKING, BinaryIO, List, NamedTuple, NoReturn, Optional, Tuple, Union
 
-from . import _library
+from . import _library, contents
 from ._common import DATA, LIMITS
 from ._drawings import found_by_look, undone
 from ._gs1 import Gs1Error, data_of, fields_of
@@ -43,7 +43,7 @@ if TYPE_CHECKING:
 __all__ = ["BYTES_MAX", "COUNT_MAX", "ECI_MAX", "MARGIN_MAX", "SCALE_MAX", "SERIES_MAX", "SIDE_MAX", "SYMBOL_MAX", "CheckError", "Content",
            "Drawing", "Drawn", "Eci", "EciError", "EmptyError", "Error", "FieldsError", "FormatError", "Gs1Error", "Header", "Level",
            "Mended", "NoDrawingError", "OutOfMemoryError", "PrintWarning", "RoomError", "Rule", "SegmentsError", "SettingsError",
-           "Sheet", "SideError", "Symbol", "TooLongError", "TooManyError", "WORK_MAX", "document", "draw", "encode", "encode_series", "labels", "mend",
+           "Sheet", "SideError", "Symbol", "TooLongError", "TooManyError", "WORK_MAX", "contents", "document", "draw", "encode", "encode_series", "labels", "mend",
            "parse_drawing", "parse_picture", "read", "sheets"]
 
 __version__ = "0.2.0"
