@@ -124,3 +124,27 @@ export function link(fields: { gs1: string; domain?: Text }): string;
  * follows the question mark and has no application identifier as its name is left out.
  */
 export function gs1Of(address: string): string;
+
+export type Kind = 'wifi' | 'contact' | 'event' | 'geo' | 'mail' | 'sms' | 'tel' | 'payment' | 'link';
+
+/** What is known of a field, for programs that show a form. */
+export interface Field {
+  /** What it is, in English. */
+  readonly help?: string;
+  /** The values that it may have, if they are few. */
+  readonly choices?: Readonly<Record<string, string>>;
+  readonly default?: string;
+  readonly needed?: boolean;
+  /** Whether it may be an array. */
+  readonly many?: boolean;
+  /** The type of its text: 'flag' is true or false, and 'text' may have several lines. */
+  readonly is?: string;
+  /** Whether the call makes it, so that it cannot be given. */
+  readonly made?: boolean;
+}
+
+/** The kinds of contents, by the names of the calls, each with its fields. */
+export const KINDS: Readonly<Record<Kind, { readonly help: string; readonly fields: Readonly<Record<string, Field>> }>>;
+
+/** Returns the text of a kind of content, as the call of this name does. */
+export function textOf(kind: Kind, fields: Readonly<Record<string, unknown>>): string;

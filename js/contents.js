@@ -10,7 +10,9 @@ import { CONTENTS } from './kinds.js';
 
 export { ContentError } from './errors.js';
 
-const { errors: ERRORS, kinds: KINDS, types: TYPES } = CONTENTS;
+const { errors: ERRORS, types: TYPES } = CONTENTS;
+/** The kinds of contents, by the names of the calls, each with its fields. */
+export const KINDS = CONTENTS.kinds;
 const NAMED = /\{([a-z0-9]+)(?::([a-z]+))?\}/g;
 const TIME = /^([0-9]{4})-([0-9]{2})-([0-9]{2})(?:T([0-9]{2}):([0-9]{2})(?::([0-9]{2}))?(?:Z|([+-])([0-9]{2}):([0-9]{2}))?)?$/;
 const LINE_END = /\r\n|\r|\n/g;
@@ -18,7 +20,7 @@ const LINE_END = /\r\n|\r|\n/g;
 /** How a payment is encoded by EPC069-12: at level M, and without a header for its character set, which its text names. */
 export const PAYMENT = Object.freeze({ level: 'M', boost: false, eci: false });
 
-function faultOf(field, name, ...values) {
+function wrongOf(field, name, ...values) {
   return new ContentError(field, values.reduce((text, it) => text.replace('{}', () => it), ERRORS[name]));
 }
 
@@ -39,42 +41,42 @@ function decimal(number) {
 }
 
 /** Returns a value as text. */
-function textOf(field, spec, value) {
+function shownOf(field, spec, value) {
   if (typeof value === 'string') return value;
   if (typeof value === 'number' && spec.numbers) return decimal(value);
   if (value instanceof Date && (spec.is === 'day' || spec.is === 'time')) {
     const text = Number.isNaN(value.getTime()) ? String(value) : value.toISOString();
     return spec.is === 'day' ? text.slice(0, 10) : text.replace(/[.][0-9]+Z$/, 'Z');
   }
-  throw faultOf(field, spec.is === 'number' ? 'number' : 'text');
+  throw wrongOf(field, spec.is === 'number' ? 'number' : 'text');
 }
 
 function chosenOf(field, choices, value) {
   const found = Object.entries(choices).find(([name]) => name.toLowerCase() === value.toLowerCase());
   if (!found) {
     const [last, ...first] = Object.keys(choices).reverse();
-    throw faultOf(field, 'choice', `${first.reverse().join(', ')} or ${last}`);
+    throw wrongOf(field, 'choice', `${first.reverse().join(', ')} or ${last}`);
   }
   return found[1];
 }
 
 /** Returns a value, checked by what the table says of its field, or null if it is empty. */
 function oneOf(field, spec, given) {
-  const value = textOf(field, spec, given);
+  const value = shownOf(field, spec, given);
   if (value === '') return null;
-  if (/\p{Surrogate}/u.test(value)) throw faultOf(field, 'surrogate');
+  if (/\p{Surrogate}/u.test(value)) throw wrongOf(field, 'surrogate');
   if (spec.choices) return chosenOf(field, spec.choices, value);
   const [pattern, said] = TYPES[spec.is];
   if (!matches(pattern, value)) throw new ContentError(field, said);
   const count = [...value].length, size = sizeOf(value);
-  if (count > (spec.most ?? count)) throw faultOf(field, 'characters', count, spec.most);
-  if (size > (spec.bytes ?? size)) throw faultOf(field, 'bytes', size, spec.bytes);
-  if (spec.range && !(spec.range[0] <= Number(value) && Number(value) <= spec.range[1])) throw faultOf(field, 'range', ...spec.range);
+  if (count > (spec.most ?? count)) throw wrongOf(field, 'characters', count, spec.most);
+  if (size > (spec.bytes ?? size)) throw wrongOf(field, 'bytes', size, spec.bytes);
+  if (spec.range && !(spec.range[0] <= Number(value) && Number(value) <= spec.range[1])) throw wrongOf(field, 'range', ...spec.range);
   return value;
 }
 
 function flagOf(field, given) {
-  if (typeof given !== 'boolean' && given !== 'true' && given !== 'false') throw faultOf(field, 'flag');
+  if (typeof given !== 'boolean' && given !== 'true' && given !== 'false') throw wrongOf(field, 'flag');
   return given === true || given === 'true' ? 'true' : null;
 }
 
@@ -95,7 +97,7 @@ function checkedOf(kind, given) {
   if (other !== undefined) throw new TypeError(`there is no field ${other}; there are ${names.join(', ')}`);
   for (const [name, spec] of specs) {
     const found = valueOf(name, spec, given[name]) ?? spec.default ?? null;
-    if (found === null && spec.needed) throw faultOf(name, 'missing');
+    if (found === null && spec.needed) throw wrongOf(name, 'missing');
     if (found !== null) fields[name] = found;
   }
   return fields;
@@ -109,7 +111,7 @@ function addressOf(text) {
   return `${encodeURIComponent(text.slice(0, place))}@${encodeURIComponent(text.slice(place + 1))}`;
 }
 
-const ESCAPES = {
+const ESCAPERS = {
   escaped: (text) => text.replace(/([\\;,:"])/g, '\\$1'), // of Wi-Fi, as the wiki of zxing has it
   mecard: (text) => text.replace(/([\\;,:])/g, '\\$1'),
   text: (text) => text.replace(/([\\;,])/g, '\\$1').replace(LINE_END, '\\n'), // RFC 2426, 4; RFC 6350, 3.4; RFC 5545, 3.3.11
@@ -127,7 +129,7 @@ function writtenOf(piece, fields, specs) {
   if (named.length === 0) return piece;
   const values = {};
   for (const [, name, escape] of named) {
-    const texts = [fields[name] ?? []].flat().map((it) => (escape ? ESCAPES[escape](it) : it));
+    const texts = [fields[name] ?? []].flat().map((it) => (escape ? ESCAPERS[escape](it) : it));
     values[name] = texts.length && specs[name].joined !== undefined ? [texts.join(specs[name].joined)] : texts;
   }
   const most = Math.max(...Object.values(values).map((it) => it.length));
@@ -147,10 +149,10 @@ function namesIn(pieces) {
 }
 
 /** Returns the text of a kind of content, with its fields by their names. */
-function textWith(kind, given) {
+export function textOf(kind, given) {
   const table = KINDS[kind], { [table.form]: form = '', ...fields } = checkedOf(kind, given), pieces = table.forms[form], placed = namesIn(pieces);
   const other = form === '' ? undefined : Object.keys(fields).find((it) => !placed.includes(it) && !table.fields[it].everywhere);
-  if (other !== undefined) throw faultOf(other, 'place', form);
+  if (other !== undefined) throw wrongOf(other, 'place', form);
   COMPLETED[kind]?.(fields);
   const text = filledOf(pieces, fields, table.fields);
   return kind === 'payment' ? checkedPayment(text.replace(/\n+$/, ''), fields) : text;
@@ -161,10 +163,10 @@ function textWith(kind, given) {
 function completeWifi(fields) {
   const { password } = fields, security = fields.security ??= password ? 'WPA' : 'nopass';
   if (security === 'nopass') {
-    if (password) throw faultOf('password', 'open');
+    if (password) throw wrongOf('password', 'open');
     return;
   }
-  if (!password) throw faultOf('password', 'missing');
+  if (!password) throw wrongOf('password', 'missing');
   const [pattern, said] = CONTENTS.passwords[security];
   if (!matches(pattern, password)) throw new ContentError('password', said);
 }
@@ -173,7 +175,7 @@ function completeContact(fields) {
   const hasParts = Boolean(fields.given || fields.family);
   const whole = ['prefix', 'given', 'additional', 'family', 'suffix'].map((it) => fields[it]).filter((it) => it).join(' ');
   const name = fields.name ?? (hasParts ? whole : fields.organization);
-  if (name === undefined) throw faultOf('name', 'name');
+  if (name === undefined) throw wrongOf('name', 'name');
   fields.name = name;
   if (!hasParts) fields.family = name;
   fields.names = [fields.family, fields.given].filter((it) => it);
@@ -188,7 +190,7 @@ function momentOf(field, text) {
     .every((it, k) => it === numbers[k + 1]);
   const ahead = sign ? (sign === '-' ? -1 : 1) * (60 * Number(hours) + Number(minutes)) : 0; // minutes
   const written = new Date(given - 60000 * ahead).toISOString();
-  if (!isSame || (sign && !(Number(hours) < 24 && Number(minutes) < 60)) || written.length !== 24) throw faultOf(field, 'time');
+  if (!isSame || (sign && !(Number(hours) < 24 && Number(minutes) < 60)) || written.length !== 24) throw wrongOf(field, 'time');
   const basic = written.slice(0, 19).replace(/[-:]/g, '');
   if (!text.includes('T')) return ['day', basic.slice(0, 8)];
   return sign || text.endsWith('Z') ? ['zone', `${basic}Z`] : ['none', basic];
@@ -206,13 +208,13 @@ function completeEvent(fields) {
   fields[kind === 'day' ? 'day' : 'start'] = start;
   if (end) {
     const [other, last] = momentOf('end', end);
-    if (other !== kind) throw faultOf('end', 'kinds');
-    if (last <= start) throw faultOf('end', 'order');
+    if (other !== kind) throw wrongOf('end', 'kinds');
+    if (last <= start) throw wrongOf('end', 'order');
     fields[kind === 'day' ? 'last' : 'end'] = last;
   }
   if (fields.stamp) {
     const [other, stamp] = momentOf('stamp', fields.stamp);
-    if (other !== 'zone') throw faultOf('stamp', 'zone');
+    if (other !== 'zone') throw wrongOf('stamp', 'zone');
     fields.stamp = stamp;
   } else {
     fields.stamp = { day: `${start}T000000Z`, none: `${start}Z`, zone: start }[kind];
@@ -231,9 +233,9 @@ function mod97(text) {
 
 function checkIban(iban) {
   const country = iban.slice(0, 2), count = iban.length;
-  if (!Object.hasOwn(CONTENTS.ibans, country)) throw faultOf('iban', 'country', country);
-  if (count !== CONTENTS.ibans[country]) throw faultOf('iban', 'iban', count, country, CONTENTS.ibans[country]);
-  if (mod97(iban) !== 1) throw faultOf('iban', 'mod97');
+  if (!Object.hasOwn(CONTENTS.ibans, country)) throw wrongOf('iban', 'country', country);
+  if (count !== CONTENTS.ibans[country]) throw wrongOf('iban', 'iban', count, country, CONTENTS.ibans[country]);
+  if (mod97(iban) !== 1) throw wrongOf('iban', 'mod97');
 }
 
 function completePayment(fields) {
@@ -247,8 +249,8 @@ function completePayment(fields) {
   }
   if (fields.reference) {
     if (!(fields.reference.length >= 5 && fields.reference.length <= 25)) throw new ContentError('reference', TYPES.reference[1]);
-    if (mod97(fields.reference) !== 1) throw faultOf('reference', 'mod97');
-    if (fields.text) throw faultOf('text', 'both');
+    if (mod97(fields.reference) !== 1) throw wrongOf('reference', 'mod97');
+    if (fields.text) throw wrongOf('text', 'both');
   }
   fields.edition = fields.bic ? '001' : '002'; // which without a bank came with 002
 }
@@ -262,14 +264,14 @@ function checkedPayment(text, fields) {
         encodedText(letter, number);
       } catch (error) {
         if (!(error instanceof EciError)) throw error;
-        throw faultOf(name, 'charset', letter, fields.charset);
+        throw wrongOf(name, 'charset', letter, fields.charset);
       }
     }
   }
   const { length: count } = paymentBytes(text), { bytes: most } = CONTENTS.payment;
   if (count > most) {
     const lengths = free.map((it) => encodedText(fields[it], number).length);
-    throw faultOf(free[lengths.indexOf(Math.max(...lengths))], 'payment', count, most);
+    throw wrongOf(free[lengths.indexOf(Math.max(...lengths))], 'payment', count, most);
   }
   return text;
 }
@@ -280,11 +282,11 @@ function completeLink(fields) {
     found = fieldsOf(dataOf(fields.gs1));
   } catch (error) {
     if (!(error instanceof Gs1Error)) throw error;
-    throw faultOf('gs1', 'gs1', error.message);
+    throw wrongOf('gs1', 'gs1', error.message);
   }
   const names = found.map(([name]) => name), twice = names.find((it, k) => names.indexOf(it) < k), key = names.find((it) => Object.hasOwn(CONTENTS.keys, it));
-  if (twice !== undefined) throw faultOf('gs1', 'twice', twice);
-  if (key === undefined) throw faultOf('gs1', 'key');
+  if (twice !== undefined) throw wrongOf('gs1', 'twice', twice);
+  if (key === undefined) throw wrongOf('gs1', 'key');
   const values = new Map(found), path = [key, ...CONTENTS.keys[key].filter((it) => values.has(it))];
   fields.path = path.map((it) => `${it}/${encodeURIComponent(values.get(it))}`);
   fields.query = found.filter(([name]) => !path.includes(name)).map(([name, value]) => `${name}=${encodeURIComponent(value)}`);
@@ -295,15 +297,15 @@ const COMPLETED = { wifi: completeWifi, contact: completeContact, event: complet
 
 // ---- the calls
 
-export const wifi = (fields) => textWith('wifi', fields);
-export const contact = (fields) => textWith('contact', fields);
-export const event = (fields) => textWith('event', fields);
-export const geo = (fields) => textWith('geo', fields);
-export const mail = (fields) => textWith('mail', fields);
-export const sms = (fields) => textWith('sms', fields);
-export const tel = (fields) => textWith('tel', fields);
-export const payment = (fields) => textWith('payment', fields);
-export const link = (fields) => textWith('link', fields);
+export const wifi = (fields) => textOf('wifi', fields);
+export const contact = (fields) => textOf('contact', fields);
+export const event = (fields) => textOf('event', fields);
+export const geo = (fields) => textOf('geo', fields);
+export const mail = (fields) => textOf('mail', fields);
+export const sms = (fields) => textOf('sms', fields);
+export const tel = (fields) => textOf('tel', fields);
+export const payment = (fields) => textOf('payment', fields);
+export const link = (fields) => textOf('link', fields);
 
 /** Returns the bytes of a payment in the character set that its third line names. */
 export function paymentBytes(text) {
@@ -316,31 +318,31 @@ function isPath(segments) {
   return segments.length % 2 === 0 && Object.hasOwn(CONTENTS.keys, key) && others.every((it) => CONTENTS.keys[key].includes(it));
 }
 
-function padded(name, value) {
+function gtinOf(name, value) {
   return name === '01' && /^([0-9]{8}|[0-9]{12,13})$/.test(value) ? value.padStart(14, '0') : value;
 }
 
 /** Returns the GS1 data in the address of a page. */
 export function gs1Of(address) {
   const checked = oneOf('link', { is: 'link' }, address);
-  if (checked === null) throw faultOf('link', 'missing');
+  if (checked === null) throw wrongOf('link', 'missing');
   const [whole] = checked.split('#'), [before] = whole.split('?'), query = whole.slice(before.length + 1);
   const segments = before.replace(/^https?:\/\//, '').replace(/\/+$/, '').split('/').slice(1);
   const place = segments.findIndex((_, k) => isPath(segments.slice(k)));
-  if (place < 0) throw faultOf('link', 'link');
+  if (place < 0) throw wrongOf('link', 'link');
   const pairs = segments.slice(place).flatMap((it, k, all) => (k % 2 ? [] : [[it, all[k + 1]]]));
   for (const [name, ...values] of query.split(/[&;]/).map((it) => it.split('='))) {
     if (/^[0-9]{2,4}$/.test(name)) pairs.push([name, values.join('=')]);
   }
   try {
-    const found = pairs.map(([name, value]) => [name, padded(name, decodeURIComponent(value))]);
+    const found = pairs.map(([name, value]) => [name, gtinOf(name, decodeURIComponent(value))]);
     const [begin, end] = found.some(([, value]) => /\([0-9]{2,4}\)/.test(value)) ? '[]' : '()';
     const text = found.map(([name, value]) => begin + name + end + value).join('');
     dataOf(text);
     return text;
   } catch (error) {
     if (error instanceof URIError) throw new ContentError('link', TYPES.link[1]);
-    if (error instanceof Gs1Error) throw faultOf('link', 'gs1', error.message);
+    if (error instanceof Gs1Error) throw wrongOf('link', 'gs1', error.message);
     throw error;
   }
 }

@@ -31,7 +31,7 @@ if TYPE_CHECKING:
 #              is needed or has a default, has at most so many characters (`most`) or bytes of UTF-8. It may be given as a number, or
 #              many times: then its piece is written for each value, or the values are `joined`. A field that is `made` is computed by
 #              the function of its kind below, and one that is used `everywhere` is no fault in a form without it. A form is a list of
-#              pieces. In a piece, {name:escape} is the value of a field after a function of ESCAPES. A piece of whose fields none is
+#              pieces. In a piece, {name:escape} is the value of a field after a function of ESCAPERS. A piece of whose fields none is
 #              given is left out. A piece that is a list has a text before the first of its own pieces, and one before each other
 #   passwords  what a password has to match, by the type of the network
 #   payment    the most bytes of a payment, and the ECI of each of its character sets
@@ -158,7 +158,7 @@ def _address(text: str) -> str:
     return f"{_uri(name)}@{_uri(host)}"
 
 
-ESCAPES = {
+ESCAPERS = {
     "escaped": lambda text: re.sub(r'([\\;,:"])', r"\\\1", text),  # of Wi-Fi, as the wiki of zxing has it
     "mecard": lambda text: re.sub(r"([\\;,:])", r"\\\1", text),
     "text": lambda text: LINE_END.sub(r"\\n", re.sub(r"([\\;,])", r"\\\1", text)),  # RFC 2426, 4; RFC 6350, 3.4; RFC 5545, 3.3.11
@@ -179,7 +179,7 @@ def _written(piece: str, fields: dict[str, Any], specs: dict[str, Any]) -> str:
     values, count = {}, 1
     for name, escape in named:
         given = fields.get(name)
-        texts = [ESCAPES[escape](it) if escape else it for it in ([] if given is None else given if isinstance(given, list) else [given])]
+        texts = [ESCAPERS[escape](it) if escape else it for it in ([] if given is None else given if isinstance(given, list) else [given])]
         values[name] = [specs[name]["joined"].join(texts)] if texts and "joined" in specs[name] else texts
         count = max(count, len(values[name]))
     if not any(values.values()):
