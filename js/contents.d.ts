@@ -147,4 +147,4 @@ export interface Field {
 export const KINDS: Readonly<Record<Kind, { readonly help: string; readonly fields: Readonly<Record<string, Field>> }>>;
 
 /** Returns the text of a kind of content, as the call of this name does. */
-export function textOf(kind: Kind, fields: Readonly<Record<string, unknown>>): string;
+export function contentText(kind: Kind, fields: Readonly<Record<string, unknown>>): string;

@@ -149,7 +149,7 @@ function namesIn(pieces) {
 }
 
 /** Returns the text of a kind of content, with its fields by their names. */
-export function textOf(kind, given) {
+export function contentText(kind, given) {
   const table = KINDS[kind], { [table.form]: form = '', ...fields } = checkedOf(kind, given), pieces = table.forms[form], placed = namesIn(pieces);
   const other = form === '' ? undefined : Object.keys(fields).find((it) => !placed.includes(it) && !table.fields[it].everywhere);
   if (other !== undefined) throw wrongOf(other, 'place', form);
@@ -297,15 +297,15 @@ const COMPLETED = { wifi: completeWifi, contact: completeContact, event: complet
 
 // ---- the calls
 
-export const wifi = (fields) => textOf('wifi', fields);
-export const contact = (fields) => textOf('contact', fields);
-export const event = (fields) => textOf('event', fields);
-export const geo = (fields) => textOf('geo', fields);
-export const mail = (fields) => textOf('mail', fields);
-export const sms = (fields) => textOf('sms', fields);
-export const tel = (fields) => textOf('tel', fields);
-export const payment = (fields) => textOf('payment', fields);
-export const link = (fields) => textOf('link', fields);
+export const wifi = (fields) => contentText('wifi', fields);
+export const contact = (fields) => contentText('contact', fields);
+export const event = (fields) => contentText('event', fields);
+export const geo = (fields) => contentText('geo', fields);
+export const mail = (fields) => contentText('mail', fields);
+export const sms = (fields) => contentText('sms', fields);
+export const tel = (fields) => contentText('tel', fields);
+export const payment = (fields) => contentText('payment', fields);
+export const link = (fields) => contentText('link', fields);
 
 /** Returns the bytes of a payment in the character set that its third line names. */
 export function paymentBytes(text) {

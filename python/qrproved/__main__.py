@@ -386,7 +386,7 @@ def of_content(kind: str, words: list[str]) -> argparse.Namespace:
     for name, texts in values.items():
         if len(texts) > 1 and not fields[name].get("many"):
             parser.error(f"{name} is given more than once")
-    text = contents.text_of(kind, {name: texts if fields[name].get("many") else texts[0] for name, texts in values.items() if texts})
+    text = contents.content_text(kind, {name: texts if fields[name].get("many") else texts[0] for name, texts in values.items() if texts})
     given.content = contents.payment_bytes(text) if kind == "payment" else text
     return completed(parser, given)
 

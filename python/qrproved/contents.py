@@ -203,7 +203,7 @@ def _names_in(pieces: list[Any]) -> set[str]:
     return {name for piece in pieces for name in (_names_in(piece[2]) if isinstance(piece, list) else (it[0] for it in NAMED.findall(piece)))}
 
 
-def text_of(kind: str, given: dict[str, Any]) -> str:
+def content_text(kind: str, given: dict[str, Any]) -> str:
     """Returns the text of a kind of content, with its fields by their names."""
     table = KINDS[kind]
     fields = _checked(kind, given)
@@ -379,7 +379,7 @@ def wifi(ssid: str, password: Optional[str] = None, security: Optional[str] = No
     which is WPA3 alone; 'WEP' or 'none'. Unless it is given, it is 'WPA' if there is a password, and else 'none'. `hidden` says that the
     network does not tell its name. A name or a password of hexadecimal digits is written as any other: quotation marks around it, as the
     wiki of zxing advises, are a part of it for readers that do not know of them."""
-    return text_of("wifi", locals())
+    return content_text("wifi", locals())
 
 
 def contact(name: Optional[str] = None, *, given: Optional[str] = None, family: Optional[str] = None, additional: Optional[str] = None,
@@ -391,7 +391,7 @@ def contact(name: Optional[str] = None, *, given: Optional[str] = None, family: 
     """Returns the text of a contact, in the `format` 'vcard3' (RFC 2426), 'vcard4' (RFC 6350) or 'mecard', which has no place for some
     fields. It has a name, a given or a family name, or an organization. Numbers and addresses of the internet may be lists. Lines are
     not folded, which both documents allow, and which telephones read best."""
-    return text_of("contact", locals())
+    return content_text("contact", locals())
 
 
 def event(summary: str, start: Time, end: Optional[Time] = None, *, location: Optional[str] = None, description: Optional[str] = None,
@@ -400,30 +400,30 @@ def event(summary: str, start: Time, end: Optional[Time] = None, *, location: Op
     the reader's place, or with 'Z' or '+01:00' at the end. They may be a date or a datetime. Of days, `end` is the first day after the
     event. Unless they are given, `uid` is made of the start, the summary and the location, and `stamp` is the start, so that the same
     fields have the same text. The `format` 'vevent' leaves out what is around the event, and these two. Lines are not folded."""
-    return text_of("event", locals())
+    return content_text("event", locals())
 
 
 def geo(latitude: Number, longitude: Number, altitude: Optional[Number] = None, uncertainty: Optional[Number] = None) -> str:
     """Returns the text of a place (RFC 5870): degrees north and east, and metres above the ellipsoid of WGS 84. `uncertainty` is how many
     metres the place may be off."""
-    return text_of("geo", locals())
+    return content_text("geo", locals())
 
 
 def mail(to: Texts, *, cc: Texts = None, bcc: Texts = None, subject: Optional[str] = None, body: Optional[str] = None) -> str:
     """Returns the text of an email to write (RFC 6068). Addresses may be lists."""
-    return text_of("mail", locals())
+    return content_text("mail", locals())
 
 
 def sms(number: str, body: Optional[str] = None, *, format: str = "smsto") -> str:
     """Returns the text of a short message to write. The `format` 'smsto' is what most telephones read together with its text; 'sms' is the
     address of RFC 5724, of which some telephones take the number alone."""
-    return text_of("sms", locals())
+    return content_text("sms", locals())
 
 
 def tel(number: str) -> str:
     """Returns the text of a telephone number (RFC 3966). Of a number without + that document asks also where it is valid, which telephones
     do not understand: it is left out."""
-    return text_of("tel", locals())
+    return content_text("tel", locals())
 
 
 def payment(name: str, iban: str, amount: Optional[Number] = None, *, bic: Optional[str] = None, purpose: Optional[str] = None,
@@ -431,7 +431,7 @@ def payment(name: str, iban: str, amount: Optional[Number] = None, *, bic: Optio
     """Returns the text of a SEPA credit transfer (EPC069-12), which says that it is of version 001 if `bic` is given, and else of version
     002. `amount` is in euros; whoever pays chooses it unless it is given. Encode the text by **PAYMENT, and with a `charset` from 2 to 8,
     which are parts of ISO/IEC 8859, its payment_bytes."""
-    return text_of("payment", locals())
+    return content_text("payment", locals())
 
 
 def payment_bytes(text: str) -> bytes:
@@ -442,7 +442,7 @@ def payment_bytes(text: str) -> bytes:
 def link(gs1: str, domain: str = "https://id.gs1.org") -> str:
     """Returns GS1 data as the address of a page (GS1 Digital Link). The first field that identifies something, such as (01), is in the path,
     with the fields that say more of it; the others follow after the question mark. The values are checked as those of encode(gs1=..)."""
-    return text_of("link", locals())
+    return content_text("link", locals())
 
 
 def gs1_of(link: str) -> str:
