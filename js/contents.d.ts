@@ -5,7 +5,10 @@
 
 type Text = string | null;
 type Texts = string | readonly string[] | null;
-/** A day, as '2026-12-24'; or a time: '2026-12-24T18:00' is that of the reader's place, and 'Z' or '+01:00' at the end is its zone. */
+/**
+ * A day, as '2026-12-24'; or a time: '2026-12-24T18:00' is that of the reader's place, and 'Z' or '+01:00' at the end is its zone. A Date is a
+ * time in UTC.
+ */
 type Time = string | Date;
 
 /** A field of a content is wrong. */
@@ -49,7 +52,7 @@ export interface Contact {
   region?: Text;
   postcode?: Text;
   country?: Text;
-  /** A day, as '1996-04-15'. */
+  /** A day, as '1996-04-15'; of a Date that in UTC. */
   birthday?: string | Date | null;
   note?: Text;
   /** 'vcard3' (RFC 2426) unless given; 'vcard4' (RFC 6350); or 'mecard', which has no place for some fields. */
