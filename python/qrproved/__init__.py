@@ -880,7 +880,7 @@ def _sheets(modules: bytes, count: int, side: int, sheet: Sheet, light: int, mm:
     first = _setting("first", sheet.first, 0, columns * rows - 1)
     if max(lengths["width"], lengths["height"]) > PAPER_MAX:
         raise SettingsError(f"paper is at most {PAPER_MAX // 1000:,} mm wide and high")
-    wide, high = _room(lengths["width"], lengths["left"], columns, lengths["across"]), _room(lengths["height"], lengths["top"], rows, lengths["down"])
+    wide, high = _longest_place(lengths["width"], lengths["left"], columns, lengths["across"]), _longest_place(lengths["height"], lengths["top"], rows, lengths["down"])
     width = side + 2 * light
     micrometres = min(wide, high, MICROMETRES_MAX * width) // width if mm is None else _micrometres(mm, width)
     if micrometres < 1 or micrometres * width > min(wide, high):
@@ -901,7 +901,7 @@ def _pages(modules: bytes, side: int, margin: int, mm: Optional[float]) -> bytes
     return _sheets(modules, count, side, Sheet(width, width, columns=1, rows=1), light, None)
 
 
-def _room(length: int, before: int, count: int, step: int) -> int:
+def _longest_place(length: int, before: int, count: int, step: int) -> int:
     """Returns how long a place may be, of so many that begin `before` behind the edge and `step` behind one another: up to the next one,
     and up to the other edge."""
     last = length - before - (count - 1) * step
