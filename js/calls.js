@@ -7,7 +7,7 @@ import { OutOfMemoryError, nameOf, throwFor, tooLong, tooMany } from './errors.j
 import { base64 } from './module.js';
 
 // The fields of the struct for label paper, of 4 bytes each.
-const SHEET = ['width', 'height', 'left', 'top', 'across', 'down', 'columns', 'rows', 'first'];
+const SHEET_FIELDS = ['width', 'height', 'left', 'top', 'across', 'down', 'columns', 'rows', 'first'];
 
 let library; // what the module exports, from the first call on
 const UTF8 = new TextDecoder();
@@ -220,8 +220,8 @@ export function printed(modules, side, count, kind, margin, micrometres) {
 /** Returns a PDF of sheets, as bytes. The lengths of the sheet are in micrometres. */
 export function sheetsBy(modules, side, count, margin, micrometres, sheet) {
   return run(() => {
-    const paper = take(SHEET.length * 4), at = struct(paper, SHEET.length * 4);
-    SHEET.forEach((name, k) => at.setUint32(4 * k, sheet[name], true));
+    const paper = take(SHEET_FIELDS.length * 4), at = struct(paper, SHEET_FIELDS.length * 4);
+    SHEET_FIELDS.forEach((name, k) => at.setUint32(4 * k, sheet[name], true));
     const given = [BigInt(put(modules)), BigInt(modules.length), side, count, margin, micrometres, BigInt(paper)];
     return copied(...written(MODULE_LIKELY * modules.length, (...buffer) => call('qrproved_sheets', ...given, ...buffer)));
   });

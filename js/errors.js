@@ -103,6 +103,16 @@ export class Gs1Error extends Error {
   }
 }
 
+/** A field of a content is wrong: `field` is its name, and `why` what is said of it. It is no refusal of the library. */
+export class ContentError extends Error {
+  constructor(field, why) {
+    super(`${field} ${why}`);
+    this.name = 'ContentError';
+    this.field = field;
+    this.why = why;
+  }
+}
+
 /** Returns a number with commas between thousands. */
 function counted(number) {
   return String(number).replace(/\B(?=(\d{3})+$)/g, ',');

@@ -3,6 +3,7 @@ import {
   CheckError, EciError, FormatError, Gs1Error, NoDrawingError, PictureError, QRError, SideError, TooLongError, TooManyError, documentOf, draw,
   encode, encodeSeries, labels, mend, parseDrawing, parsePicture, read,
 } from '../out/npm/package/qrproved.js';
+import { ContentError, KINDS, PAYMENT, contentText } from '../out/npm/package/contents.js';
 import { squaresInText } from './drawings.js';
 import { zipOf } from './zip.js';
 
@@ -40,10 +41,55 @@ function numberIn(id) {
 // ---- one text
 
 let symbols = []; // those that are shown
+let content = null; // the text that the fields of a content make, or null for another kind of input
+let fault = ''; // what is wrong with a field of it
+
+function isContent(kind) {
+  return Object.hasOwn(KINDS, kind);
+}
+
+/** Returns a field of a content in its label. */
+function fieldOf(name, spec) {
+  const field = document.createElement(spec.choices ? 'select' : spec.is === 'text' ? 'textarea' : 'input'), isFlag = spec.is === 'flag';
+  Object.assign(field, { name, id: `field-${name}` });
+  if (spec.choices) field.append(...(spec.default ? [] : [new Option('', '')]), ...Object.keys(spec.choices).map((it) => new Option(it, it)));
+  else if (!isFlag) Object.assign(field, { spellcheck: false, autocomplete: 'off' });
+  if (!spec.choices && spec.is !== 'text') field.type = isFlag ? 'checkbox' : 'text';
+  const told = `${name}: ${spec.help}`, label = isFlag ? made('label', field, ` ${told}`) : made('label', told, field);
+  label.className = isFlag ? 'wide tick' : 'wide';
+  return label;
+}
+
+/** Makes the text of the fields that are filled in. It is kept beside the field for the text, which would change its line ends. */
+function fill() {
+  const values = {};
+  for (const field of on('fields').querySelectorAll('[name]')) values[field.name] = field.type === 'checkbox' ? field.checked : field.value;
+  [content, fault] = ['', ''];
+  try {
+    content = contentText(on('kind').value, values);
+  } catch (error) {
+    if (!(error instanceof ContentError)) throw error;
+    fault = `No symbol: ${error.message}.`;
+  }
+  on('text').value = content;
+}
+
+/** Shows the fields of the kind of input that is chosen, if it is a content. */
+function showFields() {
+  const kind = on('kind').value, isFilled = isContent(kind);
+  // (the page has payments in UTF-8 alone)
+  const specs = isFilled ? Object.entries(KINDS[kind].fields).filter(([name, spec]) => !spec.made && name !== 'charset') : [];
+  on('fields').replaceChildren(...specs.map(([name, spec]) => fieldOf(name, spec)));
+  on('fields').hidden = !isFilled;
+  on('text').readOnly = isFilled;
+  [content, fault] = [null, ''];
+  if (isFilled) fill();
+}
 
 /** Returns an input of a kind, and its rule, as encode takes them. */
 function askedOf(text, kind) {
-  return [kind === 'gs1' ? { gs1: text } : text, kind === 'kanji' ? { rule: 'with_kanji' } : {}];
+  const options = { kanji: { rule: 'with_kanji' }, payment: { eci: PAYMENT.eci } };
+  return [kind === 'gs1' ? { gs1: text } : text, options[kind] ?? {}];
 }
 
 /** Returns whether an error says why a text has no symbol. */
@@ -81,8 +127,8 @@ function smallOf(module) {
 
 /** Returns what readers are told of the characters of a text; empty for ASCII and for GS1 data. */
 function ofCharacters(text, kind) {
-  if (kind === 'gs1' || /^[\0-\x7f]*$/.test(text)) return '';
-  return kind === 'text' ? 'The symbol says by an ECI header that the text is UTF-8. Old scanners may show other letters: try yours.'
+  if (kind === 'gs1' || kind === 'payment' || /^[\0-\x7f]*$/.test(text)) return '';
+  return kind !== 'kanji' ? 'The symbol says by an ECI header that the text is UTF-8. Old scanners may show other letters: try yours.'
     : 'The text is in Shift JIS, and the symbol does not say so: scanners that do not expect it may show other letters.';
 }
 
@@ -156,15 +202,15 @@ function showFile() {
 
 /** Draws the symbol of the text that is in the field now. */
 function show() {
-  const text = on('text').value, level = on('level').value, version = Number(on('version').value), margin = numberIn('margin');
+  const text = content ?? on('text').value, version = Number(on('version').value), margin = numberIn('margin'), isPayment = on('kind').value === 'payment';
+  const { level, boost } = isPayment ? PAYMENT : { level: on('level').value, boost: on('boost').checked };
   const [input, rule] = askedOf(text, on('kind').value);
   symbols = [];
   try {
-    if (text === '') say(on('facts'), 'Type a text.');
+    if (text === '') say(on('facts'), fault || 'Type a text.', fault && 'fault');
     else if (margin === null) say(on('facts'), 'The margin is a number from 0 to 100.', 'fault');
     else if (!on('mm').validity.valid) say(on('facts'), 'The width is a number from 1 to 1000.', 'fault');
     else {
-      const boost = on('boost').checked;
       symbols = on('series').checked ? encodeSeries(input, { version, level, ...rule }) : [encode(input, { version, level, boost, ...rule })];
       say(on('facts'), factsOf(margin));
     }
@@ -174,7 +220,8 @@ function show() {
   }
   on('letters').textContent = ofCharacters(text, on('kind').value);
   on('letters').hidden = on('letters').textContent === '';
-  on('boost').disabled = on('series').checked;
+  on('boost').disabled = on('series').checked || isPayment;
+  on('level').disabled = isPayment;
   on('version-name').textContent = on('series').checked ? 'Version of each' : 'Version, at least';
   const caption = (k) => (symbols.length > 1 ? `${k + 1} of ${symbols.length}` : '');
   on('drawing').replaceChildren(...symbols.map((it, k) => figureOf(it.svg({ margin, quiet: true, inline: true }), text, caption(k))));
@@ -683,7 +730,16 @@ function textOfAddress() {
 
 on('text').value = textOfAddress() ?? new URLSearchParams(location.search).get('text') ?? on('text').value;
 window.addEventListener('hashchange', () => {
+  if (isContent(on('kind').value)) on('kind').value = 'text';
+  showFields();
   on('text').value = textOfAddress() ?? on('text').value;
+  show();
+});
+on('kind').append(...Object.entries(KINDS).map(([kind, { help }]) => new Option(`${kind}: ${help}`, kind)));
+showFields(); // a browser may have kept the kind of a page that is loaded again
+on('kind').addEventListener('input', showFields);
+on('fields').addEventListener('input', () => {
+  fill();
   show();
 });
 for (const id of ['text', 'kind', 'level', 'version', 'margin', 'scale', 'mm', 'boost', 'series', 'warn']) on(id).addEventListener('input', show);

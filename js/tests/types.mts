@@ -1,5 +1,6 @@
 // What the declarations allow and refuse, for the TypeScript compiler.
 import { documentOf, draw, encode, encodeSeries, labels, load, mend, parseDrawing, parsePicture, read, QRSymbol, NoDrawingError, TooLongError, FieldsError, QRError, type Eci, type Header, type Level } from 'qrproved';
+import { ContentError, PAYMENT, contact, event, geo, gs1Of, link, mail, payment, paymentBytes, sms, tel, wifi } from 'qrproved/contents';
 
 await load();
 const symbol: QRSymbol = encode('a', { level: 'q', rule: 'with_kanji', eci: 20, boost: false });
@@ -25,6 +26,17 @@ try {
     console.log(refusal.code, status);
   }
 }
+const made: string[] = [wifi({ ssid: 'a', password: null, hidden: true }), contact({ name: 'a', phone: ['1', '2'], birthday: new Date() }), event({ summary: 'a', start: new Date() }),
+  geo({ latitude: 1, longitude: '2' }), mail({ to: ['a@b.example'], cc: 'c@d.example' }), sms({ number: '1', format: 'sms' }), tel({ number: '1' }), gs1Of(link({ gs1: '(20)01' }))];
+const paid: QRSymbol[] = [payment({ name: 'a', iban: 'b', amount: 1 })].flatMap((it) => [encode(it, PAYMENT), encode(paymentBytes(it), PAYMENT)]);
+const fieldOf = (error: unknown): string => (error instanceof ContentError ? error.field + error.why : `${made}${paid}`);
+fieldOf(made);
+// @ts-expect-error: a network has a name
+wifi({ password: 'a' });
+// @ts-expect-error: there is no such field
+contact({ names: 'a' });
+// @ts-expect-error: there is no such form
+contact({ name: 'a', format: 'vcard' });
 // @ts-expect-error: a series needs its version
 encodeSeries('a', {});
 // @ts-expect-error: a series has the level that is asked for

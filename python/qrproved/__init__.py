@@ -23,7 +23,7 @@ from dataclasses import dataclass
 from enum import IntEnum
 from typing import TYPE_CHECKING, BinaryIO, List, NamedTuple, NoReturn, Optional, Tuple, Union
 
-from . import _library
+from . import _library, contents
 from ._common import DATA, LIMITS
 from ._drawings import found_by_look, undone
 from ._gs1 import Gs1Error, data_of, fields_of
@@ -43,7 +43,7 @@ if TYPE_CHECKING:
 __all__ = ["BYTES_MAX", "COUNT_MAX", "ECI_MAX", "MARGIN_MAX", "SCALE_MAX", "SERIES_MAX", "SIDE_MAX", "SYMBOL_MAX", "CheckError", "Content",
            "Drawing", "Drawn", "Eci", "EciError", "EmptyError", "Error", "FieldsError", "FormatError", "Gs1Error", "Header", "Level",
            "Mended", "NoDrawingError", "OutOfMemoryError", "PrintWarning", "RoomError", "Rule", "SegmentsError", "SettingsError",
-           "Sheet", "SideError", "Symbol", "TooLongError", "TooManyError", "WORK_MAX", "document", "draw", "encode", "encode_series", "labels", "mend",
+           "Sheet", "SideError", "Symbol", "TooLongError", "TooManyError", "WORK_MAX", "contents", "document", "draw", "encode", "encode_series", "labels", "mend",
            "parse_drawing", "parse_picture", "read", "sheets"]
 
 __version__ = "0.2.0"
@@ -880,7 +880,7 @@ def _sheets(modules: bytes, count: int, side: int, sheet: Sheet, light: int, mm:
     first = _setting("first", sheet.first, 0, columns * rows - 1)
     if max(lengths["width"], lengths["height"]) > PAPER_MAX:
         raise SettingsError(f"paper is at most {PAPER_MAX // 1000:,} mm wide and high")
-    wide, high = _room(lengths["width"], lengths["left"], columns, lengths["across"]), _room(lengths["height"], lengths["top"], rows, lengths["down"])
+    wide, high = _longest_place(lengths["width"], lengths["left"], columns, lengths["across"]), _longest_place(lengths["height"], lengths["top"], rows, lengths["down"])
     width = side + 2 * light
     micrometres = min(wide, high, MICROMETRES_MAX * width) // width if mm is None else _micrometres(mm, width)
     if micrometres < 1 or micrometres * width > min(wide, high):
@@ -901,7 +901,7 @@ def _pages(modules: bytes, side: int, margin: int, mm: Optional[float]) -> bytes
     return _sheets(modules, count, side, Sheet(width, width, columns=1, rows=1), light, None)
 
 
-def _room(length: int, before: int, count: int, step: int) -> int:
+def _longest_place(length: int, before: int, count: int, step: int) -> int:
     """Returns how long a place may be, of so many that begin `before` behind the edge and `step` behind one another: up to the next one,
     and up to the other edge."""
     last = length - before - (count - 1) * step

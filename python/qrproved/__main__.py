@@ -1,5 +1,5 @@
 """The command qrproved, or python -m qrproved: writes symbols as PNG, as SVG, as text or for printers, one, a series, or one for each
-line of a file, and checks pictures and drawings."""
+line of a file; writes contents such as a contact or a payment; and checks pictures and drawings."""
 from __future__ import annotations
 
 import argparse
@@ -15,9 +15,10 @@ from pathlib import Path
 from typing import TYPE_CHECKING, BinaryIO, Optional, Union
 
 import qrproved
-from qrproved import Content, EciError, Error, Gs1Error, Level, Mended, Rule
+from qrproved import Content, EciError, Error, Gs1Error, Level, Mended, Rule, contents
 from qrproved._batch import PART, Label, Part, Settings, labels_of, largest, processors, spread, write
 from qrproved._pictures import is_picture
+from qrproved.contents import ContentError
 from qrproved._sources import BINARY, SourceError, decoded, encoding_of, is_text, lines_of
 
 if TYPE_CHECKING:
@@ -31,6 +32,7 @@ ONE_FILE = ("pdf", *PRINTERS)  # of which a file may have all labels of --batch
 BINARIES = ("png", "pdf", "pbm", *PRINTERS)  # which a terminal does not show
 SUFFIXES = {"png": ".png", "svg": ".svg", "pdf": ".pdf", "eps": ".eps", "pbm": ".pbm", "zpl": ".zpl", "tspl": ".tspl", "escpos": ".bin", **dict.fromkeys(("txt", "utf8", "ascii", "asciii"), ".txt")}
 INPUT = "standard input"
+VERSION_OF_PAYMENTS = 13  # at most, by EPC069-12
 ERASED = f"\r{'':40}\r"  # takes the place of a line that says how far a batch is; not every console knows more
 
 
@@ -142,8 +144,13 @@ def of_input(data: bytes, encoding: Optional[str], is_quiet: bool) -> Union[str,
 
 
 def one(given: argparse.Namespace, settings: Settings) -> int:
-    """Writes the symbol of the text, or of what standard input has, or their series."""
-    data = of_input(sys.stdin.buffer.read(), given.encoding, given.quiet) if given.text is None else text_of(os.fsencode(given.text))
+    """Writes the symbol of the text, of a content, or of what standard input has, or their series."""
+    if given.content is not None:
+        data = given.content
+    elif given.text is not None:
+        data = text_of(os.fsencode(given.text))
+    else:
+        data = of_input(sys.stdin.buffer.read(), given.encoding, given.quiet)
     if given.gs1:
         data = data.rstrip("\r\n") if isinstance(data, str) else data.rstrip(b"\r\n")
     symbols = settings.encoded(data)
@@ -314,20 +321,11 @@ def eci(text: str) -> int:
     return False if text == "none" else int(text)
 
 
-def parsed(words: list[str]) -> argparse.Namespace:
-    """Returns the arguments, or ends the program with their fault."""
-    parser = argparse.ArgumentParser(
-        prog=PROGRAM, description="Writes the QR Code symbol of a text as PNG, as SVG, as text or for a printer.",
-        epilog=f"'{PROGRAM} check [FILE..]' checks pictures or drawings. To encode a text that begins with a hyphen, or the text"
-        " 'check', write -- before it, and all options before the --: after it no option is taken. '--version' or '-V' alone prints which"
-        " version of the package this is.")
-    parser.add_argument("text", nargs="?", help="the text to encode; without it, the text that standard input has, with its line end if"
-                        " it has one. If that is no UTF-8, its bytes are encoded as they are, with a note")
+def add_drawing(parser: argparse.ArgumentParser, of_batch: str) -> None:
+    """Adds the options that say where a symbol is written, and how."""
     parser.add_argument("-o", "--output", metavar="FILE", help="the file to write, .png, .svg, .pdf, .eps, .txt, .pbm, .zpl, .tspl or .bin, which is"
-                        " ESC/POS; with --batch a folder, or a file .pdf, .zpl, .tspl or .bin with all labels")
+                        f" ESC/POS{of_batch}")
     parser.add_argument("-t", "--type", choices=sorted(SUFFIXES), type=str.lower, help="the type of the drawing, if the file does not tell")
-    parser.add_argument("-l", "--level", choices=list(Level.__members__), type=str.upper, default="L", help="the least level of error correction; L")
-    parser.add_argument("--no-boost", dest="boost", action="store_false", help="take this level also where the version has room for a higher one")
     parser.add_argument("-v", "--version", type=int, metavar="N", help="the least version, from 1 to 40; 1. The version of a series")
     parser.add_argument("-m", "--margin", type=int, default=4, metavar="N", help="light modules on each side, from 0 to 100; 4")
     parser.add_argument("-s", "--scale", type=int, metavar="N", help="pixels of a module of a PNG or a PBM, from 1 to 100, or dots for a printer;"
@@ -340,20 +338,85 @@ def parsed(words: list[str]) -> argparse.Namespace:
     parser.add_argument("-y", type=int, default=0, metavar="N", help="how far it is from the upper edge")
     parser.add_argument("-q", "--quiet", action="store_true", help="do not warn of small margins and modules, nor of bytes"
                         " that are no UTF-8")
-    parser.add_argument("-8", "--bytes", action="store_true", help="encode the whole input in byte mode")
+    parser.add_argument("-S", "--series", action="store_true", help="write a series of up to 16 symbols of the version -v: the pages of a PDF, the"
+                        " labels of a file for a printer, and else one symbol below the other")
+
+
+def add_encoding(parser: argparse.ArgumentParser) -> None:
+    """Adds the options that say how a text is encoded."""
+    parser.add_argument("-l", "--level", choices=list(Level.__members__), type=str.upper, default="L", help="the least level of error correction; L")
+    parser.add_argument("--no-boost", dest="boost", action="store_false", help="take this level also where the version has room for a higher one")
     parser.add_argument("-k", "--kanji", action="store_true", help="allow kanji mode too: texts are encoded as Shift JIS")
     parser.add_argument("--eci", type=eci, metavar="N", help="the ECI header, from 0 to 999999, or 'none'; else a text that is not ASCII has 26,"
                         " for UTF-8, and bytes have none")
+
+
+def of_content(kind: str, words: list[str]) -> argparse.Namespace:
+    """Returns the arguments of a content, or ends the program with their fault. Raises ContentError if a field is wrong."""
+    fields = {name: spec for name, spec in contents.KINDS[kind]["fields"].items() if not spec.get("made")}
+    needed = [name for name, spec in fields.items() if spec.get("needed")]
+    parser = argparse.ArgumentParser(
+        prog=f"{PROGRAM} {kind}", description=f"Writes the QR Code symbol of {contents.KINDS[kind]['help']}.",
+        epilog=f"FIELD=VALUE is the same as --FIELD VALUE. {'Needed: ' + ', '.join(needed) + '.' if needed else ''}")
+    parser.add_argument("pairs", nargs="*", metavar="FIELD=VALUE", help="a field and its value")
+    for name, spec in fields.items():
+        if spec.get("is") == "flag":
+            parser.add_argument(f"--{name}", dest=f"field_{name}", action="store_const", const="true", help=spec["help"])
+        else:
+            metavar = f"{{{','.join(spec['choices'])}}}" if "choices" in spec else "TEXT"
+            more = "; may be given several times" if spec.get("many") else ""
+            parser.add_argument(f"--{name}", dest=f"field_{name}", action="append", metavar=metavar, help=spec["help"] + more)
+    add_drawing(parser, "")
+    parser.add_argument("--bytes", action="store_true", help="encode the whole input in byte mode")
+    parser.set_defaults(text=None, batch=None, gs1=False, encoding=None, names="number", jobs=None)
+    if kind == "payment":
+        parser.set_defaults(**contents.PAYMENT, kanji=False)
+    else:
+        add_encoding(parser)
+    given = parser.parse_intermixed_args(words)
+    if kind == "payment" and (given.version or 1) > VERSION_OF_PAYMENTS:
+        parser.error(f"a payment has a version from 1 to {VERSION_OF_PAYMENTS}")
+    values = {name: list(getattr(given, f"field_{name}") or []) for name in fields if fields[name].get("is") != "flag"}
+    values.update({name: ["true"] for name in fields if getattr(given, f"field_{name}") == "true"})
+    for pair in given.pairs:
+        name, sign, value = pair.partition("=")
+        if not sign or name not in fields:
+            parser.error(f"{pair} is no FIELD=VALUE; the fields are {', '.join(fields)}")
+        values.setdefault(name, []).append(value)
+    for name, texts in values.items():
+        if len(texts) > 1 and not fields[name].get("many"):
+            parser.error(f"{name} is given more than once")
+    text = contents.content_text(kind, {name: texts if fields[name].get("many") else texts[0] for name, texts in values.items() if texts})
+    given.content = contents.payment_bytes(text) if kind == "payment" else text
+    return completed(parser, given)
+
+
+def parsed(words: list[str]) -> argparse.Namespace:
+    """Returns the arguments, or ends the program with their fault."""
+    parser = argparse.ArgumentParser(
+        prog=PROGRAM, description="Writes the QR Code symbol of a text as PNG, as SVG, as text or for a printer.",
+        epilog=f"'{PROGRAM} check [FILE..]' checks pictures or drawings. '{PROGRAM} KIND FIELD=VALUE..' writes a content, whose kind is"
+        f" {', '.join(contents.KINDS)}; '{PROGRAM} KIND -h' lists its fields. To encode a text that begins with a hyphen, or one of these"
+        " words alone, write -- before it, and all options before the --: after it no option is taken. '--version' or '-V' alone prints which"
+        " version of the package this is.")
+    parser.add_argument("text", nargs="?", help="the text to encode; without it, the text that standard input has, with its line end if"
+                        " it has one. If that is no UTF-8, its bytes are encoded as they are, with a note")
+    add_drawing(parser, "; with --batch a folder, or a file .pdf, .zpl, .tspl or .bin with all labels")
+    add_encoding(parser)
+    parser.add_argument("-8", "--bytes", action="store_true", help="encode the whole input in byte mode")
     parser.add_argument("--encoding", metavar="NAME", help="the encoding of standard input or of the file of --batch; utf-8. 'binary' is for"
                         " bytes, which are encoded as they are")
     parser.add_argument("--gs1", action="store_true", help="the text is GS1 data, as '(01)04012345678901(10)AB'")
-    parser.add_argument("-S", "--series", action="store_true", help="write a series of up to 16 symbols of the version -v: the pages of a PDF, the"
-                        " labels of a file for a printer, and else one symbol below the other")
     parser.add_argument("--batch", metavar="FILE", help="write a symbol for each line of a file; - is standard input. A PDF has a page for each, and"
                         " all get the version of the largest")
     parser.add_argument("--names", choices=["number", "text"], default="number", help="how --batch names files: by number")
     parser.add_argument("--jobs", type=int, metavar="N", help="processes of --batch; one for each processor")
-    given = parser.parse_args(words)
+    parser.set_defaults(content=None)
+    return completed(parser, parser.parse_args(words))
+
+
+def completed(parser: argparse.ArgumentParser, given: argparse.Namespace) -> argparse.Namespace:
+    """Returns the arguments with the type of the drawing, or ends the program with their fault."""
     if given.batch is not None and (given.output is None or given.text is not None):
         parser.error("--batch FILE takes no text, and needs the folder of the symbols: -o FOLDER")
     if given.encoding is not None:
@@ -401,7 +464,8 @@ def main(words: Optional[list[str]] = None) -> int:
     try:
         if is_check:
             return check(words[1:])
-        given = parsed(words)
+        is_content = bool(words) and words[0] in contents.KINDS
+        given = of_content(words[0], words[1:]) if is_content else parsed(words)
         rule = Rule.BYTES_ONLY if given.bytes else Rule.WITH_KANJI if given.kanji else None
         version = 1 if given.version is None else given.version
         settings = Settings(given.type, version, Level[given.level], rule, given.margin, given.scale, given.mm, given.dpi,
@@ -424,7 +488,7 @@ def main(words: Optional[list[str]] = None) -> int:
     except BrokenPipeError:
         end_output()
         return 1
-    except (Error, EciError, Gs1Error, SourceError, OSError) as fault:
+    except (ContentError, Error, EciError, Gs1Error, SourceError, OSError) as fault:
         say(str(fault))
         end_output()
         return NOT_READABLE if is_check else 1

@@ -8,6 +8,7 @@ import tempfile
 import unittest
 
 import qrproved
+from qrproved import contents
 from test_reading import GREY, numbers, png_of, shown
 
 
@@ -51,6 +52,36 @@ class Command(unittest.TestCase):
         self.assertEqual(said, f"qrproved: a margin of 0 modules: {of_margin}")
         for words in (["--mm", "5", "--dpi", "300", "-t", "png"], ["--mm", "5"], ["--dpi", "300", "-t", "svg"]):
             self.assertIn("--mm" if "--mm" in words else "--dpi", run("A", *words, status=2)[1])
+
+    def test_contents(self):
+        wanted = qrproved.encode(contents.wifi("Caf\u00e9; 1", "correct horse", hidden=True), level="q")
+        words = ["-l", "q", "-m", "2", "-q", "-o", self.room / "a.png"]
+        name = "Caf\u00e9; 1"
+        for fields in ([f"ssid={name}", *words, "password=correct horse", "hidden=true"], ["--ssid", name, "--hidden", *words, "password=correct horse"]):
+            self.assertEqual(run("wifi", *fields), (b"", ""))
+            self.assertEqual((self.room / "a.png").read_bytes(), wanted.png(margin=2))
+        wanted = qrproved.encode(contents.mail(["a@b.example", "c@d.example"], subject="1=2"))
+        self.assertEqual(run("mail", "to=a@b.example", "to=c@d.example", "subject=1=2")[0], wanted.text().encode())
+        self.assertEqual(run("geo", "--latitude", "-33.8", "longitude=-151")[0], qrproved.encode(contents.geo(-33.8, -151)).text().encode())
+        self.assertEqual(run("link", "--gs1", "(01)09506000134352")[0], qrproved.encode("https://id.gs1.org/01/09506000134352").text().encode())
+        self.assertEqual(run("--", "wifi")[0], qrproved.encode("wifi").text().encode())
+
+    def test_payments(self):
+        fields = {"name": "M\u00fcller", "iban": "DE33100205000001194700", "amount": "1.50"}
+        for charset in (1, 2):
+            data = contents.payment_bytes(contents.payment(**fields, charset=charset))
+            wanted = qrproved.encode(data, level="M", boost=False).text().encode()
+            self.assertEqual(run("payment", *(f"{name}={value}" for name, value in fields.items()), "--charset", charset)[0], wanted)
+        self.assertIn("a payment has a version from 1 to 13", run("payment", "--name", "A", "--iban", fields["iban"], "-v", "14", status=2)[1])
+        self.assertIn("unrecognized arguments", run("payment", "--name", "A", "--iban", fields["iban"], "-l", "H", status=2)[1])
+
+    def test_wrong_contents(self):
+        self.assertEqual(run("wifi", status=1), (b"", "qrproved: ssid is missing\n"))
+        self.assertEqual(run("tel", "--number", "x", status=1)[1], "qrproved: number is no telephone number: it has digits, as +49 30 1234567 has\n")
+        self.assertIn("sid=x is no FIELD=VALUE; the fields are ssid, password, security, hidden", run("wifi", "sid=x", status=2)[1])
+        self.assertIn("ssid is given more than once", run("wifi", "ssid=x", "--ssid", "y", status=2)[1])
+        self.assertIn("--batch", run("wifi", "ssid=x", "--batch", "a", status=2)[1])
+        self.assertIn("--birthday", run("contact", "-h")[0].decode())
 
     def test_standard_input_is_a_text(self):
         text = "Gr\u00fc\u00dfe"

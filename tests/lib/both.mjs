@@ -6,7 +6,7 @@ import { createHash } from 'node:crypto';
 import readline from 'node:readline';
 import { pathToFileURL } from 'node:url';
 
-const qr = await import(pathToFileURL(`${process.argv[2]}/qrproved.js`));
+const [qr, contents] = await Promise.all(['qrproved', 'contents'].map((it) => import(pathToFileURL(`${process.argv[2]}/${it}.js`))));
 
 const bytesOf = (text) => Uint8Array.from(Buffer.from(text, 'hex'));
 const hashOf = (modules) => createHash('sha256').update(modules).digest('hex');
@@ -60,6 +60,11 @@ const CALLS = {
     const { type, margin, squares } = qr.parseDrawing(text);
     return [type, margin, squares.map((it) => [hashOf(it), Math.sqrt(it.length)])];
   },
+  content: ({ kind, fields }) => {
+    const text = contents[kind](fields);
+    return [text, kind === 'payment' ? Buffer.from(contents.paymentBytes(text)).toString('hex') : null];
+  },
+  gs1_of: ({ link }) => contents.gs1Of(link),
   mend: ({ modules }) => allOf(qr.mend(Uint8Array.from(modules, Number))),
 };
 
