@@ -1,10 +1,10 @@
 -- Where labels are on a sheet, and which label is in which place.
-use Rattle.qr_drawing.specs.{Pdf.{square_commands}, Raster.{raster_width}, Svg.square_at}
+use Rattle.qr_drawing.specs.{Pdf.{square_commands}}
 use Rattle.qr_drawing.specs.Sheets.{FitsSheet, IsSheet, corner_of, label_commands, label_size, place_commands, places_of}
 use Rattle.qr_drawing.specs.declared.sheets.{Sheet.Sheet, SheetSettings.SheetSettings}
 use Rattle.qr_drawing.proofs.lemmas.svg.{square_at-item}
 use Rattle.qr_matrix.specs.Grid.{Grid, light}
-use Rattle.std.proofs.Common.{◌≡◌, ◌∙◌, ap, sym, subst, ℕ, ◌+◌, ◌-◌, ◌*◌, ◌/◌, ◌%◌, ◌<◌, ◌≤◌, false, true, List, [], ◌++◌, arith, get_or, length, length-append, map, refl}
+use Rattle.std.proofs.Common.{◌≡◌, ap, subst, ℕ, ◌+◌, ◌-◌, ◌*◌, ◌/◌, ◌%◌, ◌<◌, ◌≤◌, false, true, List, [], ◌++◌, arith, get_or, length, length-append, map, refl}
 use Rattle.std.proofs.Math.Nat.{div-le_self, div-lt_iff_lt-mul, mul_comm, mul-le-mul, mul-le-mul_right, mod-lt}
 use Rattle.std.proofs.lemmas.{Bool.Decides.nat_tests, List.{Elements.All-get_or, length-map}}
 use Rattle.std.specs.{List.All, Prelude.{codes, nat_lt}}

@@ -1,4 +1,4 @@
-use Rattle.qr_drawing.specs.Pdf.{catalog, page, stream}
+use Rattle.qr_drawing.specs.Pdf.{catalog, page}
 use Rattle.qr_drawing.proofs.lemmas.pdf.{content-first, content-page, content-second, content-stream, stream-length}
 use Rattle.std.proofs.Common.{◌≡◌, ◌+◌, ◌-◌, ◌/◌, ◌∙◌, ap, arith, length, refl, sym}
 use Rattle.qr_drawing.proofs.pdf.content_length.Goals as goal

@@ -1,5 +1,5 @@
-use Rattle.qr_drawing.{specs.{Raster.texts_below, Pdf.page_tree}, proofs.lemmas.{pdf.{kid, kid-length, page-tree-length}, text.LineLemmas.no-texts}}
-use Rattle.std.proofs.Common.{◌≡◌, ◌+◌, ◌-◌, ap, arith, sym, length, ◌∙◌, refl}
+use Rattle.qr_drawing.{proofs.lemmas.{pdf.{kid, kid-length, page-tree-length}, text.LineLemmas.no-texts}}
+use Rattle.std.proofs.Common.{◌≡◌, ◌-◌, ap, arith, sym, length}
 use Rattle.qr_drawing.proofs.pdf.page_tree_length.Goals as goal
 
 pub loop-page-init : goal.loop-page-init

@@ -1,5 +1,5 @@
 use Rattle.qr_devices.proofs.Facts.{formed}
-use Rattle.qr_drawing.specs.Pdf.{catalog, page, stream}
+use Rattle.qr_drawing.specs.Pdf.{catalog, page}
 use Rattle.qr_drawing.proofs.lemmas.pdf.{content-first, content-page, content-second, content-stream}
 use Rattle.std.proofs.Common.{◌≡◌, ◌+◌, ◌-◌, ◌/◌, ◌++◌, arith, refl}
 use Rattle.qr_drawing.proofs.pdf.put_content.Goals as goal

@@ -1,7 +1,6 @@
 use Rattle.qr_devices.proofs.Facts.{formed, stops-before}
 use Rattle.qr_drawing.proofs.lemmas.{pdf.kid, text.LineLemmas.{no-texts, put-next, put-none, put-stops}}
-use Rattle.qr_drawing.specs.Raster.{texts_below}
-use Rattle.std.proofs.{Common.{◌≡◌, ◌++◌, ap, append_assoc, arith, refl}, lemmas.Result.err_from_is_err_and}
+use Rattle.std.proofs.{Common.{◌≡◌, ◌++◌, append_assoc, arith, refl}, lemmas.Result.err_from_is_err_and}
 use Rattle.qr_drawing.proofs.pdf.put_kids.Goals as goal
 
 pub loop-page-init : goal.loop-page-init

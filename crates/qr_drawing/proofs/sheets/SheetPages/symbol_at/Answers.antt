@@ -1,6 +1,6 @@
 use Rattle.qr_drawing.proofs.lemmas.sheets.{fits-at, free-after, free-before, label-at}
 use Rattle.qr_drawing.specs.Sheets.{places_of}
-use Rattle.std.proofs.Common.{◌≡◌, ◌+◌, ◌-◌, ◌*◌, ◌<◌, ◌≤◌, ap, arith, get_or, length, map, refl}
+use Rattle.std.proofs.Common.{◌≡◌, ◌+◌, ◌-◌, ◌*◌, ◌<◌, ap, arith, get_or, length, map, refl}
 use Rattle.qr_drawing.proofs.sheets.SheetPages.symbol_at.Goals as goal
 
 pub returns-then-number-first : goal.returns-then-number-first

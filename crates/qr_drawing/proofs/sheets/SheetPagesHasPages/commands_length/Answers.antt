@@ -1,4 +1,4 @@
-use Rattle.qr_drawing.specs.{Raster.texts_below, Sheets.{place_commands, places_of}}
+use Rattle.qr_drawing.specs.{Sheets.{place_commands, places_of}}
 use Rattle.qr_drawing.proofs.lemmas.{pdf.text-length, text.LineLemmas.no-texts}
 use Rattle.std.proofs.Common.{◌≡◌, ap, arith, length, map, sym}
 use Rattle.qr_drawing.proofs.sheets.SheetPagesHasPages.commands_length.Goals as goal
