@@ -204,9 +204,10 @@ class Printer:
         size = sum(len(it) if isinstance(it, bytes) else POINTER.size() for it in joined)
         if size != value.kind.size():
             raise Fault(f"{name}: {size} bytes, and not {value.kind.size()}")
-        if len(joined) == 1 and isinstance(joined[0], bytes):
-            head = f"static const union {{ uint8_t b[{size}]; uint64_t align; }} {self.name(name)}"
-            return "", head + " = {{\n" + lines_of(map(str, joined[0])) + "\n}};\n"
+        if not any(isinstance(it, Place) for it in joined):
+            text = b"".join(joined) or b"\0"  # C has no array without elements
+            head = f"static const union {{ uint8_t b[{len(text)}]; uint64_t align; }} {self.name(name)}"
+            return "", head + " = {{\n" + lines_of(map(str, text)) + "\n}};\n"
         head = f"static const union slot {self.name(name)}[{size // POINTER.size()}]"
         return f"{head};\n", head + " = {\n" + lines_of(self.slots(name, joined)) + "\n};\n"
 
