@@ -472,9 +472,9 @@ test('sheets of label paper', () => {
   for (const wrong of [{ mm: 66.1 }, { mm: 0 }, { margin: 101 }]) {
     assert.throws(() => sheetsOf(few, sheet, wrong), refused('SettingsError', 5, 'SETTINGS'), JSON.stringify(wrong));
   }
-  for (const wrong of [{ width: 205 }, { height: 220 }, { across: 1 }, { columns: 0 }, { columns: 1.5 }, { rows: 101 }, { first: 6 }, { left: -1 },
+  for (const wrong of [{ width: 171.999 }, { height: 187.999 }, { across: 32.999 }, { columns: 0 }, { columns: 1.5 }, { rows: 101 }, { first: 6 }, { left: -1 },
     { width: 2000.001 }]) {
-    assert.throws(() => sheetsOf(few, { ...sheet, ...wrong }), refused('SettingsError', 5, 'SETTINGS'), JSON.stringify(wrong));
+    assert.throws(() => sheetsOf(few, { ...sheet, ...wrong }, { mm: 33 }), refused('SettingsError', 5, 'SETTINGS'), JSON.stringify(wrong));
   }
   assert.throws(() => sheetsOf([], sheet), refused('SettingsError', 5, 'SETTINGS'));
   assert.throws(() => sheetsOf([few[0], encode('A')], sheet), refused('SettingsError', 5, 'SETTINGS'));

@@ -119,9 +119,9 @@ class Images(unittest.TestCase):
         for wrong in ({"mm": 66.1}, {"mm": 0}, {"margin": 101}):
             with self.assertRaises(SettingsError, msg=wrong):
                 qrproved.sheets(few, sheet, **wrong)
-        for wrong in ({"width": 205}, {"height": 220}, {"across": 1}, {"columns": 0}, {"rows": 101}, {"first": 6}, {"left": -1}, {"width": 2000.001}):
+        for wrong in ({"width": 171.999}, {"height": 187.999}, {"across": 32.999}, {"columns": 0}, {"rows": 101}, {"first": 6}, {"left": -1}, {"width": 2000.001}):
             with self.assertRaises(SettingsError, msg=wrong):
-                qrproved.sheets(few, sheet._replace(**wrong))
+                qrproved.sheets(few, sheet._replace(**wrong), mm=33)
         for wrong in ([], [few[0], qrproved.encode("A")]):
             with self.assertRaises(SettingsError):
                 qrproved.sheets(wrong, sheet)

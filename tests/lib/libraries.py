@@ -130,6 +130,10 @@ PARAMETERS = {
 }
 
 
+# The calls that serve machines with little memory alone. The crate for Rust and the WebAssembly module do not have them.
+FOR_LITTLE_MEMORY = {"qrproved_draw_row", "qrproved_encode_bits"}
+
+
 class Library:
     """The shared library, called as C calls it. A case is an input, a version, a level and the number of a rule."""
 

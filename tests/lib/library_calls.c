@@ -118,7 +118,7 @@ static int document(void)
 	return 0;
 }
 
-/* A paper of one column and one row, which a symbol of version 1 with a margin of 4 and modules of 330 micrometres fits. */
+/* A paper of one column and one row. A symbol fits whose side is 10,000 micrometres at most. */
 static const struct qrproved_sheet PAPER = {10000, 10000, 0, 0, 0, 0, 1, 1, 0};
 
 static int sheets(void)
@@ -131,7 +131,7 @@ static int sheets(void)
 		return 0;
 	}
 	memset(text, MARK, sizeof text), memset(&written, MARK, sizeof written);
-	uint8_t status = qrproved_sheets(modules, sizeof modules, symbol.side, 1, 0, 330, &PAPER, text, sizeof text, &written);
+	uint8_t status = qrproved_sheets(modules, sizeof modules, symbol.side, 1, 0, 200, &PAPER, text, sizeof text, &written);
 	tell("sheets", status, text, sizeof text, &written, sizeof written);
 	return 0;
 }

@@ -51,7 +51,7 @@ static void encode_series(void)
 	struct qrproved_drawn drawn;
 	static uint8_t document[40000];
 	uint8_t kanji[150];
-	size_t written, document_len;
+	size_t written, document_len; /* of the text, and of what is written beside it */
 	for (size_t i = 0; i < sizeof kanji; i++)
 		kanji[i] = i % 2 ? 0x5F : 0x93;
 	want_done("encode_series", qrproved_encode_series(kanji, sizeof kanji, 3, QRPROVED_LEVEL_L, QRPROVED_RULE_WITH_KANJI, 20,
@@ -60,8 +60,8 @@ static void encode_series(void)
 	tell_all("series", modules, (size_t)series.count * series.side * series.side);
 	want_done("draw", qrproved_draw(modules, sizeof modules, series.side, 2, QRPROVED_ASCIIi, 6, text, sizeof text, &written));
 	tell_all("text", text, written);
-	want_done("image", qrproved_image(modules, sizeof modules, series.side, QRPROVED_TSPL, 2, 3, 5, 7, 11, text, sizeof text, &written));
-	tell_all("image", text, written);
+	want_done("image", qrproved_image(modules, sizeof modules, series.side, QRPROVED_TSPL, 2, 3, 5, 7, 11, document, sizeof document, &document_len));
+	tell_all("image", document, document_len);
 	want_done("document", qrproved_document(modules, sizeof modules, series.side, 2, QRPROVED_EPS, 6, 330, document, sizeof document, &document_len));
 	tell_all("document", document, document_len);
 	const struct qrproved_sheet sheet = {60000, 50000, 1000, 2000, 20000, 15000, 2, 3, 5};

@@ -71,7 +71,7 @@ static void *draw_row(void *none)
 {
 	static uint8_t line[QRPROVED_ROW(QRPROVED_UTF8, 177, 4)];
 	size_t length;
-	status = qrproved_draw_row(modules, sizeof modules, side, drawing % 3, 4, 20, line, sizeof line, &length);
+	status = qrproved_draw_row(modules, sizeof modules, side, drawing % 3, 4, 9, line, sizeof line, &length);
 	return none;
 }
 

@@ -232,6 +232,20 @@ fn push_page(text: &mut Piece<PEN_SIZE>, size: (u64, u64), content: u16)
     text.push_all(b" 0 R>>");
 }
 
+// Returns the length of what a page contains.
+// It is never inlined, so that the commands of a page are measured without the text in memory.
+#[inline(never)]
+fn page_length(size: (u64, u64), content: u16) -> u64
+    requires narrow { size.0 ≤ LENGTH_MAX }
+    requires low { size.1 ≤ LENGTH_MAX }
+    ensures value { result ≡ length (page size.0 size.1 content) }
+    ensures most { result ≤ 150 }
+{
+    let mut text = empty();
+    push_page(&mut text, size, content);
+    text.len() as u64
+}
+
 // Appends what comes before a stream of `len` bytes.
 fn push_stream_start(text: &mut Piece<PEN_SIZE>, len: u64)
     requires room { length text.old + 50 ≤ WRITE_MAX }
@@ -303,9 +317,7 @@ fn content_length<D: HasPages>(document: &D, index: u16) -> u64
     } else if index == 1 {
         page_tree_length(document.count())
     } else if index % 2 == 0 {
-        let mut page = empty();
-        push_page(&mut page, document.size((index - 2) / 2), index + 2);
-        page.len() as u64
+        page_length(document.size((index - 2) / 2), index + 2)
     } else {
         let commands = document.commands_length((index - 2) / 2);
         decimal_length(commands) + commands + 29

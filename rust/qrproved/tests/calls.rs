@@ -278,7 +278,7 @@ fn sheets_of_label_paper() {
     assert!(text.contains("stream\nq 2.834645 0 0 2.834645 87.874015 2.834645 cm\n"));
     for wrong in [
         Sheet { width: 59_999, ..sheet },
-        Sheet { down: 31_001, ..sheet },
+        Sheet { down: 31_501, ..sheet },
         Sheet { first: 6, ..sheet },
         Sheet { columns: 0, ..sheet },
     ] {

@@ -21,9 +21,9 @@ pub returns-then-index-eq0-2-clause-value : goal.returns-then-index-eq0-2-clause
 returns-then-index-eq0-2-clause-value g c =
     let p = g.D.HasPages.pages c.args.document.now in
     let k = (c.args.index - 2) / 2 in
-    let text : c.push_page.new.text ≡ page (p.width k) (p.height k) (c.args.index + 2) =
-    rw (c.push_page.ensures.items, c.empty-page.ensures, c.size.ensures.width, c.size.ensures.height) refl in
-    c.len.ensures.value ∙ (ap length text ∙ sym (ap length (content-page p c.args.index (omega (arith, c.if-index-eq0.false, c.if-index-eq1.false)) c.if-index-eq0-2.true)))
+    let text : page c.size.result.0 c.size.result.1 (c.args.index + 2) ≡ page (p.width k) (p.height k) (c.args.index + 2) =
+    rw (c.size.ensures.width, c.size.ensures.height) refl in
+    c.page_length.ensures.value ∙ (ap length text ∙ sym (ap length (content-page p c.args.index (omega (arith, c.if-index-eq0.false, c.if-index-eq1.false)) c.if-index-eq0-2.true)))
 
 pub returns-else-index-eq0-2-clause-value : goal.returns-else-index-eq0-2-clause-value
 returns-else-index-eq0-2-clause-value g c =
