@@ -1,6 +1,7 @@
 //! The call that writes the image of a square of modules as a file.
 
-ghost use Rattle.std.specs.Prelude.{◌≡◌, ◌≢◌, ◌*◌, ◌<◌, ◌≤◌, ◌^◌, ◌↔◌, ◌⊎◌, length, SomeIff};
+ghost use Rattle.std.specs.Prelude.{◌≡◌, ◌≢◌, ◌*◌, ◌<◌, ◌≤◌, ◌^◌, ◌++◌, ◌↔◌, ◌⊎◌, drop, length, SomeIff};
+ghost use Rattle.qr_images.specs.Writing.{image_file};
 ghost use Rattle.qrproved.specs.Drawing.{HoldsText};
 ghost use Rattle.qrproved.specs.Image.{AreImageSettings, AreSettings, HasFewImageModules, HasNoImageRoom, format_of, image_of_bytes, settings_of};
 
@@ -44,6 +45,23 @@ fn image_settings_of(
         left: left as u16,
         top: top as u16,
     })
+}
+
+// Writes the file to the beginning of a buffer, and returns its length.
+// It is never inlined, so that its text in memory is not there while the length is counted.
+#[inline(never)]
+fn put_image(square: &Modules, settings: &ImageSettings, image: &mut [u8]) -> usize
+    requires scale_least { 1 ≤ settings.now.scale }
+    requires scale_most { settings.now.scale ≤ 100 }
+    requires margin { settings.now.margin ≤ 100 }
+    requires size { settings.now.pixels_a_metre < 2 ^ 31 }
+    requires left { settings.now.left ≤ 32000 }
+    requires top { settings.now.top ≤ 32000 }
+    requires room { length (image_file settings.now square.now) ≤ length image.old }
+    ensures image { image.new ≡ image_file settings.now square.now ++ drop (length (image_file settings.now square.now)) image.old }
+    ensures len { result ≡ length (image_file settings.now square.now) }
+{
+    fill_image(square, settings, image)
 }
 
 /// Writes the image of a square of modules to `image`, as a file (ISO/IEC 18004:2015, 6.3.8). The square has `side`
@@ -105,7 +123,7 @@ pub extern "C" fn qrproved_image(
             return ROOM;
         }
     }
-    *written = fill_image(&square, &settings, image);
+    *written = put_image(&square, &settings, image);
     DONE
 }
 
