@@ -77,7 +77,7 @@ static void *draw_row(void *none)
 
 static void *image(void *none)
 {
-	static uint8_t file[60000];
+	static uint8_t file[150000];
 	size_t length;
 	status = qrproved_image(modules, (size_t)side * side, side, format, 4, 4, 11811, 10, 20, file, sizeof file, &length);
 	return none;
