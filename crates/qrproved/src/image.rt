@@ -48,7 +48,7 @@ fn image_settings_of(
 }
 
 // Writes the file to the beginning of a buffer, and returns its length.
-// It is never inlined, so that its text in memory is not there while the length is counted.
+// It is never inlined, so that its variables are not in memory while the length is counted.
 #[inline(never)]
 fn put_image(square: &Modules, settings: &ImageSettings, image: &mut [u8]) -> usize
     requires scale_least { 1 ≤ settings.now.scale }
@@ -115,13 +115,15 @@ pub extern "C" fn qrproved_image(
         return ROOM;
     }
     let square = Modules::new(modules, side);
-    // The bytes of the file are counted only if it may have no room.
-    if (image.len() as u64) < image_room(&square, &settings) {
-        let len = image_len(&square, &settings);
-        *written = len as usize;
-        if (image.len() as u64) < len {
-            return ROOM;
-        }
+    if image_room(&square, &settings) <= image.len() as u64 {
+        *written = put_image(&square, &settings, image);
+        return DONE;
+    }
+    // The file may have no room, so its bytes are counted.
+    let len = image_len(&square, &settings);
+    *written = len as usize;
+    if (image.len() as u64) < len {
+        return ROOM;
     }
     *written = put_image(&square, &settings, image);
     DONE
