@@ -1,10 +1,11 @@
 /* Measures what a call of the library takes of the stack and of the heap, for bench/memory:
  * memory_of_calls CALL NUMBER LEVEL RULE INTERPRETATION BOOST
  *
- * CALL is encode, encode_series, read, mend, draw, document, parse_drawing or room. Standard input is the input, the modules or the drawing.
+ * CALL is the name of a call, as encode or parse_drawing. Standard input is the input, the modules or the drawing.
  * NUMBER is a version for room and for the calls that encode, and a side for the others; parse_drawing does not use it. LEVEL is
- * the level, and for draw the type of the drawing. For room RULE is the mode, and BOOST says whether there is a header. Prints the
- * bytes of stack, the most bytes of the heap at a time, the number of calls of malloc and realloc, and the call's status. */
+ * the level, and for calls that draw the type of the drawing. For image RULE is the format, and for room the mode; there BOOST
+ * says whether there is a header. Prints the bytes of stack, the most bytes of the heap at a time, the number of calls of malloc
+ * and realloc, and the call's status. */
 #define _GNU_SOURCE
 #include "qrproved.h"
 #include <malloc.h>
@@ -89,6 +90,8 @@ static __attribute__((noinline)) void make(void)
 		status = qrproved_document(input, input_len, number, (uint32_t)(input_len / number / number), level % 3, 4, 330, out, sizeof out, &written);
 	else if (!strcmp(call, "sheets"))
 		status = qrproved_sheets(input, input_len, number, (uint32_t)(input_len / number / number), 4, 330, &PAPER, out, sizeof out, &written);
+	else if (!strcmp(call, "image"))
+		status = qrproved_image(input, input_len, number, rule, 8, 4, 0, 0, 0, out, sizeof out, &written);
 	else if (!strcmp(call, "parse_drawing"))
 		status = qrproved_parse_drawing(input, input_len, out, sizeof out, &drawn);
 	else if (!strcmp(call, "room"))
