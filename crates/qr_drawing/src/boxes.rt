@@ -31,27 +31,33 @@ fn push_line(text: &mut Piece<PEN_SIZE>, x: u16, up: u16, modules: u16, ending: 
     text.push_all(ending);
 }
 
-// Writes the lines of row `row` of the square, below which the document has `up` rows.
+// A row of the square, below which the document has `up` rows.
+#[derive(Clone, Copy)]
+struct Row {
+    index: u8,
+    up: u16,
+}
+
+// Writes the lines of a row.
 fn put_row_lines<W: Sink>(
     pen: &mut Pen,
     out: &mut W,
     raster: &Raster,
-    row: u8,
-    up: u16,
+    row: Row,
     ending: &[u8],
 ) -> Result<(), DrawFault>
-    requires row_in { row < raster.now.matrix.now.side }
+    requires row_in { row.index < raster.now.matrix.now.side }
     requires ending { length ending.now ≤ 8 }
     ensures { Puts (W.device out.old) (W.device out.new)
-        pen.old pen.new (row_lines ending.now up raster.now.margin raster.now.matrix.now (raster.now.margin + row)) result }
+        pen.old pen.new (row_lines ending.now row.up raster.now.margin raster.now.matrix.now (raster.now.margin + row.index)) result }
 {
     let left = u16::from(raster.margin);
-    for run in raster.matrix.dark_runs(row) {
+    for run in raster.matrix.dark_runs(row.index) {
         pen.reserve(out, LINE_MAX)?;
         push_line(
             &mut pen.piece,
             left + u16::from(run.start),
-            up,
+            row.up,
             u16::from(run.end - run.start),
             ending,
         );
@@ -74,15 +80,12 @@ pub(crate) fn put_lines<W: Sink>(
 {
     let side = raster.matrix.side();
     let bottom = below + u16::from(raster.margin);
-    for row in 0..side {
-        put_row_lines(
-            pen,
-            out,
-            raster,
-            row,
-            bottom + u16::from(side - 1 - row),
-            ending,
-        )?;
+    for index in 0..side {
+        let row = Row {
+            index,
+            up: bottom + u16::from(side - 1 - index),
+        };
+        put_row_lines(pen, out, raster, row, ending)?;
     }
     Ok(())
 }

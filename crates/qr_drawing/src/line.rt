@@ -8,7 +8,7 @@ ghost use Rattle.qr_drawing.specs.Raster.{raster_width};
 ghost use Rattle.qr_drawing.specs.Text.{line_count, line_of};
 
 use crate::drawing::Eights;
-use crate::text::{TextStyle, line_count, put_line};
+use crate::text::{Look, TextStyle, line_count, put_line};
 use qr_devices::{DrawFault, Filler, Gauge, Pen, Sink, WRITE_MAX};
 
 fn width<M: Eights>(square: &M, margin: u8) -> u16
@@ -61,7 +61,7 @@ pub fn draw_line<M: Eights, W: Sink>(
     // The proof needs the bound of the width.
     let _ = width(square, margin);
     let mut pen = Pen::new();
-    put_line(&mut pen, out, style, square, margin, line)?;
+    put_line(&mut pen, out, Look { style, margin }, square, line)?;
     pen.reserve(out, WRITE_MAX)
 }
 

@@ -31,6 +31,13 @@ pub enum TextStyle {
     HalfBlocks,
 }
 
+/// How a text shows a square: its style, and the width of its margin in modules.
+#[derive(Clone, Copy)]
+pub(crate) struct Look {
+    pub(crate) style: TextStyle,
+    pub(crate) margin: u8,
+}
+
 // Appends one character, whose filled parts are light modules.
 fn push_half_block(text: &mut Piece<PEN_SIZE>, upper: bool, lower: bool)
     requires room { length text.old + 3 ≤ WRITE_MAX }
@@ -187,15 +194,15 @@ fn push_light(text: &mut Piece<PEN_SIZE>, style: TextStyle, count: u16)
 pub(crate) fn put_line<M: Eights, W: Sink>(
     pen: &mut Pen,
     out: &mut W,
-    style: TextStyle,
+    look: Look,
     square: &M,
-    margin: u8,
     y: u16,
 ) -> Result<(), DrawFault>
     requires { y < 1000 }
     ensures { Puts (W.device out.old) (W.device out.new)
-        pen.old pen.new (line_of style margin (M.seen square.now) y) result }
+        pen.old pen.new (line_of look.style look.margin (M.seen square.now) y) result }
 {
+    let Look { style, margin } = look;
     // The greatest number of bytes of a cell, and the first row of modules that the line shows.
     let (most, row) = match style {
         TextStyle::Plain | TextStyle::Inverse => (2, y),
@@ -275,7 +282,7 @@ pub(crate) fn put_texts<S: HasSquare, W: Sink>(
         };
         let lines = line_count(style, raster.width());
         for y in 0..lines {
-            put_line(pen, out, style, square, margin, y)?;
+            put_line(pen, out, Look { style, margin }, square, y)?;
         }
     }
     Ok(())

@@ -11,6 +11,21 @@ use crate::modules::Modules;
 use crate::pixels::{Place, cells_of, next_byte};
 use qr_devices::{DrawFault, Pen, Sink};
 
+/// The lines of a bitmap from line `first` on. A black pixel is the bit `black`.
+#[derive(Clone, Copy)]
+pub(crate) struct Lines {
+    pub(crate) first: u32,
+    pub(crate) count: u32,
+    pub(crate) black: bool,
+}
+
+// A line that shows row `row` of the raster. A black pixel is the bit `black`.
+#[derive(Clone, Copy)]
+struct Line {
+    row: u32,
+    black: bool,
+}
+
 // Returns eight pixels, in which white is 1, as a byte in which black is the bit `black`.
 fn in_tone(byte: u8, black: bool) -> u8
     ensures { result ≡ toned black (255 - byte) }
@@ -18,22 +33,20 @@ fn in_tone(byte: u8, black: bool) -> u8
     if black { 255 - byte } else { byte }
 }
 
-// Writes a line that shows row `row` of the raster.
 fn put_line<W: Sink>(
     pen: &mut Pen,
     out: &mut W,
     square: &Modules,
     settings: &ImageSettings,
-    black: bool,
-    row: u32,
+    line: Line,
 ) -> Result<(), DrawFault>
     requires some { 1 ≤ settings.now.scale }
     requires scale { settings.now.scale ≤ 100 }
     requires margin { settings.now.margin ≤ 100 }
-    ensures { Puts (W.device out.old) (W.device out.new) pen.old pen.new (toned_line black settings.now square.now row) result }
+    ensures { Puts (W.device out.old) (W.device out.new) pen.old pen.new (toned_line line.black settings.now square.now line.row) result }
 {
     let count = width(square, settings).div_ceil(8);
-    let cells = cells_of(square, settings.margin, row);
+    let cells = cells_of(square, settings.margin, line.row);
     let mut place = Place {
         column: 0,
         left: u32::from(settings.scale),
@@ -41,37 +54,32 @@ fn put_line<W: Sink>(
     for done in 0..count {
         pen.reserve(out, 1)?;
         let byte = next_byte(cells, settings, &mut place);
-        pen.piece.push(in_tone(byte, black));
+        pen.piece.push(in_tone(byte, line.black));
     }
     Ok(())
 }
 
-/// Writes `count` lines from line `first` on, from the top down. A black pixel is the bit `black`.
+/// Writes lines of a bitmap, from the top down.
 pub(crate) fn put_lines<W: Sink>(
     pen: &mut Pen,
     out: &mut W,
     square: &Modules,
     settings: &ImageSettings,
-    black: bool,
-    first: u32,
-    count: u32,
+    lines: Lines,
 ) -> Result<(), DrawFault>
     requires some { 1 ≤ settings.now.scale }
     requires scale { settings.now.scale ≤ 100 }
     requires margin { settings.now.margin ≤ 100 }
-    requires first { first ≤ 37700 }
-    requires count { count ≤ 37700 }
-    ensures { Puts (W.device out.old) (W.device out.new) pen.old pen.new (toned_lines black settings.now square.now first count) result }
+    requires first { lines.first ≤ 37700 }
+    requires count { lines.count ≤ 37700 }
+    ensures { Puts (W.device out.old) (W.device out.new) pen.old pen.new (toned_lines lines.black settings.now square.now lines.first lines.count) result }
 {
-    for y in 0..count {
-        put_line(
-            pen,
-            out,
-            square,
-            settings,
-            black,
-            (first + y) / u32::from(settings.scale),
-        )?;
+    for y in 0..lines.count {
+        let line = Line {
+            row: (lines.first + y) / u32::from(settings.scale),
+            black: lines.black,
+        };
+        put_line(pen, out, square, settings, line)?;
     }
     Ok(())
 }

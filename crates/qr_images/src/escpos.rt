@@ -3,10 +3,11 @@
 
 ghost use Rattle.std.specs.Prelude.{◌≡◌, ◌≤◌, ◌+◌, ◌*◌};
 ghost use Rattle.qr_devices.specs.Pen.{Puts};
-ghost use Rattle.qr_images.specs.Printing.{band, band_head, escpos_file};
+ghost use Rattle.qr_images.specs.Image.{image_width};
+ghost use Rattle.qr_images.specs.Printing.{band, band_count, band_head, escpos_file};
 ghost use Rattle.qr_images.specs.Steps.Stream.{WritesAll};
 
-use crate::bitmap_lines::put_lines;
+use crate::bitmap_lines::{Lines, put_lines};
 use crate::image::ImageSettings;
 use crate::lines::width;
 use crate::modules::Modules;
@@ -30,25 +31,30 @@ fn put_band_head<W: Sink>(
     Ok(())
 }
 
-// Writes a band of `count` lines from line `first` on.
+// Writes band `k`. It begins with line 255 * `k`.
 fn put_band<W: Sink>(
     pen: &mut Pen,
     out: &mut W,
     square: &Modules,
     settings: &ImageSettings,
-    first: u32,
-    count: u32,
+    k: u32,
 ) -> Result<(), DrawFault>
     requires some { 1 ≤ settings.now.scale }
     requires scale { settings.now.scale ≤ 100 }
     requires margin { settings.now.margin ≤ 100 }
-    requires first { first ≤ 37700 }
-    requires count { count ≤ 255 }
-    ensures { Puts (W.device out.old) (W.device out.new) pen.old pen.new (band settings.now square.now first count) result }
+    requires within { 255 * k ≤ image_width settings.now square.now }
+    ensures { Puts (W.device out.old) (W.device out.new)
+        pen.old pen.new (band settings.now square.now (255 * k) (band_count settings.now square.now k)) result }
 {
-    let stride = width(square, settings).div_ceil(8);
-    put_band_head(pen, out, stride as u16, count as u16)?;
-    put_lines(pen, out, square, settings, true, first, count)
+    let height = width(square, settings);
+    let first = 255 * k;
+    let lines = Lines {
+        first,
+        count: (height - first).min(255),
+        black: true,
+    };
+    put_band_head(pen, out, height.div_ceil(8) as u16, lines.count as u16)?;
+    put_lines(pen, out, square, settings, lines)
 }
 
 /// Writes the commands that print the square.
@@ -63,17 +69,8 @@ pub(crate) fn write_escpos<W: Sink>(
     ensures { WritesAll (W.device out.old) (W.device out.new) (escpos_file settings.now square.now) result }
 {
     let mut pen = Pen::new();
-    let height = width(square, settings);
-    for k in 0..height.div_ceil(255) {
-        let first = 255 * k;
-        put_band(
-            &mut pen,
-            out,
-            square,
-            settings,
-            first,
-            (height - first).min(255),
-        )?;
+    for k in 0..width(square, settings).div_ceil(255) {
+        put_band(&mut pen, out, square, settings, k)?;
     }
     pen.reserve(out, WRITE_MAX)
 }

@@ -5,7 +5,7 @@ ghost use Rattle.qr_devices.specs.Pen.{Puts};
 ghost use Rattle.qr_images.specs.Steps.Stream.{WritesAll};
 ghost use Rattle.qr_images.specs.Writing.{bitmap_head, pbm_file};
 
-use crate::bitmap_lines::put_lines;
+use crate::bitmap_lines::{Lines, put_lines};
 use crate::image::ImageSettings;
 use crate::lines::width;
 use crate::modules::Modules;
@@ -39,15 +39,13 @@ pub(crate) fn write_pbm<W: Sink>(
     ensures { WritesAll (W.device out.old) (W.device out.new) (pbm_file settings.now square.now) result }
 {
     let mut pen = Pen::new();
-    put_bitmap_head(&mut pen, out, width(square, settings) as u16)?;
-    put_lines(
-        &mut pen,
-        out,
-        square,
-        settings,
-        true,
-        0,
-        width(square, settings),
-    )?;
+    let height = width(square, settings);
+    put_bitmap_head(&mut pen, out, height as u16)?;
+    let lines = Lines {
+        first: 0,
+        count: height,
+        black: true,
+    };
+    put_lines(&mut pen, out, square, settings, lines)?;
     pen.reserve(out, WRITE_MAX)
 }

@@ -5,7 +5,7 @@ ghost use Rattle.qr_devices.specs.Pen.{Puts};
 ghost use Rattle.qr_images.specs.Printing.{tspl_file, tspl_head};
 ghost use Rattle.qr_images.specs.Steps.Stream.{WritesAll};
 
-use crate::bitmap_lines::put_lines;
+use crate::bitmap_lines::{Lines, put_lines};
 use crate::image::ImageSettings;
 use crate::lines::width;
 use crate::modules::Modules;
@@ -16,16 +16,15 @@ use qr_devices::{DrawFault, Pen, Sink, WRITE_MAX};
 fn put_tspl_head<W: Sink>(
     pen: &mut Pen,
     out: &mut W,
-    left: u16,
-    top: u16,
+    settings: &ImageSettings,
     stride: u32,
     count: u32,
 ) -> Result<(), DrawFault>
-    ensures { Puts (W.device out.old) (W.device out.new) pen.old pen.new (tspl_head left top stride count) result }
+    ensures { Puts (W.device out.old) (W.device out.new) pen.old pen.new (tspl_head settings.now.left settings.now.top stride count) result }
 {
     pen.reserve(out, 60)?;
-    push_number(&mut pen.piece, b"BITMAP ", u32::from(left));
-    push_number(&mut pen.piece, b",", u32::from(top));
+    push_number(&mut pen.piece, b"BITMAP ", u32::from(settings.left));
+    push_number(&mut pen.piece, b",", u32::from(settings.top));
     push_number(&mut pen.piece, b",", stride);
     push_number(&mut pen.piece, b",", count);
     pen.piece.push_all(b",0,");
@@ -45,15 +44,13 @@ pub(crate) fn write_tspl<W: Sink>(
 {
     let mut pen = Pen::new();
     let height = width(square, settings);
-    put_tspl_head(
-        &mut pen,
-        out,
-        settings.left,
-        settings.top,
-        height.div_ceil(8),
-        height,
-    )?;
-    put_lines(&mut pen, out, square, settings, false, 0, height)?;
+    put_tspl_head(&mut pen, out, settings, height.div_ceil(8), height)?;
+    let lines = Lines {
+        first: 0,
+        count: height,
+        black: false,
+    };
+    put_lines(&mut pen, out, square, settings, lines)?;
     put_text(&mut pen, out, b"\r\n")?;
     pen.reserve(out, WRITE_MAX)
 }

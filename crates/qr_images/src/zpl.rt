@@ -129,16 +129,15 @@ fn put_packed_rows<W: Sink>(
 fn put_zpl_head<W: Sink>(
     pen: &mut Pen,
     out: &mut W,
-    left: u16,
-    top: u16,
+    settings: &ImageSettings,
     total: u32,
     stride: u32,
 ) -> Result<(), DrawFault>
-    ensures { Puts (W.device out.old) (W.device out.new) pen.old pen.new (zpl_head left top total stride) result }
+    ensures { Puts (W.device out.old) (W.device out.new) pen.old pen.new (zpl_head settings.now.left settings.now.top total stride) result }
 {
     pen.reserve(out, 80)?;
-    push_number(&mut pen.piece, b"^XA\n^FO", u32::from(left));
-    push_number(&mut pen.piece, b",", u32::from(top));
+    push_number(&mut pen.piece, b"^XA\n^FO", u32::from(settings.left));
+    push_number(&mut pen.piece, b",", u32::from(settings.top));
     push_number(&mut pen.piece, b"^GFA,", total);
     push_number(&mut pen.piece, b",", total);
     push_number(&mut pen.piece, b",", stride);
@@ -170,7 +169,7 @@ pub(crate) fn write_zpl<W: Sink>(
     let mut pen = Pen::new();
     let stride = width(square, settings).div_ceil(8);
     let total = bytes_of_lines(square, settings);
-    put_zpl_head(&mut pen, out, settings.left, settings.top, total, stride)?;
+    put_zpl_head(&mut pen, out, settings, total, stride)?;
     put_packed_rows(&mut pen, out, square, settings)?;
     put_text(&mut pen, out, b"^FS\n^XZ\n")?;
     pen.reserve(out, WRITE_MAX)

@@ -31,34 +31,45 @@ pub struct QrprovedSymbol {
     pub mask: u8,
 }
 
-// Returns the symbol of `input` and its numbers, or the status of the first cause to refuse the input, or of lack of
-// memory.
-#[inline(always)]
-fn symbol_of(
-    alloc: Global,
-    input: &[u8],
+// The numbers of the settings of a symbol, as a caller passes them.
+#[derive(Clone, Copy)]
+struct Numbers {
     version: u32,
     level: u32,
     rule: u32,
     interpretation: u32,
     boost: u32,
-) -> Result<(Matrix, QrprovedSymbol), u8>
-    ensures symbol { IfOk result (λ made. (IsEncoded input.now version level rule interpretation boost made.0 made.1)
-        × MayWrite (interpretation_of interpretation) input.now) }
-    ensures settings { (result ≡ Err SETTINGS) ↔ (AreSymbolSettings version level rule interpretation boost → ⊥) }
+}
+
+// Returns the symbol of `input` and its numbers, or the status of the first cause to refuse the input, or of lack of
+// memory.
+#[inline(always)]
+fn symbol_of(alloc: Global, input: &[u8], numbers: Numbers) -> Result<(Matrix, QrprovedSymbol), u8>
+    ensures symbol { IfOk result (λ made. (IsEncoded input.now
+        numbers.version numbers.level numbers.rule numbers.interpretation numbers.boost made.0 made.1)
+        × MayWrite (interpretation_of numbers.interpretation) input.now) }
+    ensures settings { (result ≡ Err SETTINGS)
+        ↔ (AreSymbolSettings numbers.version numbers.level numbers.rule numbers.interpretation numbers.boost → ⊥) }
     ensures empty { (result ≡ Err EMPTY)
-        ↔ (AreSymbolSettings version level rule interpretation boost × (input.now ≡ [])) }
-    ensures fields { (result ≡ Err FIELDS) ↔ (AreSymbolSettings version level rule interpretation boost
-        × (MayWrite (interpretation_of interpretation) input.now → ⊥)) }
+        ↔ (AreSymbolSettings numbers.version numbers.level numbers.rule numbers.interpretation numbers.boost × (input.now ≡ [])) }
+    ensures fields { (result ≡ Err FIELDS) ↔ (AreSymbolSettings numbers.version numbers.level numbers.rule numbers.interpretation numbers.boost
+        × (MayWrite (interpretation_of numbers.interpretation) input.now → ⊥)) }
     ensures too_long { (result ≡ Err TOO_LONG) ↔ ((result ≢ Err MEMORY)
-        × AreSymbolSettings version level rule interpretation boost
-        × MayWrite (interpretation_of interpretation) input.now
-        × HasNoVersion version (level_of level) (rule_of rule) (interpretation_of interpretation) input.now) }
-    ensures long { AreSymbolSettings version level rule interpretation boost
-        → MayWrite (interpretation_of interpretation) input.now → 7089 < length input.now → result ≡ Err TOO_LONG }
+        × AreSymbolSettings numbers.version numbers.level numbers.rule numbers.interpretation numbers.boost
+        × MayWrite (interpretation_of numbers.interpretation) input.now
+        × HasNoVersion numbers.version (level_of numbers.level) (rule_of numbers.rule) (interpretation_of numbers.interpretation) input.now) }
+    ensures long { AreSymbolSettings numbers.version numbers.level numbers.rule numbers.interpretation numbers.boost
+        → MayWrite (interpretation_of numbers.interpretation) input.now → 7089 < length input.now → result ≡ Err TOO_LONG }
     ensures status { IfErr result (λ status. (status ≡ EMPTY) ⊎ (status ≡ FIELDS) ⊎ (status ≡ TOO_LONG)
         ⊎ (status ≡ MEMORY) ⊎ (status ≡ SETTINGS)) }
 {
+    let Numbers {
+        version,
+        level,
+        rule,
+        interpretation,
+        boost,
+    } = numbers;
     let Some(settings) = settings_of(version, level, rule, interpretation) else {
         return Err(SETTINGS);
     };
@@ -145,7 +156,14 @@ pub extern "C" fn qrproved_encode(
     ensures status { (result ≡ DONE) ⊎ (result ≡ EMPTY) ⊎ (result ≡ FIELDS) ⊎ (result ≡ TOO_LONG)
         ⊎ (result ≡ MEMORY) ⊎ (result ≡ SETTINGS) ⊎ (result ≡ ROOM) }
 {
-    match symbol_of(alloc, input, version, level, rule, interpretation, boost) {
+    let asked = Numbers {
+        version,
+        level,
+        rule,
+        interpretation,
+        boost,
+    };
+    match symbol_of(alloc, input, asked) {
         Err(status) => status,
         Ok((matrix, numbers)) => {
             if modules.len() < area(numbers.side) {
@@ -214,7 +232,14 @@ pub extern "C" fn qrproved_encode_bits(
     ensures status { (result ≡ DONE) ⊎ (result ≡ EMPTY) ⊎ (result ≡ FIELDS) ⊎ (result ≡ TOO_LONG)
         ⊎ (result ≡ MEMORY) ⊎ (result ≡ SETTINGS) ⊎ (result ≡ ROOM) }
 {
-    match symbol_of(alloc, input, version, level, rule, interpretation, boost) {
+    let asked = Numbers {
+        version,
+        level,
+        rule,
+        interpretation,
+        boost,
+    };
+    match symbol_of(alloc, input, asked) {
         Err(status) => status,
         Ok((matrix, numbers)) => {
             if bits.len() < bits_len(numbers.side) {

@@ -23,17 +23,24 @@ fn format_of(number: u32) -> Option<Format>
     }
 }
 
+// Where an image begins on a label.
+#[derive(Clone, Copy)]
+struct Place {
+    left: u32,
+    top: u32,
+}
+
 fn image_settings_of(
     format: u32,
     scale: u32,
     margin: u32,
     pixels_a_metre: u32,
-    left: u32,
-    top: u32,
+    place: Place,
 ) -> Option<ImageSettings>
-    ensures { SomeIff result (AreSettings format scale margin pixels_a_metre left top)
-        (settings_of format scale margin pixels_a_metre left top) }
+    ensures { SomeIff result (AreSettings format scale margin pixels_a_metre place.left place.top)
+        (settings_of format scale margin pixels_a_metre place.left place.top) }
 {
+    let Place { left, top } = place;
     if pixels_a_metre >= 0x8000_0000 || left > 32000 || top > 32000 {
         return None;
     }
@@ -107,7 +114,8 @@ pub extern "C" fn qrproved_image(
     let Some(side) = between(side, 1, 177) else {
         return SETTINGS;
     };
-    let Some(settings) = image_settings_of(format, scale, margin, pixels_a_metre, left, top) else {
+    let place = Place { left, top };
+    let Some(settings) = image_settings_of(format, scale, margin, pixels_a_metre, place) else {
         return SETTINGS;
     };
     if modules.len() < area(side) {

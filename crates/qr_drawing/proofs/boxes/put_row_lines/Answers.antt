@@ -9,7 +9,7 @@ loop-run-init g c = rw c.into_iter-run-iterator.ensures.into_iter_gives (search 
 
 pub returns-in_err-reserve : goal.returns-in_err-reserve
 returns-in_err-reserve g c =
-    let line = line_of c.args.ending.now c.args.up c.args.raster.now.margin in
+    let line = line_of c.args.ending.now c.args.row.up c.args.raster.now.margin in
     rw ((err_from_is_err_and c.from_residual.result c.from_residual.ensures.1).1, c.loop-run.invariant.lines, flat_map-append line c.loop-run.yielded c.loop-run.run-iterator)
     (stops-between _ _ _ _ _ c.args.pen.now.piece c.loop-run.pen.piece (flat_map line c.loop-run.yielded) (flat_map line c.loop-run.run-iterator)
     c.loop-run.invariant.writes c.in_err-reserve.ensures.writes)
@@ -22,9 +22,9 @@ overflow_sub-run g c =
 
 pub loop-run-preserved : goal.loop-run-preserved
 loop-run-preserved g c =
-    let line = line_of c.args.ending.now c.args.up c.args.raster.now.margin in
+    let line = line_of c.args.ending.now c.args.row.up c.args.raster.now.margin in
     let run = c.in-Some.run' in
-    let here = line-is c.args.ending.now c.args.up c.args.raster.now.margin (c.from-left.result + c.from.result) c.from-in-loop-run.result run (omega arith) (omega arith) in
+    let here = line-is c.args.ending.now c.args.row.up c.args.raster.now.margin (c.from-left.result + c.from.result) c.from-in-loop-run.result run (omega arith) (omega arith) in
     record {
       within = All-rest (λ run. (run.start < run.end) × (run.end ≤ c.args.raster.now.matrix.now.side)) run c.next.new.self _ c.in-Some.ensures.steps c.loop-run.invariant.within;
       lines = search (rules, append_assoc);

@@ -6,8 +6,8 @@ use Rattle.qr_drawing.proofs.boxes.put_row_lines.Given as goal
 abbrev pub invariant-loop-run : goal.invariant-loop-run
 invariant-loop-run g l = record {
   within : All (λ run. (run.start < run.end) × (run.end ≤ l.raster.matrix.now.side)) l.run-iterator;
-  lines : row_lines l.ending l.up l.raster.margin l.raster.matrix.now (l.raster.margin + l.row) ≡ flat_map (line_of l.ending l.up l.raster.margin) (l.yielded ++ l.run-iterator);
+  lines : row_lines l.ending l.row.up l.raster.margin l.raster.matrix.now (l.raster.margin + l.row.index) ≡ flat_map (line_of l.ending l.row.up l.raster.margin) (l.yielded ++ l.run-iterator);
   writes :
       Writes (g.W.Sink.device l.fn.out) (g.W.Sink.device l.out)
-      l.fn.pen.interrupted l.pen.interrupted (l.fn.pen.piece ++ flat_map (line_of l.ending l.up l.raster.margin) l.yielded) l.pen.piece;
+      l.fn.pen.interrupted l.pen.interrupted (l.fn.pen.piece ++ flat_map (line_of l.ending l.row.up l.raster.margin) l.yielded) l.pen.piece;
 }

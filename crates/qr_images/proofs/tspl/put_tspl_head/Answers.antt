@@ -9,5 +9,5 @@ returns-in_err-reserve g c = rw ((err_from_is_err_and c.from_residual.result c.f
 pub returns : goal.returns
 returns g c =
     formed _ _ _ _ _ _ _ _ c.in_ok-reserve.ensures.writes
-    (tspl-head-is c.args.left c.args.top c.args.stride c.args.count _ _ _ _ _ _ (rw c.from.ensures at c.push_number.ensures.items) (rw c.from-2.ensures at c.push_number-2.ensures.items)
+    (tspl-head-is c.args.settings.now.left c.args.settings.now.top c.args.stride c.args.count _ _ _ _ _ _ (rw c.from.ensures at c.push_number.ensures.items) (rw c.from-2.ensures at c.push_number-2.ensures.items)
     c.push_number-3.ensures.items c.push_number-4.ensures.items c.push_all.ensures.items)
