@@ -1,6 +1,6 @@
 -- What `qrproved_image` writes, and when it refuses a buffer as too short. It writes the image of a square of `side`
 -- rows. The buffer `modules` begins with a byte for each module, row by row.
-use Rattle.std.specs.Prelude.{◌≡◌, ℕ, ◌*◌, ◌<◌, ◌≤◌, ◌^◌, ◌==◌, if◌then◌else◌, List, length}
+use Rattle.std.specs.Prelude.{ℕ, ◌*◌, ◌<◌, ◌≤◌, ◌^◌, ◌==◌, if◌then◌else◌, List, length}
 use Rattle.qr_images.specs.Writing.{image_file}
 use Rattle.qr_images.specs.declared.image.Format.{Format}
 use Rattle.qr_images.specs.declared.image.Format.TheVariants.{EscPos, Pbm, Png, Tspl, Zpl}
