@@ -70,16 +70,26 @@ export class QRSymbol {
   /**
    * Returns an SVG document, in which a module is one unit wide. `mm` is its width with the margin, in millimetres: a module has whole
    * micrometres, as in pdf. If `inline` is true, the document has no XML declaration, which HTML does not allow inside a page.
+   * `title` is what the drawing is called by programs that read it aloud; it has then the role of an image. `className` is its class. `caption`
+   * is a line of text below the symbol and its margin, which makes the drawing four modules higher. Throws
+   * SettingsError for colours with a contrast under 3 (WCAG 2.1), and for an order of them that `inverse` does not say.
    */
-  svg(options?: { margin?: number; mm?: number; quiet?: boolean; inline?: boolean }): string;
+  svg(options?: Colours & { margin?: number; mm?: number; quiet?: boolean; inline?: boolean; title?: string; className?: string; caption?: string }): string;
+  /**
+   * Draws the symbol on a canvas, which becomes as large as it, and returns the canvas. `scale` is the number of pixels of a module on a side,
+   * 8 unless given.
+   */
+  toCanvas<Canvas extends { width: number; height: number; getContext(kind: '2d'): unknown }>(canvas: Canvas, options?: Colours & { scale?: number; margin?: number; quiet?: boolean }): Canvas;
   /** Returns a drawing as text, of type 'UTF8' unless given. */
   text(options?: { margin?: number; type?: Drawing }): string;
   /**
    * Returns a PNG image of one bit a pixel. `scale` is the number of pixels of a module on a side, from 1 to 100: 8 unless given.
-   * `mm` is the width of the image with its margin, in millimetres; in its place, `dpi` is the number of pixels of an inch. Throws a
-   * TypeError for both, and SettingsError for a size that PNG cannot say: less than one pixel a metre, or more than 2147483647.
+   * `mm` is the width of the image with its margin, in millimetres; in its place, `dpi` is the number of pixels of an inch. `fitMm` stands in
+   * place of `scale` and `mm`: it is the most that the image may be wide for a printer with `dpi` dots an inch, 203 unless given. A module
+   * has as many whole pixels as fit, and printedSize says how wide the image is. Throws a TypeError for sizes that exclude each other, and
+   * SettingsError for a size that PNG cannot say: less than one pixel a metre, or more than 2147483647.
    */
-  png(options?: { scale?: number; margin?: number; mm?: number; dpi?: number; quiet?: boolean }): Uint8Array;
+  png(options?: { scale?: number; margin?: number; mm?: number; dpi?: number; fitMm?: number; quiet?: boolean }): Uint8Array;
   /**
    * Returns a PDF document with a page as large as the symbol with its margin. `mm` is its width, in millimetres; unless given, a module is
    * 1 mm wide. A module has whole micrometres, so the width may differ from `mm` by half a micrometre for each module.
@@ -87,20 +97,20 @@ export class QRSymbol {
   pdf(options?: { margin?: number; mm?: number; quiet?: boolean }): Uint8Array;
   /** Returns a document in Encapsulated PostScript, with the options of pdf. */
   eps(options?: { margin?: number; mm?: number; quiet?: boolean }): Uint8Array;
-  /** Returns a raw bitmap of netpbm (P4), which does not say how large it is. `scale` is 8 unless given. */
-  pbm(options?: { scale?: number; margin?: number; quiet?: boolean }): Uint8Array;
+  /** Returns a raw bitmap of netpbm (P4), which does not say how large it is. `scale` is 8 unless given; `fitMm` and `dpi` are those of png. */
+  pbm(options?: { scale?: number; margin?: number; dpi?: number; fitMm?: number; quiet?: boolean }): Uint8Array;
   /**
    * Returns a label in ZPL, the language of most label printers, with the symbol as an image. `scale` is the number of dots of a module on
-   * a side, from 1 to 100: 4 unless given. In its place, `mm` is the most that the symbol may be wide with its margin; since a module has
-   * whole dots, it may be narrower, and printedSize says how wide. `dpi` is the number of dots of an inch, 203 unless given. `x` and `y` are
-   * how far the symbol is from the left and the upper edge of the label, in dots, from 0 to 32000. Throws a TypeError for both scale and mm,
+   * a side, from 1 to 100: 4 unless given. In its place, `fitMm` is the most that the symbol may be wide with its margin; since a module has
+   * whole dots, it may be narrower, and printedSize says how wide. `mm` is another name for it. `dpi` is the number of dots of an inch, 203 unless given. `x` and `y` are
+   * how far the symbol is from the left and the upper edge of the label, in dots, from 0 to 32000. Throws a TypeError for both scale and fitMm,
    * and SettingsError if not even modules of one dot are narrow enough.
    */
-  zpl(options?: { scale?: number; margin?: number; mm?: number; dpi?: number; x?: number; y?: number; quiet?: boolean }): Uint8Array;
+  zpl(options?: { scale?: number; margin?: number; mm?: number; dpi?: number; fitMm?: number; x?: number; y?: number; quiet?: boolean }): Uint8Array;
   /** Returns the command BITMAP of TSPL, with the options of zpl. It goes between the commands SIZE, CLS and PRINT of a label. */
-  tspl(options?: { scale?: number; margin?: number; mm?: number; dpi?: number; x?: number; y?: number; quiet?: boolean }): Uint8Array;
+  tspl(options?: { scale?: number; margin?: number; mm?: number; dpi?: number; fitMm?: number; x?: number; y?: number; quiet?: boolean }): Uint8Array;
   /** Returns the command GS v 0 of ESC/POS, for receipt printers. The options are those of zpl, but for x and y. */
-  escpos(options?: { scale?: number; margin?: number; mm?: number; dpi?: number; quiet?: boolean }): Uint8Array;
+  escpos(options?: { scale?: number; margin?: number; mm?: number; dpi?: number; fitMm?: number; quiet?: boolean }): Uint8Array;
   /** Returns the most dots that a module can have on a side if the symbol is at most `mm` wide with its margin, and how wide it then is. */
   printedSize(options: { mm: number; dpi?: number; margin?: number }): { scale: number; mm: number };
   /** Returns a URL that contains the image, a PNG unless the type is 'svg'. */
@@ -109,6 +119,16 @@ export class QRSymbol {
   toString(): string;
   /** What JSON.stringify writes: each row of modules as a string, in which '1' is dark. */
   toJSON(): { version: number; side: number; mask: number | null; level: Level; rows: string[] };
+}
+
+/** The colours of a drawing. */
+export interface Colours {
+  /** The colour of dark modules: #rgb, #rrggbb or a name of CSS 2.1. '#000000' unless given. */
+  dark?: string;
+  /** That of light modules and of the margin, or null for a transparent ground. '#ffffff' unless given. */
+  light?: string | null;
+  /** Whether dark modules may be lighter than the others, which many scanners do not read. */
+  inverse?: boolean;
 }
 
 /** What a symbol of a series says about its series. */
@@ -197,6 +217,13 @@ export class Mended {
    * not read the symbol.
    */
   readonly spent: number;
+  /**
+   * The unused error correction of ISO/IEC 15415 in the block that is worst, from 0 to 1, where each module that is not known counts as
+   * wrong. It is 0 if a scanner cannot read the symbol.
+   */
+  readonly unused: number;
+  /** The grade of `unused`. It is that of one parameter of ISO/IEC 15415, and no grade of the symbol. */
+  readonly unusedGrade: 'A' | 'B' | 'C' | 'D' | 'F';
   /** The share of the correction that is spent for `mend`, from 0 to 1: a codeword with a module that is not known counts half. */
   readonly spentHere: number;
   /**
@@ -308,7 +335,7 @@ export function sheetsOf(symbols: QRSymbol | QRSymbol[], sheet: Sheet, options?:
  * the other.
  */
 export function labels(symbols: QRSymbol | QRSymbol[], options?: {
-  type?: 'zpl' | 'tspl' | 'escpos'; scale?: number; margin?: number; mm?: number; dpi?: number; x?: number; y?: number; quiet?: boolean;
+  type?: 'zpl' | 'tspl' | 'escpos'; scale?: number; margin?: number; mm?: number; dpi?: number; fitMm?: number; x?: number; y?: number; quiet?: boolean;
 }): Uint8Array;
 
 /**

@@ -3,7 +3,8 @@
  * their contracts. README.md shows the calls; qrproved.d.ts describes each.
  */
 import { drawn, encoded, encodedSeries, imageOf, mayHaveKanji, mendedOf, parsedOf, printed, readOf, sheetsBy } from './calls.js';
-import { DOCUMENTS, INTERPRETATIONS, LABELS, LIMITS } from './common.js';
+import { DARK, LIGHT, captioned, coloured, coloursOf } from './colours.js';
+import { DOCUMENTS, GRADES, INTERPRETATIONS, LABELS, LIMITS } from './common.js';
 import { Gs1Error, NoDrawingError, SettingsError, SideError } from './errors.js';
 import { dataOf, fieldsOf } from './gs1.js';
 import { SHIFT_JIS, UTF_8, decodedText, encodedText } from './interpretation.js';
@@ -21,6 +22,7 @@ const RULES = ['auto', 'bytes_only', 'with_kanji'];
 const DRAWINGS = ['ASCII', 'ASCIIi', 'UTF8', 'SVG'];
 const { MARGIN_WANTED, MODULE_MIN } = LIMITS; // modules, and millimetres
 const MM_OF_INCH = 25.4;
+const PIXELS = 8; // of a module of an image, if nothing else is said
 const DENSITY_MAX = 2 ** 31 - 1; // pixels a metre: a number in a PNG image has 31 bits
 
 /** Returns each option as it is given, or its default. An option of another name would do nothing, and so is refused. */
@@ -102,10 +104,12 @@ const OF_SERIES = { level: 'L', version: undefined, rule: undefined, eci: undefi
 const OF_SYMBOL = { ...OF_SERIES, version: 1, boost: true };
 // The options of a document for print.
 const OF_DOCUMENT = { margin: 4, mm: undefined, quiet: false };
+const COLOURS_OF_DRAWING = { dark: DARK, light: LIGHT, inverse: false };
+const OF_SVG = { margin: 4, mm: undefined, quiet: false, inline: false, title: undefined, className: undefined, caption: undefined, ...COLOURS_OF_DRAWING };
 // Label paper.
 const SHEET = { width: undefined, height: undefined, columns: undefined, rows: undefined, left: 0, top: 0, across: 0, down: 0, first: 0 };
 // The options of an image for a receipt printer, and for a label printer.
-const OF_RECEIPT = { scale: undefined, margin: 4, mm: undefined, dpi: LIMITS.DPI, quiet: false };
+const OF_RECEIPT = { scale: undefined, margin: 4, mm: undefined, dpi: LIMITS.DPI, fitMm: undefined, quiet: false };
 const OF_LABEL = { ...OF_RECEIPT, x: 0, y: 0 };
 
 function settings({ level, version, rule = 'auto' }) {
@@ -138,11 +142,31 @@ export class QRSymbol {
   }
 
   svg(options = {}) {
-    const { margin, mm, quiet, inline } = chosen(options, { margin: 4, mm: undefined, quiet: false, inline: false });
+    const { margin, mm, quiet, inline, title, className, caption, ...others } = chosen(options, OF_SVG), colours = coloursOf(others);
     if (typeof inline !== 'boolean') throw new TypeError(`inline is true or false, and not of type ${typeof inline}`);
     const drawing = mm === undefined ? draw(this, { margin, type: 'SVG' }) : new TextDecoder().decode(documentFor([this], 'svg', { margin, mm, quiet }));
     if (mm === undefined) warn(quiet, margin, Infinity);
-    return inline ? drawing.replace(/^<\?xml[^>]*>\n/, '') : drawing;
+    const plain = coloured(drawing, colours, title, className);
+    const document = caption === undefined ? plain : captioned(plain, this.side + 2 * margin, caption, colours.dark);
+    return inline ? document.replace(/^<\?xml[^>]*>\n/, '') : document;
+  }
+
+  toCanvas(canvas, options = {}) {
+    const { scale, margin, quiet, ...others } = chosen(options, { scale: PIXELS, margin: 4, quiet: false, ...COLOURS_OF_DRAWING }), colours = coloursOf(others);
+    const side = this.side + 2 * whole('margin', margin, 0, LIMITS.MARGIN_MAX), pixels = side * whole('scale', scale, 1, LIMITS.SCALE_MAX);
+    if (typeof canvas?.getContext !== 'function') throw new TypeError('toCanvas draws on a canvas: toCanvas(document.querySelector(\'canvas\'))');
+    warn(quiet, margin, Infinity);
+    Object.assign(canvas, { width: pixels, height: pixels }); // which also makes it transparent
+    const context = canvas.getContext('2d');
+    if (colours.light !== null) {
+      context.fillStyle = colours.light;
+      context.fillRect(0, 0, pixels, pixels);
+    }
+    context.fillStyle = colours.dark;
+    this.modules.forEach((module, k) => {
+      if (module) context.fillRect(scale * (margin + k % this.side), scale * (margin + Math.floor(k / this.side)), scale, scale);
+    });
+    return canvas;
   }
 
   text(options = {}) {
@@ -150,9 +174,12 @@ export class QRSymbol {
   }
 
   png(options = {}) {
-    const { scale, margin, mm, dpi, quiet } = chosen(options, { scale: 8, margin: 4, mm: undefined, dpi: undefined, quiet: false });
-    const modules = this.side + 2 * whole('margin', margin, 0, LIMITS.MARGIN_MAX), pixels = modules * whole('scale', scale, 1, LIMITS.SCALE_MAX);
-    if (mm !== undefined && dpi !== undefined) throw new TypeError('mm and dpi both say how large the image is: one of them is given');
+    const { margin, quiet, ...sizes } = chosen(options, { scale: undefined, margin: 4, mm: undefined, dpi: undefined, fitMm: undefined, quiet: false });
+    const modules = this.side + 2 * whole('margin', margin, 0, LIMITS.MARGIN_MAX);
+    const { scale = PIXELS, mm, dpi } = fitted(this, sizes, margin), pixels = modules * whole('scale', scale, 1, LIMITS.SCALE_MAX);
+    if (mm !== undefined && dpi !== undefined) {
+      throw new TypeError('mm and dpi both say how large the image is: one of them is given, or fitMm and dpi for a printer');
+    }
     const size = mm !== undefined ? length('mm', mm) : dpi !== undefined ? MM_OF_INCH * pixels / length('dpi', dpi) : null;
     const density = size === null ? 0 : 1000 * pixels / size;
     if (size !== null && !(density > 0.5 && density < DENSITY_MAX + 0.5)) {
@@ -171,8 +198,9 @@ export class QRSymbol {
   }
 
   pbm(options = {}) {
-    const { scale, margin, quiet } = chosen(options, { scale: 8, margin: 4, quiet: false });
-    return this.#file('pbm', { scale, margin, quiet });
+    const { dpi, ...others } = chosen(options, { scale: undefined, margin: 4, dpi: undefined, fitMm: undefined, quiet: false });
+    if (dpi !== undefined && others.fitMm === undefined) throw new TypeError('a PBM bitmap has no size: dpi is only given beside fitMm');
+    return this.#file('pbm', { dpi, ...others });
   }
 
   zpl(options = {}) {
@@ -189,17 +217,14 @@ export class QRSymbol {
 
   printedSize(options) {
     const { mm, dpi, margin } = chosen(options, { mm: undefined, dpi: LIMITS.DPI, margin: 4 });
-    const modules = this.side + 2 * whole('margin', margin, 0, LIMITS.MARGIN_MAX), resolution = length('dpi', dpi);
-    const scale = Math.min(Math.floor(length('mm', mm) * resolution / MM_OF_INCH / modules + 1e-9), LIMITS.SCALE_MAX), width = MM_OF_INCH * modules / resolution;
-    if (scale === 0) throw new SettingsError(`${modules} modules of one dot are ${width.toPrecision(3)} mm wide, and not ${Number(mm.toPrecision(3))}`);
-    return { scale, mm: MM_OF_INCH * modules * scale / resolution };
+    return wholeDots(this, 'mm', mm, dpi, margin);
   }
 
   /** Returns the image in a format that cannot say how large it is. */
-  #file(format, { scale, margin, mm, dpi = LIMITS.DPI, x = 0, y = 0, quiet }) {
+  #file(format, { margin, x = 0, y = 0, quiet, ...sizes }) {
     whole('margin', margin, 0, LIMITS.MARGIN_MAX);
-    const { dots, module } = dotsOf(this, { scale, margin, mm, dpi });
-    warn(quiet, margin, format === 'pbm' ? Infinity : module);
+    const { dots, module } = dotsOf(this, format, sizes, margin);
+    warn(quiet, margin, format === 'pbm' && sizes.fitMm === undefined ? Infinity : module);
     const left = whole('x', x, 0, LIMITS.PLACE_MAX), top = whole('y', y, 0, LIMITS.PLACE_MAX);
     return imageOf(this.modules, this.side, format, dots, margin, 0, left, top);
   }
@@ -270,6 +295,15 @@ export class Mended {
 
   get spent() {
     return (this.worstMisread + this.worstUnknown) / this.changedAllowed;
+  }
+
+  get unused() {
+    return this.scannable ? 1 - this.spent : 0;
+  }
+
+  get unusedGrade() {
+    const left = 100 * (this.changedAllowed - this.worstMisread - this.worstUnknown);
+    return (this.scannable && Object.keys(GRADES).find((grade) => left >= GRADES[grade] * this.changedAllowed)) || 'F';
   }
 
   get spentHere() {
@@ -410,21 +444,37 @@ export function sheetsOf(symbols, sheet, options = {}) {
   return sheetsBy(modules, list[0].side, list.length, margin, micrometres, { ...lengths, columns, rows, first });
 }
 
+/** Returns the most dots that a module can have if the symbol is at most so many millimetres wide, and how wide it then is. */
+function wholeDots(symbol, name, mm, dpi, margin) {
+  const modules = symbol.side + 2 * whole('margin', margin, 0, LIMITS.MARGIN_MAX), resolution = length('dpi', dpi);
+  const scale = Math.min(Math.floor(length(name, mm) * resolution / MM_OF_INCH / modules + 1e-9), LIMITS.SCALE_MAX), width = MM_OF_INCH * modules / resolution;
+  if (scale === 0) throw new SettingsError(`${modules} modules of one dot are ${width.toPrecision(3)} mm wide, and not ${Number(mm.toPrecision(3))}`);
+  return { scale, mm: MM_OF_INCH * modules * scale / resolution };
+}
+
+/** Returns the scale and the resolution for whole dots, if there is a size of this name, which is the most that the symbol may be wide. */
+function fitted(symbol, sizes, margin, name = 'fitMm') {
+  if (sizes[name] === undefined) return sizes;
+  const other = ['scale', 'mm', 'fitMm'].find((it) => it !== name && sizes[it] !== undefined);
+  if (other) throw new TypeError(`${other} and ${name} both say how large the symbol is: one of them is given`);
+  const dpi = sizes.dpi ?? LIMITS.DPI;
+  return { scale: wholeDots(symbol, name, sizes[name], dpi, margin).scale, dpi };
+}
+
 /** Returns how many dots of a printer a module has on each side, and how wide it is in millimetres. */
-function dotsOf(symbol, { scale, margin, mm, dpi }) {
-  const dot = MM_OF_INCH / length('dpi', dpi);
-  if (scale !== undefined && mm !== undefined) throw new TypeError('scale and mm both say how large the symbol is: one of them is given');
-  const dots = mm === undefined ? whole('scale', scale ?? LIMITS.DOTS, 1, LIMITS.SCALE_MAX) : symbol.printedSize({ mm, dpi, margin }).scale;
-  return { dots, module: dot * dots };
+function dotsOf(symbol, format, sizes, margin) {
+  const { scale = format === 'pbm' ? PIXELS : LIMITS.DOTS, dpi = LIMITS.DPI } = fitted(symbol, sizes, margin, sizes.mm === undefined ? 'fitMm' : 'mm');
+  const dots = whole('scale', scale, 1, LIMITS.SCALE_MAX);
+  return { dots, module: MM_OF_INCH / length('dpi', dpi) * dots };
 }
 
 export function labels(symbols, options = {}) {
-  const { type, scale, margin, mm, dpi, x, y, quiet } = chosen(options, { type: 'zpl', ...OF_LABEL }), names = Object.keys(LABELS);
+  const { type, margin, x, y, quiet, ...asked } = chosen(options, { type: 'zpl', ...OF_LABEL }), names = Object.keys(LABELS);
   const format = names[named('type', type, names)], [before, after] = LABELS[format].map((it) => new TextEncoder().encode(it));
   if ((x || y) && format === 'escpos') throw new TypeError('only in ZPL and TSPL a symbol has a place on a label, which x and y say');
   whole('margin', margin, 0, LIMITS.MARGIN_MAX);
   const left = whole('x', x, 0, LIMITS.PLACE_MAX), top = whole('y', y, 0, LIMITS.PLACE_MAX);
-  const list = symbolsOf(symbols), sizes = list.map((it) => dotsOf(it, { scale, margin, mm, dpi }));
+  const list = symbolsOf(symbols), sizes = list.map((it) => dotsOf(it, format, asked, margin));
   if (list.length) warn(quiet, margin, sizes.reduce((least, { module }) => Math.min(least, module), Infinity));
   const parts = list.flatMap((it, k) => [before, imageOf(it.modules, it.side, format, sizes[k].dots, margin, 0, left, top), after]);
   const file = new Uint8Array(parts.reduce((sum, part) => sum + part.length, 0));

@@ -446,6 +446,18 @@ test('files for printers and for print', () => {
   for (const [dpi, widest, wider] of [[203, 14.515, 18.142], [300, 9.822, 12.276], [600, 4.911, 6.138]]) {
     assert.deepEqual([widest, wider, wider + 0.001].map((mm) => symbol.printedSize({ mm, dpi }).scale), [4, 4, 5]);
   }
+  // 20 mm have 159.8 dots of 203 an inch, and so 5 for each of 29 modules; 203 dots an inch are 7992 a metre
+  assert.deepEqual(symbol.png({ fitMm: 20 }), symbol.png({ scale: 5, dpi: 203 }));
+  assert.deepEqual(symbol.png({ fitMm: 12, dpi: 600 }), symbol.png({ scale: 9, dpi: 600 }));
+  assert.deepEqual(symbol.pbm({ fitMm: 20, dpi: 203 }), symbol.pbm({ scale: 5 }));
+  for (const kind of ['zpl', 'tspl', 'escpos']) assert.deepEqual(symbol[kind]({ fitMm: 20, dpi: 300 }), symbol[kind]({ scale: 8 }));
+  assert.deepEqual(labels([symbol], { fitMm: 20 }), symbol.zpl({ scale: 5 }));
+  for (const [kind, wrong] of [['png', { scale: 4 }], ['png', { mm: 20 }], ['zpl', { scale: 4 }], ['tspl', { mm: 20 }], ['pbm', { scale: 4 }]]) {
+    assert.throws(() => symbol[kind]({ fitMm: 20, ...wrong }), { name: 'TypeError', message: /and (fitMm|mm) both say how large the symbol is/ }, kind);
+  }
+  assert.throws(() => symbol.pbm({ dpi: 203 }), TypeError);
+  assert.throws(() => symbol.png({ fitMm: 3 }), { message: '29 modules of one dot are 3.63 mm wide, and not 3' });
+  assert.throws(() => symbol.png({ fitMm: 0 }), { name: 'SettingsError', message: /^fitMm is/ });
   assert.throws(() => symbol.escpos({ mm: 3 }), { message: '29 modules of one dot are 3.63 mm wide, and not 3' });
   assert.throws(() => symbol.tspl({ mm: 20, scale: 4 }), TypeError);
   assert.throws(() => symbol.escpos({ x: 3 }), TypeError);
@@ -455,6 +467,53 @@ test('files for printers and for print', () => {
   for (const wrong of [{ mm: 0 }, { mm: 0.01 }, { mm: 100000 }, { margin: 101 }]) {
     assert.throws(() => symbol.pdf(wrong), refused('SettingsError', 5, 'SETTINGS'), JSON.stringify(wrong));
   }
+});
+
+test('colours, a title and a class', () => {
+  const symbol = encode('A'), plain = symbol.svg();
+  assert.equal(symbol.svg({ dark: '#000', light: 'WHITE' }), plain);
+  assert.equal(symbol.svg({ dark: 'Navy', light: '#FfE' }), plain.replace('#000000', '#000080').replace('#ffffff', '#ffffee'));
+  assert.equal(symbol.svg({ light: null }), plain.replace(/<rect[^>]*>\n/, ''));
+  assert.equal(symbol.svg({ dark: '#fff', light: '#000', inverse: true }), plain.replace('#ffffff', '#x').replace('#000000', '#ffffff').replace('#x', '#000000'));
+  assert.equal(symbol.svg({ dark: 'yellow', light: null, inverse: true, inline: true }), plain.replace(/<rect[^>]*>\n/, '').replace('#000000', '#ffff00').split('\n').slice(1).join('\n'));
+  const titled = plain.replace(' shape-rendering="crispEdges">', ' shape-rendering="crispEdges" class="a &quot;b&quot;" role="img">\n<title>A &amp; &lt;B&gt; \u{1f600}</title>');
+  assert.equal(symbol.svg({ title: 'A & <B> \u{1f600}', className: 'a "b"' }), titled);
+  assert.equal(symbol.svg({ mm: 29, title: 'A' }), symbol.svg({ mm: 29 }).replace('crispEdges">', 'crispEdges" role="img">\n<title>A</title>'));
+  const below = '<text x="14.5" y="31.75" font-family="sans-serif" font-size="3.00" text-anchor="middle" fill="#000000">A &amp; $1</text>\n</svg>';
+  assert.equal(symbol.svg({ caption: 'A & $1' }), plain.replace('viewBox="0 0 29 29"', 'viewBox="0 0 29 33"').replace('height="29"', 'height="33"').replace('</svg>', () => below));
+  assert.match(symbol.svg({ caption: 'x'.repeat(29), mm: 29 }), / width="29\.000mm" height="33\.000mm" viewBox="0 0 29 33" [^]* font-size="1\.66"/);
+  // WCAG 2.1: #949494 on white has a contrast of 3.03, and #959595 one of 2.99
+  assert.ok(symbol.svg({ dark: '#949494' }));
+  for (const wrong of [{ dark: '#959595' }, { light: '#123456' }, { dark: '#fff', light: '#000' }, { inverse: true }, { dark: 'yellow', light: null }, { light: null, inverse: true },
+    { dark: '#12' }, { dark: 'rebeccapurple' }, { dark: 'constructor' }, { title: 'a\u0001' }, { className: '\ud800' }]) {
+    assert.throws(() => symbol.svg(wrong), { name: 'SettingsError' }, JSON.stringify(wrong));
+  }
+  for (const wrong of [{ dark: null }, { dark: 0 }, { inverse: 1 }, { title: 3 }, { caption: 3 }, { className: null }, { class: 'a' }]) {
+    assert.throws(() => symbol.svg(wrong), TypeError, JSON.stringify(wrong));
+  }
+});
+
+test('a drawing on a canvas', () => {
+  const symbol = encode('A'), pixels = new Map(), context = {
+    fillRect(x, y, width, height) {
+      for (let row = y; row < y + height; row++) for (let column = x; column < x + width; column++) pixels.set(`${row} ${column}`, this.fillStyle);
+    },
+  };
+  const canvas = { width: 0, height: 0, getContext: (kind) => (kind === '2d' ? context : null) };
+  assert.equal(symbol.toCanvas(canvas, { scale: 2, margin: 4, dark: '#123', light: 'white' }), canvas);
+  assert.deepEqual([canvas.width, canvas.height, pixels.size], [58, 58, 58 * 58]);
+  for (let row = 0; row < 58; row++) {
+    for (let column = 0; column < 58; column++) {
+      const [y, x] = [row, column].map((it) => Math.floor(it / 2) - 4), isInside = Math.min(y, x) >= 0 && Math.max(y, x) < 21;
+      assert.equal(pixels.get(`${row} ${column}`), isInside && symbol.dark(y, x) ? '#112233' : '#ffffff', `${row} ${column}`);
+    }
+  }
+  pixels.clear();
+  symbol.toCanvas(canvas, { light: null });
+  assert.deepEqual([canvas.width, pixels.size, new Set(pixels.values())], [232, 64 * symbol.modules.reduce((sum, it) => sum + it), new Set(['#000000'])]);
+  assert.throws(() => symbol.toCanvas(null), TypeError);
+  assert.throws(() => symbol.toCanvas(canvas, { scale: 0 }), { name: 'SettingsError' });
+  assert.throws(() => symbol.toCanvas(canvas, { dark: '#eee' }), { name: 'SettingsError' });
 });
 
 test('sheets of label paper', () => {

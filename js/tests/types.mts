@@ -15,11 +15,12 @@ const ecis: readonly Eci[] = read(symbol).ecis;
 const fields: [string, string][] = read(symbol).gs1 ? read(symbol).fields() : [];
 const shown: Uint8Array[] = parseDrawing(draw(series)).squares;
 const squares: Uint8Array[] = parsePicture({ data: new Uint8ClampedArray(4), width: 1, height: 1 });
-const image: Uint8Array = symbol.png({ scale: 3 });
+const image: Uint8Array = symbol.png({ fitMm: 20, dpi: 300 });
+const canvas = symbol.toCanvas({ width: 0, height: 0, getContext: () => null }, { dark: 'navy', light: null }).width + symbol.svg({ title: 'a', className: 'b', inverse: false });
 const files: Uint8Array[] = [labels(series, { type: 'tspl', mm: 20, dpi: 300, x: 3 }), labels(symbol), documentOf(series, { type: 'svg', mm: 20 })];
 const text: string = read(symbol).text() + mend(symbol.modules).content.text() + symbol.toJSON().rows[0] + draw(series, { type: 'SVG' }) + symbol.dataURL({ type: 'svg' }) + symbol.svg({ inline: true }) + shares;
 try {
-  console.log(level, header, fieldsOfGs1, ecis, fields, image, files, text, squares, shown);
+  console.log(canvas, level, header, fieldsOfGs1, ecis, fields, image, files, text, squares, shown);
 } catch (error) {
   if (error instanceof TooLongError || error instanceof NoDrawingError || error instanceof FieldsError) {
     const refusal: QRError = error, status: number = error.status;
@@ -45,6 +46,10 @@ encodeSeries('a', { version: 1, boost: true });
 encode('a', { eci: true });
 // @ts-expect-error: there is no such option
 encode('a', { errorCorrectionLevel: 'L' });
+// @ts-expect-error: a document has no dots
+symbol.svg({ fitMm: 20 });
+// @ts-expect-error: dark modules are not transparent
+symbol.svg({ dark: null });
 // @ts-expect-error: a PNG has one symbol
 labels(series, { type: 'png' });
 // @ts-expect-error: there is no such level

@@ -17,13 +17,14 @@ import ctypes
 import math
 import operator
 import os
+import re
 import sys
 import warnings
 from dataclasses import dataclass
 from enum import IntEnum
 from typing import TYPE_CHECKING, BinaryIO, List, NamedTuple, NoReturn, Optional, Tuple, Union
 
-from . import _library, contents
+from . import _colours, _library, contents
 from ._common import DATA, LIMITS
 from ._drawings import found_by_look, undone
 from ._gs1 import Gs1Error, data_of, fields_of
@@ -61,6 +62,8 @@ PIXELS = 8  # of a module of a picture, if nothing else is said
 IMAGE_LIKELY = 4096  # bytes, and 3 for each module: room for every PNG file up to scale 8, which is then written in one run
 MM_OF_INCH = 25.4
 MARGIN_WANTED, MODULE_MIN = LIMITS["MARGIN_WANTED"], LIMITS["MODULE_MIN"]  # modules, and millimetres
+CAPTION_HEIGHT = 4  # modules
+GRADES = DATA["grades"]  # of the error correction that is unused: the least percentage of each
 ONLY_LABELS = "only in ZPL and TSPL a symbol has a place on a label, which x and y say"
 WRONG_FORMAT_MAX = LIMITS["WRONG_FORMAT_MAX"]  # wrong modules of a copy of the format information that can be read (ISO/IEC 18004:2015, Annex C)
 
@@ -104,6 +107,27 @@ class Drawing(IntEnum):
     """A document of its own, one unit of length for a module."""
 
 
+class _Sizes(NamedTuple):
+    """How large an image is, as it was asked for."""
+
+    scale: Optional[int] = None
+    mm: Optional[float] = None
+    dpi: Optional[float] = None
+    fit_mm: Optional[float] = None
+
+    def fitted(self, kind: str, symbol: Symbol, margin: int, name: str = "fit_mm") -> _Sizes:
+        """Returns the scale and the resolution for whole dots, if there is a size of this name, which is the most that the symbol may be
+        wide."""
+        most = getattr(self, name)
+        if most is None:
+            return self
+        others = [it for it in ("scale", "mm", "fit_mm") if it != name and getattr(self, it) is not None]
+        if others:
+            raise TypeError(f"{kind}: {others[0]} and {name} both say how large the symbol is: one of them is given")
+        dpi = DPI if self.dpi is None else self.dpi
+        return _Sizes(symbol._fitted(name, most, dpi, margin)[0], None, dpi)
+
+
 @dataclass(frozen=True, repr=False)
 class Symbol:
     """The modules of a symbol. symbol[row, column] is True if that module is dark; both are from 0 to side - 1. str(symbol)
@@ -139,29 +163,49 @@ class Symbol:
         starts = range(0, len(self.modules), self.side)
         return [[module != 0 for module in self.modules[start:start + self.side]] for start in starts]
 
-    def png(self, *wrong: NoReturn, scale: int = 8, margin: int = 4, mm: Optional[float] = None, dpi: Optional[float] = None,
-            **others: NoReturn) -> bytes:
+    def png(self, *wrong: NoReturn, scale: Optional[int] = None, margin: int = 4, mm: Optional[float] = None, dpi: Optional[float] = None,
+            fit_mm: Optional[float] = None, **others: NoReturn) -> bytes:
         """Returns the drawing as a PNG picture of black and white.
 
-        scale   the pixels of a module on each side, from 1 to SCALE_MAX
+        scale   the pixels of a module on each side, from 1 to SCALE_MAX: 8 unless fit_mm is given
         margin  light modules on each side, from 0 to MARGIN_MAX; a scanner needs 4
         mm      the width of the picture with its margin, in millimetres
         dpi     in place of mm, the pixels of an inch
+        fit_mm  in place of scale and mm, the most that the picture may be wide with its margin, in millimetres. A module has as many whole
+                pixels as fit, so that the picture may be narrower: printed_size says how wide. A printer with `dpi` dots an inch, 203 unless
+                given, prints a dot for each pixel
 
-        Without mm and dpi the picture does not say how large it is. Raises SettingsError if a number is out of range, or if the size
-        is one that PNG cannot state: its pixels are counted by the metre. Raises TypeError for both mm and dpi, and RoomError if
-        there are too few modules. Warns by PrintWarning of what scanners may not read.
+        Without mm, dpi and fit_mm the picture does not say how large it is. Raises SettingsError if a number is out of range, if the size
+        is one that PNG cannot state (its pixels are counted by the metre), or if not even modules of one pixel are as narrow as fit_mm
+        asks. Raises TypeError for sizes that exclude each other, and RoomError if there are too few modules. Warns by PrintWarning of
+        what scanners may not read.
         """
-        _no_more("png", "", wrong, others, "scale", "margin", "mm", "dpi")
-        return self._png(scale, margin, mm, dpi)
+        _no_more("png", "", wrong, others, "scale", "margin", "mm", "dpi", "fit_mm")
+        return self._drawn("png", _Sizes(scale, mm, dpi, fit_mm), margin, 0, 0)
 
-    def svg(self, *wrong: NoReturn, margin: int = 4, mm: Optional[float] = None, inline: bool = False, **others: NoReturn) -> bytes:
-        """Returns the drawing as an SVG document, with `margin` light modules on each side. `mm` is its width with the margin, in
-        millimetres: a module has whole micrometres, as in pdf. Without `mm` a module is one unit wide, and each program chooses a
-        size. If `inline` is True, the line that makes it a document of its own is left out, the XML declaration: it may then stand
-        within a page of HTML. Raises as document does, and warns by PrintWarning of what scanners may not read."""
-        _no_more("svg", "", wrong, others, "margin", "mm", "inline")
-        document = self._svg(margin, mm)
+    def svg(self, *wrong: NoReturn, margin: int = 4, mm: Optional[float] = None, inline: bool = False, dark: str = _colours.DARK,
+            light: Optional[str] = _colours.LIGHT, inverse: bool = False, title: Optional[str] = None, class_name: Optional[str] = None,
+            caption: Optional[str] = None, **others: NoReturn) -> bytes:
+        """Returns the drawing as an SVG document.
+
+        margin      light modules on each side
+        mm          the width with the margin, in millimetres: a module has whole micrometres, as in pdf. Without it a module is one unit
+                    wide, and each program chooses a size
+        inline      True leaves out the XML declaration, so that the drawing may stand within a page of HTML
+        dark, light
+                    the colours of the modules: #rgb, #rrggbb or a name of CSS 2.1. With light=None the ground is transparent
+        inverse     True allows dark modules that are lighter than the others, which many scanners do not read
+        title       what the drawing is called by programs that read it aloud; it has then the role of an image
+        class_name  its class in a page
+        caption     a line of text below the symbol and its margin, which makes the drawing four modules higher
+
+        Raises as document does, and raises SettingsError for colours with a contrast under 3 (WCAG 2.1), and for an order of them that
+        `inverse` does not say. Warns by PrintWarning of what scanners may not read."""
+        _no_more("svg", "", wrong, others, "margin", "mm", "inline", "dark", "light", "inverse", "title", "class_name", "caption")
+        colours = _colours.colours_of(dark, light, bool(_flag("inverse", inverse)))
+        document = _coloured(self._svg(margin, mm), colours, title, class_name)
+        if caption is not None:
+            document = _captioned(document, self.side + 2 * margin, caption, colours[0])
         return document.split(b"?>\n", 1)[-1] if _flag("inline", inline) else document
 
     def text(self, *wrong: NoReturn, drawing: Name = Drawing.UTF8, margin: int = 4, **others: NoReturn) -> str:
@@ -181,68 +225,75 @@ class Symbol:
         _no_more("eps", "", wrong, others, "margin", "mm")
         return _document([self], "eps", margin, mm)
 
-    def pbm(self, *wrong: NoReturn, scale: int = 8, margin: int = 4, **others: NoReturn) -> bytes:
-        """Returns the drawing as a raw bitmap of netpbm (P4), which has no size. `scale` and `margin` are those of png. Raises and warns
-        as png does."""
-        _no_more("pbm", "", wrong, others, "scale", "margin")
-        return self._file("pbm", scale, margin, None, None, 0, 0)
+    def pbm(self, *wrong: NoReturn, scale: Optional[int] = None, margin: int = 4, dpi: Optional[float] = None, fit_mm: Optional[float] = None,
+            **others: NoReturn) -> bytes:
+        """Returns the drawing as a raw bitmap of netpbm (P4), which has no size. The arguments are those of png, but `dpi` is only given
+        beside `fit_mm`. Raises and warns as png does."""
+        _no_more("pbm", "", wrong, others, "scale", "margin", "dpi", "fit_mm")
+        return self._drawn("pbm", _Sizes(scale, None, dpi, fit_mm), margin, 0, 0)
 
     def zpl(self, *wrong: NoReturn, scale: Optional[int] = None, margin: int = 4, mm: Optional[float] = None, dpi: Optional[float] = None,
-            x: int = 0, y: int = 0, **others: NoReturn) -> bytes:
+            x: int = 0, y: int = 0, fit_mm: Optional[float] = None, **others: NoReturn) -> bytes:
         """Returns a label in ZPL, the language of Zebra's and most other label printers, with the symbol as an image.
 
-        scale   the dots of a module on each side, from 1 to SCALE_MAX: 4 unless mm is given
+        scale   the dots of a module on each side, from 1 to SCALE_MAX: 4 unless fit_mm is given
         margin  light modules on each side, from 0 to MARGIN_MAX; a scanner needs 4
-        mm      in place of scale, the most that the symbol may be wide with its margin, in millimetres. A module has whole dots, so it
-                may be narrower: printed_size says how wide
+        fit_mm  in place of scale, the most that the symbol may be wide with its margin, in millimetres. A module has as many whole dots as
+                fit, so that the symbol may be narrower: printed_size says how wide
+        mm      another name for fit_mm
         dpi     the dots of an inch: 203 unless given
         x, y    how far the symbol is from the left and the upper edge of the label, in dots, from 0 to 32,000
 
-        Raises SettingsError if a number is out of range, or if not even modules of one dot are as narrow as mm asks. Raises TypeError
-        for both scale and mm. Warns by PrintWarning of what scanners may not read.
+        Raises SettingsError if a number is out of range, or if not even modules of one dot are as narrow as fit_mm asks. Raises
+        TypeError for both scale and fit_mm. Warns by PrintWarning of what scanners may not read.
         """
-        _no_more("zpl", "", wrong, others, "scale", "margin", "mm", "dpi", "x", "y")
-        return self._file("zpl", scale, margin, mm, dpi, x, y)
+        _no_more("zpl", "", wrong, others, "scale", "margin", "mm", "dpi", "x", "y", "fit_mm")
+        return self._drawn("zpl", _Sizes(scale, mm, dpi, fit_mm), margin, x, y)
 
     def tspl(self, *wrong: NoReturn, scale: Optional[int] = None, margin: int = 4, mm: Optional[float] = None, dpi: Optional[float] = None,
-             x: int = 0, y: int = 0, **others: NoReturn) -> bytes:
+             x: int = 0, y: int = 0, fit_mm: Optional[float] = None, **others: NoReturn) -> bytes:
         """Returns the symbol as the command BITMAP of TSPL, the language of TSC's and many other label printers. It goes between the
         commands SIZE, CLS and PRINT of a label. The arguments, errors and warnings are those of zpl."""
-        _no_more("tspl", "", wrong, others, "scale", "margin", "mm", "dpi", "x", "y")
-        return self._file("tspl", scale, margin, mm, dpi, x, y)
+        _no_more("tspl", "", wrong, others, "scale", "margin", "mm", "dpi", "x", "y", "fit_mm")
+        return self._drawn("tspl", _Sizes(scale, mm, dpi, fit_mm), margin, x, y)
 
     def escpos(self, *wrong: NoReturn, scale: Optional[int] = None, margin: int = 4, mm: Optional[float] = None, dpi: Optional[float] = None,
-               **others: NoReturn) -> bytes:
+               fit_mm: Optional[float] = None, **others: NoReturn) -> bytes:
         """Returns the symbol as the command GS v 0 of ESC/POS, the language of receipt printers. The arguments, errors and warnings are
         those of zpl."""
-        _no_more("escpos", "", wrong, others, "scale", "margin", "mm", "dpi")
-        return self._file("escpos", scale, margin, mm, dpi, 0, 0)
+        _no_more("escpos", "", wrong, others, "scale", "margin", "mm", "dpi", "fit_mm")
+        return self._drawn("escpos", _Sizes(scale, mm, dpi, fit_mm), margin, 0, 0)
 
     def printed_size(self, *wrong: NoReturn, mm: float, dpi: float = DPI, margin: int = 4, **others: NoReturn) -> tuple[int, float]:
         """Returns the most dots that a module can have on each side if the symbol is at most `mm` millimetres wide with its margin, and
         how wide it then is. Raises SettingsError if not even modules of one dot are narrow enough, or if a number is out of range."""
         _no_more("printed_size", "", wrong, others, "mm", "dpi", "margin")
+        return self._fitted("mm", mm, dpi, margin)
+
+    def _fitted(self, name: str, mm: float, dpi: float, margin: int) -> tuple[int, float]:
+        """Does what printed_size does. `name` is what the caller calls `mm`."""
         modules, resolution = self.side + 2 * _setting("margin", margin, 0, MARGIN_MAX), _size("dpi", dpi)
-        dots = min(int(_size("mm", mm) * resolution / MM_OF_INCH / modules + 1e-9), SCALE_MAX)
+        dots = min(int(_size(name, mm) * resolution / MM_OF_INCH / modules + 1e-9), SCALE_MAX)
         if dots == 0:
             raise SettingsError(f"{modules} modules of one dot are {MM_OF_INCH * modules / resolution:.3g} mm wide, and not {mm:.3g}")
         return dots, MM_OF_INCH * modules * dots / resolution
 
     def save(self, path: Union[str, os.PathLike[str], BinaryIO], *wrong: NoReturn, kind: Optional[str] = None, scale: Optional[int] = None,
-             margin: int = 4, mm: Optional[float] = None, dpi: Optional[float] = None, x: int = 0, y: int = 0, **others: NoReturn) -> None:
+             margin: int = 4, mm: Optional[float] = None, dpi: Optional[float] = None, x: int = 0, y: int = 0, fit_mm: Optional[float] = None,
+             **others: NoReturn) -> None:
         """Writes the drawing to a file, or to an object with a method `write` that takes bytes.
 
         kind    'png', 'svg', 'pdf', 'eps', 'txt', 'pbm', 'zpl', 'tspl' or 'escpos'; unless it is given, the end of the file's name, where .bin stands
                 for 'escpos', or 'png' for an object
-        scale, mm, dpi, x, y
-                those of the method of that name; SVG, PDF and EPS have no scale and no dpi, and a text has none of them
+        scale, mm, dpi, x, y, fit_mm
+                those of the method of that name; SVG, PDF and EPS have no scale, no dpi and no fit_mm, and a text has none of them
 
         Raises and warns as that method does, and raises SettingsError for another kind or ending.
         """
-        _no_more("save", "path, ", wrong, others, "scale", "margin", "mm", "dpi", "kind", "x", "y")
+        _no_more("save", "path, ", wrong, others, "scale", "margin", "mm", "dpi", "kind", "x", "y", "fit_mm")
         write = getattr(path, "write", None)
         ending = kind or ("png" if write else os.path.splitext(os.fspath(path))[1].lower()[1:])  # type: ignore[arg-type]
-        drawing = self._drawn(ending, scale, margin, mm, dpi, x, y)
+        drawing = self._drawn(ending, _Sizes(scale, mm, dpi, fit_mm), margin, x, y)
         if write:
             write(drawing)
             return
@@ -257,12 +308,14 @@ class Symbol:
         if kind not in ("png", "svg"):
             raise SettingsError(f"kind is 'png' or 'svg', and not {kind!r}")
         media = {"png": "image/png", "svg": "image/svg+xml"}[kind]
-        return f"data:{media};base64,{base64.b64encode(self._drawn(kind, scale, margin, mm, None, 0, 0)).decode()}"
+        return f"data:{media};base64,{base64.b64encode(self._drawn(kind, _Sizes(scale, mm), margin, 0, 0)).decode()}"
 
-    def _png(self, scale: int, margin: int, mm: Optional[float], dpi: Optional[float]) -> bytes:
-        pixels, light = _setting("scale", scale, 1, SCALE_MAX), _setting("margin", margin, 0, MARGIN_MAX)
+    def _png(self, sizes: _Sizes, margin: int) -> bytes:
+        light = _setting("margin", margin, 0, MARGIN_MAX)
+        scale, mm, dpi, _ = sizes.fitted("png", self, light)
+        pixels = _setting("scale", PIXELS if scale is None else scale, 1, SCALE_MAX)
         if mm is not None and dpi is not None:
-            raise TypeError("png: mm and dpi both say how large the picture is: one of them is given")
+            raise TypeError("png: mm and dpi both say how large the picture is: one of them is given, or fit_mm and dpi for a printer")
         width = pixels * (self.side + 2 * light)
         size = None if mm is None else _size("mm", mm)
         if dpi is not None:
@@ -273,22 +326,18 @@ class Symbol:
         _warn(light, None if size is None else size / (self.side + 2 * light))
         return self._image("png", pixels, light, _nearest(pixels_a_metre), 0, 0)
 
-    def _file(self, kind: str, scale: Optional[int], margin: int, mm: Optional[float], dpi: Optional[float], x: int, y: int) -> bytes:
+    def _file(self, kind: str, sizes: _Sizes, margin: int, x: int, y: int) -> bytes:
         """Returns the image in a format that cannot say how large it is."""
         light = _setting("margin", margin, 0, MARGIN_MAX)
-        dots, module = self._dots(kind, scale, light, mm, dpi)
-        _warn(light, None if kind == "pbm" else module)
+        dots, module = self._dots(kind, sizes, light)
+        _warn(light, None if kind == "pbm" and sizes.fit_mm is None else module)
         return self._image(kind, dots, light, 0, _setting("x", x, 0, PLACE_MAX), _setting("y", y, 0, PLACE_MAX))
 
-    def _dots(self, kind: str, scale: Optional[int], margin: int, mm: Optional[float], dpi: Optional[float]) -> tuple[int, float]:
+    def _dots(self, kind: str, sizes: _Sizes, margin: int) -> tuple[int, float]:
         """Returns how many dots of a printer a module has on each side, and how wide it is in millimetres."""
-        resolution = _size("dpi", DPI if dpi is None else dpi)
-        if scale is not None and mm is not None:
-            raise TypeError(f"{kind}: scale and mm both say how large the symbol is: one of them is given")
-        dots = DOTS if scale is None else _setting("scale", scale, 1, SCALE_MAX)
-        if mm is not None:
-            dots, _ = self.printed_size(mm=mm, dpi=resolution, margin=margin)
-        return dots, MM_OF_INCH * dots / resolution
+        scale, _, dpi, _ = sizes.fitted(kind, self, margin, "fit_mm" if sizes.mm is None else "mm")
+        dots = _setting("scale", (PIXELS if kind == "pbm" else DOTS) if scale is None else scale, 1, SCALE_MAX)
+        return dots, MM_OF_INCH * dots / _size("dpi", DPI if dpi is None else dpi)
 
     def _image(self, kind: str, scale: int, margin: int, pixels_a_metre: int, x: int, y: int) -> bytes:
         if len(self.modules) < self.side * self.side:
@@ -312,17 +361,20 @@ class Symbol:
         _warn(margin, None)
         return document
 
-    def _drawn(self, kind: str, scale: Optional[int], margin: int, mm: Optional[float], dpi: Optional[float], x: int, y: int) -> bytes:
+    def _drawn(self, kind: str, sizes: _Sizes, margin: int, x: int, y: int) -> bytes:
         if (x or y) and kind not in ("zpl", "tspl"):
             raise TypeError(ONLY_LABELS)
         if kind in ("zpl", "tspl", "escpos", "bin"):
-            return self._file("escpos" if kind == "bin" else kind, scale, margin, mm, dpi, x, y)
+            return self._file("escpos" if kind == "bin" else kind, sizes, margin, x, y)
         if kind == "png":
-            return self._png(PIXELS if scale is None else scale, margin, mm, dpi)
+            return self._png(sizes, margin)
+        mm, dpi, fit_mm = sizes.mm, sizes.dpi, sizes.fit_mm
         if kind == "pbm":
-            if mm is not None or dpi is not None:
-                raise TypeError("a PBM bitmap has no size: neither mm nor dpi is given")
-            return self._file("pbm", PIXELS if scale is None else scale, margin, None, None, 0, 0)
+            if mm is not None or (dpi is not None and fit_mm is None):
+                raise TypeError("a PBM bitmap has no size: neither mm nor dpi is given, but for fit_mm and dpi of a printer")
+            return self._file("pbm", sizes, margin, 0, 0)
+        if fit_mm is not None and kind in ("svg", "pdf", "eps", "txt"):
+            raise TypeError(f"fit_mm is for whole dots of a printer, which an image has, and not {kind}")
         if kind == "svg":
             if dpi is not None:
                 raise TypeError("an SVG document has no pixels, and so no dpi: its size is given by mm")
@@ -463,6 +515,18 @@ class Mended:
         return (self.worst_misread + self.worst_unknown) / self.changed_allowed
 
     @property
+    def unused(self) -> float:
+        """The unused error correction of ISO/IEC 15415 of the worst block, from 0.0 to 1.0, where each module that is not known counts as
+        wrong. It is 0.0 if a scanner cannot mend the symbol."""
+        return 1 - self.spent if self.scannable else 0.0
+
+    @property
+    def unused_grade(self) -> str:
+        """The grade of `unused`, from 'A' to 'D', or 'F'. It is that of one parameter of ISO/IEC 15415, and no grade of the symbol."""
+        left = 100 * (self.changed_allowed - self.worst_misread - self.worst_unknown)
+        return next((grade for grade, percent in GRADES.items() if left >= percent * self.changed_allowed), "F") if self.scannable else "F"
+
+    @property
     def spent_here(self) -> float:
         """The share of the correction that is spent for this package, from 0.0 to 1.0: a codeword with a module that is not known
         spends half as much as another wrong one."""
@@ -536,7 +600,7 @@ def _settings(version: int, level: Name, rule: Optional[Name]) -> tuple[int, int
 # What segno, python-qrcode and other packages call the options.
 OTHER_NAMES = {"error": "level", "error_correction": "level", "ec_level": "level", "ecl": "level", "mode": "rule", "encoding": "eci",
                "boost_error": "boost", "border": "margin", "quiet_zone": "margin", "box_size": "scale", "module_size": "scale",
-               "format": "kind", "xmldecl": "inline"}
+               "format": "kind", "xmldecl": "inline", "fill_color": "dark", "back_color": "light", "svgclass": "class_name"}
 
 
 def _no_more(call: str, first: str, wrong: Sequence[object], others: Mapping[str, object], *names: str) -> None:
@@ -829,28 +893,62 @@ def sheets(symbols: Union[Symbol, Iterable[Symbol]], sheet: Sheet, *wrong: NoRet
 
 
 def labels(symbols: Union[Symbol, Iterable[Symbol]], *wrong: NoReturn, kind: str = "zpl", scale: Optional[int] = None, margin: int = 4,
-           mm: Optional[float] = None, dpi: Optional[float] = None, x: int = 0, y: int = 0, **others: NoReturn) -> bytes:
+           mm: Optional[float] = None, dpi: Optional[float] = None, x: int = 0, y: int = 0, fit_mm: Optional[float] = None,
+           **others: NoReturn) -> bytes:
     """Returns a file for a printer with a label for each symbol, one after the other.
 
     symbols  any number of them, which may have different sides, or a symbol alone
     kind     'zpl', 'tspl' or 'escpos'. In TSPL the commands CLS and PRINT are around each symbol, and the printer has to know the
              size of its labels, by the command SIZE. ESC/POS has the symbols one below the other
-    scale, margin, mm, dpi, x, y
+    scale, margin, mm, dpi, x, y, fit_mm
              those of Symbol.zpl; in ESC/POS a symbol has no place on a label, and so no x and no y
 
     Raises and warns as Symbol.zpl does, and raises SettingsError for another kind.
     """
-    _no_more("labels", "symbols, ", wrong, others, "kind", "scale", "margin", "mm", "dpi", "x", "y")
+    _no_more("labels", "symbols, ", wrong, others, "kind", "scale", "margin", "mm", "dpi", "x", "y", "fit_mm")
     if kind not in LABELS:
         raise SettingsError(f"kind is 'zpl', 'tspl' or 'escpos', and not {kind!r}")
     if (x or y) and kind == "escpos":
         raise TypeError(ONLY_LABELS)
     light, place = _setting("margin", margin, 0, MARGIN_MAX), (_setting("x", x, 0, PLACE_MAX), _setting("y", y, 0, PLACE_MAX))
-    sizes = [(it, *it._dots(kind, scale, light, mm, dpi)) for it in _listed(symbols)]
+    asked = _Sizes(scale, mm, dpi, fit_mm)
+    sizes = [(it, *it._dots(kind, asked, light)) for it in _listed(symbols)]
     if sizes:
         _warn(light, min(module for _, _, module in sizes))
     before, after = (it.encode() for it in LABELS[kind])
     return b"".join(before + it._image(kind, dots, light, 0, *place) + after for it, dots, _ in sizes)
+
+
+def _coloured(document: bytes, colours: tuple[str, Optional[str]], title: Optional[str], class_name: Optional[str]) -> bytes:
+    """Returns an SVG document of black and white with other colours, a title and a class."""
+    dark, light = colours
+    head, body = document.split(b">\n<rect", 1)
+    ground, rest = body.split(b"/>", 1)
+    attributes = "" if class_name is None else f' class="{_escaped("class_name", class_name)}"'
+    inside = ">" if title is None else f' role="img">\n<title>{_escaped("title", title)}</title>'
+    ground = b"" if light is None else b"\n<rect" + ground.replace(_colours.LIGHT.encode(), light.encode()) + b"/>"
+    return head + f"{attributes}{inside}".encode() + ground + rest.replace(_colours.DARK.encode(), dark.encode(), 1)
+
+
+def _captioned(document: bytes, width: int, caption: str, colour: str) -> bytes:
+    """Returns an SVG document that is so many modules wide with a line of text below, as large as fits, and at most three modules."""
+    text, height = _escaped("caption", caption), width + CAPTION_HEIGHT
+    size = math.floor(100 * min(3.0, width / (0.6 * max(1, len(caption))))) / 100
+    drawing = document.decode().replace(f' viewBox="0 0 {width} {width}"', f' viewBox="0 0 {width} {height}"', 1)
+    drawing = drawing.replace(f' height="{width}"', f' height="{height}"', 1)
+    drawing = re.sub(r' height="([\d.]+)mm"', lambda found: f' height="{float(found[1]) / width * height:.3f}mm"', drawing, count=1)
+    line = f'<text x="{width / 2}" y="{width + 2.75}" font-family="sans-serif" font-size="{size:.2f}" text-anchor="middle" fill="{colour}">{text}</text>'
+    return drawing.replace("</svg>", f"{line}\n</svg>").encode()
+
+
+def _escaped(name: str, text: str) -> str:
+    """Returns a text for XML, without the control characters that it cannot have."""
+    if not isinstance(text, str):
+        raise TypeError(f"{name} is a text, and not of type {type(text).__name__}")
+    found = next((it for it in text if it < " " and it not in "\t\n\r" or "\ud800" <= it <= "\udfff" or it in "\ufffe\uffff"), None)
+    if found is not None:
+        raise SettingsError(f"XML cannot have the character {found!r}")
+    return text.replace("&", "&amp;").replace("<", "&lt;").replace(">", "&gt;").replace('"', "&quot;")
 
 
 def _document(symbols: list[Symbol], kind: str, margin: int, mm: Optional[float]) -> bytes:

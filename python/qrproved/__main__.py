@@ -4,53 +4,66 @@ from __future__ import annotations
 
 import argparse
 import contextlib
-import dataclasses
-import glob
 import io
+import itertools
 import os
 import sys
 import time
 import warnings
-from pathlib import Path
 from typing import TYPE_CHECKING, BinaryIO, Optional, Union
 
 import qrproved
-from qrproved import Content, EciError, Error, Gs1Error, Level, Mended, Rule, contents
-from qrproved._batch import PART, Label, Part, Settings, labels_of, largest, processors, spread, write
-from qrproved._pictures import is_picture
+from qrproved import EciError, Error, Gs1Error, Level, Rule, contents
+from qrproved._check import NOT_READABLE, check
+from qrproved._console import INPUT, PROGRAM, end_output, say
 from qrproved.contents import ContentError
-from qrproved._sources import BINARY, SourceError, decoded, encoding_of, is_text, lines_of
+from qrproved._sources import BINARY, SourceError, decoded, encoding_of, is_text
+from qrproved._stream import (DIGITS, DIGITS_OF_SHARD, LABELS_OF_ARCHIVE, Naming, Source, columns_of, labels_of, parts_of, processors, progress_of,
+                              spread)
+from qrproved.batch import BESIDE, Done, Label, Part, Settings, largest, placed, write
 
 if TYPE_CHECKING:
     from collections.abc import Iterator
 
-PROGRAM = "qrproved" if os.path.splitext(os.path.basename(sys.argv[0]))[0] == "qrproved" else "python -m qrproved"
-SOUND, READABLE, NOT_READABLE = range(3)
 KINDS = {".png": "png", ".svg": "svg", ".txt": "utf8", ".pdf": "pdf", ".eps": "eps", ".pbm": "pbm", ".zpl": "zpl", ".tspl": "tspl", ".bin": "escpos"}
 PRINTERS = tuple(qrproved.LABELS)
 ONE_FILE = ("pdf", *PRINTERS)  # of which a file may have all labels of --batch
 BINARIES = ("png", "pdf", "pbm", *PRINTERS)  # which a terminal does not show
 SUFFIXES = {"png": ".png", "svg": ".svg", "pdf": ".pdf", "eps": ".eps", "pbm": ".pbm", "zpl": ".zpl", "tspl": ".tspl", "escpos": ".bin", **dict.fromkeys(("txt", "utf8", "ascii", "asciii"), ".txt")}
-INPUT = "standard input"
+INTERRUPTED = 130  # the status of a program that a key of the terminal ends
 VERSION_OF_PAYMENTS = 13  # at most, by EPC069-12
-ERASED = f"\r{'':40}\r"  # takes the place of a line that says how far a batch is; not every console knows more
-
-
-def say(text: str) -> None:
-    print(f"qrproved: {text}", file=sys.stderr)
+ERASED = f"\r{'':70}\r"  # takes the place of a line that says how far a batch is; not every console knows more
 
 
 def batch(given: argparse.Namespace, settings: Settings, told: set[str]) -> int:
-    """Writes a symbol for each line that is not empty, each to a file of a folder or all to one file. Warnings that were told of the
-    settings are not told again of lines."""
+    """Writes a symbol for each label of a list, each to a file of a folder or of an archive, or all to one file. Warnings that were told of
+    the settings are not told again of labels."""
     is_input = given.batch == "-"
-    with sys.stdin.buffer if is_input else open(given.batch, "rb") as source:
-        lines = lines_of(source.read(), given.encoding, INPUT if is_input else given.batch)
-    if settings.is_label:
-        with opened(given.output) as file:
-            return labelled(given, settings, lines, file, told)
-    os.makedirs(given.output, exist_ok=True)
-    return labelled(given, settings, lines, io.BytesIO(), told)
+    with sys.stdin.buffer if is_input else open(given.batch, "rb") as file:
+        source = Source(file, INPUT if is_input else given.batch, given.encoding)
+        names = naming_of(given, settings, source)
+        rows = source.rows_by_columns(given.columns) if given.columns else source.rows()
+        first = list(itertools.islice(rows, 1))  # so that a list that cannot be read is refused before anything is written
+        labels = labels_of(itertools.chain(first, rows), names)
+        with Report(given, source, told) as report:
+            if settings.kind == "pdf" and settings.is_label:
+                paged(given, settings, labels, names, report)
+            elif settings.is_label:
+                with whole(given.output) as out:
+                    written(given, parts_of(labels, settings, names, False), out, report)
+            else:
+                os.makedirs(given.output, exist_ok=True)
+                written(given, parts_of(labels, settings, names, given.resume), None, report)
+        return 1 if report.faults else 0
+
+
+def naming_of(given: argparse.Namespace, settings: Settings, source: Source) -> Naming:
+    """Returns how files are named. Numbers have as many digits as the last one needs."""
+    shard, are_numbers = given.shard or (LABELS_OF_ARCHIVE if given.tar else None), given.names == "number" and "name" not in given.columns
+    digits = DIGITS_OF_SHARD if shard else DIGITS
+    if are_numbers and not shard and not settings.is_label:
+        digits = max(digits, len(str(source.count() + given.start - 1)))
+    return Naming(given.output, SUFFIXES[settings.kind], given.names == "text", given.start, digits, shard, given.tar)
 
 
 def opened(path: str) -> contextlib.AbstractContextManager[BinaryIO]:
@@ -58,67 +71,88 @@ def opened(path: str) -> contextlib.AbstractContextManager[BinaryIO]:
     return contextlib.nullcontext(sys.stdout.buffer) if path == "-" else open(path, "wb")
 
 
-def warn_of(warned: dict[str, list[int]]) -> None:
-    """Says of which lines scanners may not read the symbols: of the first, and how many there are more."""
-    for text, numbers in warned.items():
-        more = f" and {len(numbers) - 1:,} more" if len(numbers) > 1 else ""
-        say(f"line {numbers[0]}{more}: {text}")
+@contextlib.contextmanager
+def whole(path: str) -> Iterator[BinaryIO]:
+    """Opens the file of all labels, which has its name when it is whole; or standard output, or a device."""
+    if path == "-" or (os.path.exists(path) and not os.path.isfile(path)):
+        with opened(path) as file:
+            yield file
+            file.flush()
+        return
+    path = os.path.realpath(path)
+    with placed(path + BESIDE, path), open(path + BESIDE, "wb") as file:
+        yield file
 
 
-def labelled(given: argparse.Namespace, settings: Settings, lines: list[Union[str, bytes]], file: BinaryIO, told: set[str]) -> int:
-    """Writes a symbol for each line that is not empty, and those that are in one file to `file`."""
-    faults = 0
-    for number, line in enumerate(lines, 1):
-        if isinstance(line, str) and not is_text(line):
-            why = f"it is no text in {given.encoding}" if given.encoding else "it is no UTF-8: --encoding names another encoding"
-            say(f"line {number}: {why}")
-            lines[number - 1] = ""
-            faults += 1
-    labels = labels_of(lines, given.output, SUFFIXES[settings.kind], given.names == "text")
-    if settings.kind == "pdf" and settings.is_label:
-        faults += paged(given, settings, labels, file, told)
-    else:
-        faults += shared(given, settings, labels, file, told)
-    file.flush()
-    return 1 if faults else 0
-
-
-def parts_of(settings: Settings, labels: list[Label]) -> list[Part]:
-    return [Part(settings, labels[start:start + PART]) for start in range(0, len(labels), PART)]
-
-
-def paged(given: argparse.Namespace, settings: Settings, labels: list[Label], file: BinaryIO, told: set[str]) -> int:
-    """Writes a PDF with a page for each label, all of the version of the largest, and returns how many are missing."""
-    version = max(spread(largest, parts_of(settings, labels), given.jobs or processors()), default=0)
+def paged(given: argparse.Namespace, settings: Settings, labels: Iterator[tuple[str, Label]], names: Naming, report: Report) -> None:
+    """Writes a PDF with a page for each label, all of the version of the largest."""
+    listed = list(itertools.islice(labels, qrproved.LABELS_MAX + 1))  # which are refused if they are one more
+    version = max(spread(largest, parts_of(listed, settings, names, False), given.jobs or processors()), default=0)
     modules = io.BytesIO()
-    faults = shared(given, settings._replace(version=max(version, settings.version)), labels, modules, told)
-    if modules.tell():
-        file.write(qrproved._pages(modules.getvalue(), 17 + 4 * version, settings.margin, settings.mm))
-    return faults
+    written(given, parts_of(listed, settings._replace(version=max(version, settings.version)), names, False), modules, report)
+    with whole(given.output) as out:
+        if modules.tell():
+            out.write(qrproved._pages(modules.getvalue(), 17 + 4 * version, settings.margin, settings.mm))
 
 
-def shared(given: argparse.Namespace, settings: Settings, labels: list[Label], file: BinaryIO, told: set[str]) -> int:
-    """Writes the labels, each part by a process that is free, says how far it is, and returns how many are missing."""
-    faults, warned = 0, {}
-    start, done, is_shown = time.monotonic(), 0, sys.stderr.isatty()
-    for part in spread(write, parts_of(settings, labels), given.jobs or processors()):
-        file.write(part.file)
-        done += part.count
-        faults += len(part.faults)
-        for number, text in part.warned:
-            if text not in told:
-                warned.setdefault(text, []).append(number)
-        if is_shown:
-            print(ERASED if part.faults else "\r", end="", file=sys.stderr)
-        for fault in part.faults:
-            say(fault)
-        if is_shown:
-            print(f"qrproved: {done:,} of {len(labels):,}", end="", file=sys.stderr, flush=True)
-    if is_shown:
-        print(f"\rqrproved: {len(labels) - faults:,} labels in {time.monotonic() - start:.1f} s", file=sys.stderr)
-    if not given.quiet:
-        warn_of(warned)
-    return faults
+def written(given: argparse.Namespace, parts: Iterator[Part], out: Optional[BinaryIO], report: Report) -> None:
+    """Writes the parts, each by a process that is free, and those of one file to `out`."""
+    for done in spread(write, parts, given.jobs or processors()):
+        if out is not None:
+            out.write(done.file)
+        report.add(done)
+
+
+class Report:
+    """What is said of a batch: its faults as they come, how far it is, and at its end what scanners may not read."""
+
+    def __init__(self, given: argparse.Namespace, source: Source, told: set[str]) -> None:
+        self.is_quiet, self.source, self.told = given.quiet, source, told
+        self.count = self.skipped = self.faults = self.written = 0  # those that are written since the start of the clock
+        self.warned: dict[str, list[int]] = {}  # of each text the first line, and how many lines there are
+        self.path, self.file = given.faults, None if given.faults is None else open(given.faults, "w", encoding="utf-8", newline="\n")
+        self.is_shown, self.begun = sys.stderr.isatty(), time.monotonic()
+        self.start, self.first_share = self.begun, source.share() or 0.0
+
+    def __enter__(self) -> Report:
+        return self
+
+    def add(self, done: Done) -> None:
+        share = self.source.share()
+        self.written += done.count - done.skipped
+        if done.skipped == done.count:  # what is skipped says nothing of the time that is left
+            self.start, self.first_share, self.written = time.monotonic(), share or 0.0, 0
+        self.count += done.count
+        self.skipped += done.skipped
+        self.faults += len(done.faults)
+        if self.is_shown and done.faults:
+            print(ERASED, end="", file=sys.stderr)
+        for line, why in done.faults:
+            if self.file is None:
+                say(f"line {line}: {why}")
+            else:
+                print(line, why, sep="\t", file=self.file, flush=True)
+        for line, text in done.warned:
+            if text not in self.told:
+                self.warned.setdefault(text, [line, 0])[1] += 1
+        if self.is_shown:
+            said = progress_of(self.count, self.written, time.monotonic() - self.start, self.first_share, share)
+            print(f"{ERASED}qrproved: {said}", end="", file=sys.stderr, flush=True)
+
+    def __exit__(self, kind: Optional[type[BaseException]], *_: object) -> None:
+        if self.file is not None:
+            self.file.close()
+        if self.is_shown:
+            print(ERASED, end="", file=sys.stderr)
+        if kind is not None:
+            return
+        if self.is_shown:
+            skipped = f", and {self.skipped:,} were there" if self.skipped else ""
+            say(f"{self.count - self.faults - self.skipped:,} labels in {time.monotonic() - self.begun:.1f} s{skipped}")
+        if self.file is not None and self.faults:
+            say(f"{self.faults:,} label{'s are' if self.faults != 1 else ' is'} missing; {self.path} has the lines and the reasons")
+        for text, (line, count) in self.warned.items() if not self.is_quiet else ():
+            say(f"line {line}{f' and {count - 1:,} more' if count > 1 else ''}: {text}")
 
 
 def text_of(data: bytes) -> Union[str, bytes]:
@@ -155,160 +189,14 @@ def one(given: argparse.Namespace, settings: Settings) -> int:
         data = data.rstrip("\r\n") if isinstance(data, str) else data.rstrip(b"\r\n")
     symbols = settings.encoded(data)
     drawing = settings.drawn(symbols)
-    if settings.kind in PRINTERS and settings.mm is not None and not given.quiet:
-        dots, width = symbols[0].printed_size(mm=settings.mm, dpi=settings.dpi or qrproved.DPI, margin=settings.margin)
+    most = settings.mm if settings.fit_mm is None and settings.kind in PRINTERS else settings.fit_mm
+    if most is not None and not given.quiet:
+        dots, width = symbols[0].printed_size(mm=most, dpi=settings.dpi or qrproved.DPI, margin=settings.margin)
         say(f"{width:.3f} mm wide with its margin, and {dots} {'dots' if dots > 1 else 'dot'} a module")
     with opened(given.output or "-") as file:
         file.write(drawing)
         file.flush()
     return 0
-
-
-def is_mirrored(modules: bytes, side: int) -> bool:
-    """Whether a square that cannot be read is that of a symbol with rows and columns exchanged, whose finder patterns are in place."""
-    try:
-        qrproved.mend(b"".join(modules[column:side * side:side] for column in range(side)), side)
-    except Error:
-        return False
-    return True
-
-
-def said_of(content: Content) -> Iterator[str]:
-    """Yields lines that say what a symbol contains, and how its bytes are to be interpreted."""
-    for eci in content.ecis:
-        yield f"ECI {eci.number} from byte {eci.begin} on"
-    if content.application is not None:
-        yield f"data of the application {content.application}"
-    if content.gs1:
-        try:
-            yield f"GS1 data {''.join(f'({name}){value}' for name, value in content.fields())}"
-        except Gs1Error as fault:
-            yield f"GS1 data, but {fault}"
-    try:
-        shown = content.text()
-        if not shown.isprintable():
-            shown = ascii(shown) if "'" in shown else repr(shown)
-    except ValueError:
-        shown = repr(content.data)
-    yield f"contains {shown}"
-
-
-def state_of(it: Mended) -> tuple[int, str]:
-    """Returns the status of a symbol and what it means. The share that is spent is rounded up, so that 100 % says that all is."""
-    share = -(-100 * (it.worst_misread + it.worst_unknown) // it.changed_allowed)
-    if it.is_sound:
-        return SOUND, "sound"
-    if it.scannable:
-        return READABLE, f"readable, {share} % of its correction spent"
-    why = f"{share} % of its correction spent" if share > 100 else "its format information is damaged too much"
-    return NOT_READABLE, f"read here, but scanners will not: {why}"
-
-
-def mended_of(modules: bytes, side: int) -> Union[Mended, str]:
-    """Returns a symbol, or why it cannot be read."""
-    try:
-        return qrproved.mend(modules, side)
-    except Error as fault:
-        return "the symbol is mirrored" if is_mirrored(modules, side) else str(fault)
-
-
-def with_kanji(all_mended: list[Union[Mended, str]]) -> list[Union[Mended, str]]:
-    """Returns symbols of which each that is in a series with kanji has kanji too: what is joined has one encoding."""
-    headers = [it.content.header for it in all_mended if isinstance(it, Mended) and it.content.kanji]
-    series = {(it.last, it.parity) for it in headers if it}
-    return [dataclasses.replace(it, content=dataclasses.replace(it.content, kanji=True))
-            if isinstance(it, Mended) and it.content.header and it.content.header[1:] in series else it for it in all_mended]
-
-
-def verdict(modules: bytes, it: Union[Mended, str]) -> tuple[int, list[str]]:
-    """Returns the status of a symbol, and what it contains and how much of its correction is spent."""
-    unknown = modules.count(2)
-    of_unknown = f"{unknown} {'module is' if unknown == 1 else 'modules are'} not known"
-    if isinstance(it, str):
-        return NOT_READABLE, [f"not readable: {it}" + (f"; {of_unknown}" if unknown else "")]
-    status, state = state_of(it)
-    lines = [f"{state}: {it.content.version}-{it.level.name}, mask {it.mask}"]
-    if it.content.header:
-        lines.append(f"symbol {it.content.header.position + 1} of {it.content.header.last + 1} of its series")
-    if unknown:
-        lines.append(f"{of_unknown}, and their codewords count as wrong")
-    return status, lines + list(said_of(it.content))
-
-
-def squares_of(data: bytes) -> list[tuple[bytes, int]]:
-    """Returns the modules and the side of each symbol of a drawing or of a picture. Raises ValueError if there is none."""
-    try:
-        return qrproved.parse_drawing(data)
-    except ValueError as fault:
-        if is_picture(data):
-            return qrproved.parse_picture(data)
-        if not isinstance(fault, UnicodeDecodeError):
-            raise
-        raise ValueError("it is no PNG picture, no SVG document and no text in UTF-8") from None
-
-
-def checked(data: bytes) -> tuple[int, list[str]]:
-    """Returns the greatest status of the symbols of a picture or of a drawing, and what is said of them."""
-    try:
-        squares = squares_of(data)
-    except ValueError as fault:
-        return NOT_READABLE, [f"not readable: {fault}"]
-    all_mended = with_kanji([mended_of(*it) for it in squares])
-    verdicts = [verdict(modules, it) for (modules, _), it in zip(squares, all_mended)]
-    lines = [line for _, said in verdicts for line in said]
-    if isinstance(squares, qrproved.Drawn) and squares.drawing is None:
-        lines.append("found by its look: the text is damaged, or another program drew it")
-    return max(status for status, _ in verdicts), lines
-
-
-def is_printed(lines: list[str]) -> bool:
-    """Prints lines, and returns whether anybody reads them: a program like head ends before them."""
-    try:
-        print("\n".join(lines), flush=True)
-    except BrokenPipeError:
-        end_output()
-        return False
-    return True
-
-
-def end_output() -> None:
-    """Sends nowhere what cannot be written, so that the interpreter does not try it again when it ends, and complain."""
-    try:
-        sys.stdout.flush()
-    except OSError:
-        with contextlib.suppress(OSError):  # of a stream that is no file
-            os.dup2(os.open(os.devnull, os.O_WRONLY), sys.stdout.fileno())
-
-
-def named(paths: list[str]) -> list[str]:
-    """Returns the files that arguments name. On Windows a pattern such as *.png comes here as it is, since no shell has replaced it."""
-    if sys.platform != "win32":
-        return paths
-    return [it for path in paths for it in ([] if os.path.exists(path) else sorted(glob.glob(path))) or [path]]
-
-
-def check(words: list[str]) -> int:
-    """Checks the symbols of pictures or of drawings as text, and returns the greatest status."""
-    parser = argparse.ArgumentParser(prog=f"{PROGRAM} check", description="Checks the symbols of PNG pictures, of SVG documents or of"
-                                     " drawings in ASCII or in UTF8. They are upright; photographs are not read. The status is 0 if each is"
-                                     " sound, 1 if scanners can read each, and 2 otherwise. Of several files the name stands before what is"
-                                     " said of each.")
-    parser.add_argument("file", nargs="*", default=["-"], help="files with pictures or drawings; without one, standard input")
-    files, status = named(parser.parse_args(words).file), SOUND
-    if isinstance(sys.stdout, io.TextIOWrapper):
-        sys.stdout.reconfigure(errors="backslashreplace")  # of characters that the terminal's encoding has not
-    for path in files:
-        try:
-            data = sys.stdin.buffer.read() if path == "-" else Path(path).read_bytes()
-        except OSError as fault:
-            say(str(fault))
-            status = NOT_READABLE
-            continue
-        found, lines = checked(data)
-        status = max(status, found)
-        if not is_printed(lines if len(files) == 1 else [f"{path}:", *(f"  {line}" for line in lines)]):
-            break
-    return status
 
 
 def is_one_file(path: str, kind: Optional[str]) -> bool:
@@ -334,6 +222,8 @@ def add_drawing(parser: argparse.ArgumentParser, of_batch: str) -> None:
                         " of --scale, the most that it may be wide")
     parser.add_argument("--dpi", type=float, metavar="N", help="in place of --mm, the pixels of an inch of a PNG; the dots of an inch of a printer;"
                         " 203")
+    parser.add_argument("--fit-mm", type=float, metavar="N", help="in place of --mm and --scale, the most that a PNG, a PBM or a label may be wide"
+                        " with its margin, in millimetres: a module has as many whole dots of a printer with --dpi dots an inch as fit")
     parser.add_argument("-x", type=int, default=0, metavar="N", help="how far the symbol is from the left edge of a label, in dots; 0")
     parser.add_argument("-y", type=int, default=0, metavar="N", help="how far it is from the upper edge")
     parser.add_argument("-q", "--quiet", action="store_true", help="do not warn of small margins and modules, nor of bytes"
@@ -368,7 +258,8 @@ def of_content(kind: str, words: list[str]) -> argparse.Namespace:
             parser.add_argument(f"--{name}", dest=f"field_{name}", action="append", metavar=metavar, help=spec["help"] + more)
     add_drawing(parser, "")
     parser.add_argument("--bytes", action="store_true", help="encode the whole input in byte mode")
-    parser.set_defaults(text=None, batch=None, gs1=False, encoding=None, names="number", jobs=None)
+    parser.set_defaults(text=None, batch=None, gs1=False, encoding=None, names="number", jobs=None, columns=None, start=1, shard=None, tar=False,
+                        resume=False, faults=None)
     if kind == "payment":
         parser.set_defaults(**contents.PAYMENT, kanji=False)
     else:
@@ -411,6 +302,15 @@ def parsed(words: list[str]) -> argparse.Namespace:
                         " all get the version of the largest")
     parser.add_argument("--names", choices=["number", "text"], default="number", help="how --batch names files: by number")
     parser.add_argument("--jobs", type=int, metavar="N", help="processes of --batch; one for each processor")
+    parser.add_argument("--columns", nargs="*", metavar="KIND=NAME", help="the file of --batch has columns, by commas, semicolons or tabs, and names"
+                        " in its first line: text=NAME is the column to encode, name=NAME that of the names of files, and caption=NAME that of texts"
+                        " below the symbols of SVG. Without KIND=NAME there are columns called text and name")
+    parser.add_argument("--start", type=int, default=1, metavar="N", help="the number of the first label of --batch; 1")
+    parser.add_argument("--shard", type=int, metavar="N", help="--batch writes folders with so many labels each, named by their first one")
+    parser.add_argument("--tar", action="store_true", help=f"--batch writes tar archives in place of folders, with {LABELS_OF_ARCHIVE:,} labels"
+                        " unless --shard says how many")
+    parser.add_argument("--resume", action="store_true", help="--batch skips files and archives that are there, as after an interruption")
+    parser.add_argument("--faults", metavar="FILE", help="--batch writes the lines that cannot be drawn to this file, each with a tab and the reason")
     parser.set_defaults(content=None)
     return completed(parser, parser.parse_args(words))
 
@@ -434,6 +334,7 @@ def completed(parser: argparse.ArgumentParser, given: argparse.Namespace) -> arg
     given.is_one_file = given.batch is not None and given.type in ONE_FILE and is_one_file(given.output, given.kind)
     if given.is_one_file and given.names == "text":
         parser.error("--names is of the files of a folder, and all labels go to one file")
+    check_list(parser, given)
     if (given.batch is None or given.is_one_file) and given.output in (None, "-") and given.type in BINARIES and sys.stdout.isatty():
         parser.error(f"{given.type} is not written to a terminal: name a file by -o")
     if given.series:
@@ -441,10 +342,15 @@ def completed(parser: argparse.ArgumentParser, given: argparse.Namespace) -> arg
             parser.error("--series needs the version of its symbols, as in -v 5, and is of one text and not of --batch")
         if given.type in ("png", "pbm"):
             parser.error(f"a {given.type.upper()} has one symbol: a series is written as SVG, PDF, EPS, text or for a printer")
+    if given.fit_mm is not None and given.type not in ("png", "pbm", *PRINTERS):
+        parser.error("--fit-mm is for whole dots of a printer, which a PNG, a PBM and the files for printers have")
+    if given.fit_mm is not None and (given.mm is not None or given.scale is not None):
+        parser.error("--fit-mm stands in place of --mm and --scale")
     if given.type not in PRINTERS:
         if given.mm is not None and (given.dpi is not None or given.type not in ("png", "svg", "pdf", "eps")):
-            parser.error("--mm is the width of a PNG, an SVG, a PDF or an EPS, and --dpi stands in its place")
-        if given.dpi is not None and given.type != "png":
+            parser.error("--mm is the width of a PNG, an SVG, a PDF or an EPS, and --dpi stands in its place; --fit-mm and --dpi are for whole"
+                         " dots of a printer")
+        if given.dpi is not None and given.type != "png" and given.fit_mm is None:
             parser.error("--dpi is of a PNG or of a printer")
     elif given.mm is not None and given.scale is not None:
         parser.error("--mm and --scale both say how large the symbol is")
@@ -453,6 +359,25 @@ def completed(parser: argparse.ArgumentParser, given: argparse.Namespace) -> arg
     if given.gs1 and given.eci is not None:
         parser.error("GS1 data have no ECI header")
     return given
+
+
+def check_list(parser: argparse.ArgumentParser, given: argparse.Namespace) -> None:
+    """Ends the program with the fault of an option of --batch, and takes the columns apart."""
+    if given.start < 1 or (given.shard is not None and given.shard < 1):
+        parser.error("--start and --shard are numbers from 1 on")
+    of_files = {"--shard": given.shard is not None, "--tar": given.tar, "--resume": given.resume, "--start": given.start > 1}
+    of_batch = {**of_files, "--columns": given.columns is not None, "--faults": given.faults is not None}
+    for name, is_given in of_batch.items() if given.batch is None else of_files.items() if given.is_one_file else ():
+        if is_given:
+            parser.error(f"{name} is of --batch" + (", and of the files of a folder: all labels go to one file" if given.batch is not None else ""))
+    if given.columns is not None and given.encoding == BINARY:
+        parser.error("--columns are those of a text, and bytes have none")
+    try:
+        given.columns = columns_of(given.columns)
+    except SourceError as fault:
+        parser.error(str(fault))
+    if "caption" in given.columns and given.type != "svg":
+        parser.error("only an SVG has a caption: -t svg")
 
 
 def main(words: Optional[list[str]] = None) -> int:
@@ -469,7 +394,7 @@ def main(words: Optional[list[str]] = None) -> int:
         rule = Rule.BYTES_ONLY if given.bytes else Rule.WITH_KANJI if given.kanji else None
         version = 1 if given.version is None else given.version
         settings = Settings(given.type, version, Level[given.level], rule, given.margin, given.scale, given.mm, given.dpi,
-                            given.eci, given.gs1, given.boost, given.x, given.y, given.series, given.is_one_file)
+                            given.eci, given.gs1, given.boost, given.x, given.y, given.series, given.is_one_file, given.fit_mm)
         told = set()  # the warnings that were said
 
         def warn(message: Union[Warning, str], *_: object) -> None:
@@ -488,6 +413,9 @@ def main(words: Optional[list[str]] = None) -> int:
     except BrokenPipeError:
         end_output()
         return 1
+    except KeyboardInterrupt:
+        say("interrupted")
+        return INTERRUPTED
     except (ContentError, Error, EciError, Gs1Error, SourceError, OSError) as fault:
         say(str(fault))
         end_output()

@@ -284,6 +284,14 @@ def _symbols(rows: Rows) -> list[tuple[bytes, int]]:
     return [(_modules(picture, box), box.side) for box in good]
 
 
+def squares_of_rows(rows: Rows) -> list[tuple[bytes, int]]:
+    """Returns what parse_picture does, of rows of pixels."""
+    found = _symbols(rows)
+    if not found:
+        raise ValueError("no upright symbol is found in the picture")
+    return found
+
+
 def is_picture(data: bytes) -> bool:
     """Whether some bytes begin as a PNG picture or an SVG document does."""
     return data.startswith(_png.SIGNATURE) or data.lstrip(b"\xef\xbb\xbf \t\r\n").startswith(b"<")

@@ -2,9 +2,16 @@
 from __future__ import annotations
 
 import codecs
+import itertools
 import re
-from typing import Optional, Union
+import sys
+from collections.abc import Iterator
+from typing import AnyStr, BinaryIO, Optional, Union
 
+LINE_MAX = 1 << 20  # of which no label has as many characters
+CHUNK = 1 << 16  # bytes that are read at once
+# The byte order marks of encodings that have either order.
+MARKED = {"utf-16": (codecs.BOM_UTF16_LE, codecs.BOM_UTF16_BE), "utf-32": (codecs.BOM_UTF32_LE, codecs.BOM_UTF32_BE)}
 BINARY = "binary"  # in place of an encoding: bytes that are taken as they are
 UTF_8 = "utf-8"
 # What stands for bytes that are no characters. An encoding of texts has no such character.
@@ -43,12 +50,16 @@ def utf_16_of(data: bytes) -> Optional[str]:
     return None
 
 
+def _in_utf_16(source: str, found: str) -> SourceError:
+    return SourceError(f"{source} is in UTF-16: save it as UTF-8, or add --encoding {found}")
+
+
 def decoded(data: bytes, encoding: Optional[str], source: str) -> str:
     """Returns the text of a source without its byte order mark, with a MARK for bytes that are no characters. Without an encoding it
     is UTF-8, and what seems to be UTF-16 is refused. Raises SourceError."""
     found = utf_16_of(data) if encoding is None else None
     if found is not None:
-        raise SourceError(f"{source} is in UTF-16: save it as UTF-8, or add --encoding {found}")
+        raise _in_utf_16(source, found)
     try:
         text = data.decode(encoding or UTF_8, CODEC_ERRORS)
     except UnicodeError:  # of a codec that does not say which bytes are wrong
@@ -61,13 +72,42 @@ def is_text(text: str) -> bool:
     return MARKS.search(text) is None
 
 
-def lines_of(data: bytes, encoding: Optional[str], source: str) -> list[Union[str, bytes]]:
-    """Returns the lines of a source, without the ends of lines: as bytes if the encoding is BINARY. Raises SourceError."""
-    lines: list[Union[str, bytes]]
+def lines_in(file: BinaryIO, encoding: Optional[str], source: str) -> Iterator[Union[str, bytes]]:
+    """Returns the lines of a file, without the line feeds at their ends: as bytes if the encoding is BINARY. The file is read as the lines are taken.
+    Raises SourceError, if the encoding is wrong at the first line or later."""
+    head = file.readline(LINE_MAX)
+    found = utf_16_of(head) if encoding is None else None
+    if found is not None:
+        raise _in_utf_16(source, found)
+    if encoding in MARKED and not head.startswith(MARKED[encoding]):
+        encoding += "-le" if sys.byteorder == "little" else "-be"  # which its decoder does not take for granted
+    chunks = itertools.chain([head], iter(lambda: file.read1(CHUNK), b""))  # type: ignore[attr-defined]
     if encoding == BINARY:
-        lines = [line.rstrip(b"\r") for line in data.split(b"\n")]
-    else:
-        lines = [line.rstrip("\r") for line in decoded(data, encoding, source).split("\n")]
-    if not lines[-1]:
-        lines.pop()
-    return lines
+        return _split(chunks, b"\n")
+    return _split(_texts(chunks, encoding, source), "\n")
+
+
+def _texts(chunks: Iterator[bytes], encoding: Optional[str], source: str) -> Iterator[str]:
+    """Yields a text piece by piece, without its byte order mark, with a MARK for bytes that are no characters."""
+    decoder, is_first = codecs.getincrementaldecoder(encoding or UTF_8)(CODEC_ERRORS), True
+    try:
+        for chunk in itertools.chain(chunks, [None]):
+            text = decoder.decode(chunk) if chunk is not None else decoder.decode(b"", True)
+            if text:
+                yield text[1:] if is_first and text.startswith("\ufeff") else text
+                is_first = False
+    except UnicodeError:
+        raise SourceError(f"{source} is no text in {encoding}") from None
+
+
+def _split(pieces: Iterator[AnyStr], end: AnyStr) -> Iterator[AnyStr]:
+    """Yields the lines of a text or of bytes. Of a line that is longer than LINE_MAX the rest is left out."""
+    rest = end[:0]
+    for piece in pieces:
+        first, *others = piece.split(end)
+        rest += first[:max(0, LINE_MAX - len(rest))]
+        for other in others:
+            yield rest
+            rest = other
+    if rest:
+        yield rest

@@ -8,16 +8,15 @@ from collections.abc import Iterator
 from typing import NamedTuple, Optional
 from xml.etree import ElementTree
 
+from ._common import DATA
+
 FINE = 1000  # steps of a unit of length that are told apart
 PIXELS_MAX = 2000  # on a side; a finer document is drawn coarser
 NUMBER = r"[-+]?(?:\d+\.?\d*|\.\d+)(?:[eE][-+]?\d+)?"
 UNITS = {"": 1.0, "px": 1.0, "pt": 4 / 3, "pc": 16.0, "mm": 96 / 25.4, "cm": 960 / 25.4, "in": 96.0}  # of CSS 2.1, in pixels
 LENGTH = re.compile(rf"\s*({NUMBER})({'|'.join(UNITS)})\s*")
 PATH = re.compile(rf"([A-Za-z])|({NUMBER})|([\s,]+)|(.)")
-# The names of CSS 2.1.
-NAMES = {"black": "000000", "silver": "c0c0c0", "gray": "808080", "grey": "808080", "white": "ffffff", "maroon": "800000", "red": "ff0000",
-         "purple": "800080", "fuchsia": "ff00ff", "green": "008000", "lime": "00ff00", "olive": "808000", "yellow": "ffff00",
-         "navy": "000080", "blue": "0000ff", "teal": "008080", "aqua": "00ffff", "orange": "ffa500", "currentcolor": "000000"}
+NAMES = {**DATA["colours"], "currentcolor": "000000"}
 SILENT = {"title", "desc", "metadata", "defs", "text"}
 
 

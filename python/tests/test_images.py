@@ -149,7 +149,7 @@ class Images(unittest.TestCase):
                              ({"mm": 20, "scale": 3}, TypeError), ({"border": 3}, TypeError)):
             with self.assertRaises(fault, msg=wrong):
                 qrproved.labels(few, **wrong)
-        with self.assertRaisesRegex(TypeError, "kind, scale, margin, mm, dpi, x and y are given by name"):
+        with self.assertRaisesRegex(TypeError, "kind, scale, margin, mm, dpi, x, y and fit_mm are given by name"):
             qrproved.labels(few, "zpl")
         with warnings.catch_warnings(record=True) as said:
             warnings.simplefilter("always")
@@ -172,6 +172,66 @@ class Images(unittest.TestCase):
             symbol.escpos(mm=3)
         with self.assertRaises(TypeError):
             symbol.tspl(mm=20, scale=4)
+
+    def test_colours(self):
+        symbol = qrproved.encode("Shelf 12")
+        plain = symbol.svg().decode()
+        self.assertEqual(symbol.svg(dark="#000", light="WHITE").decode(), plain)
+        self.assertEqual(symbol.svg(dark="Navy", light="#FfE").decode(), plain.replace("#000000", "#000080").replace("#ffffff", "#ffffee"))
+        clear = re.sub("<rect[^>]*>\n", "", plain)
+        self.assertEqual(symbol.svg(light=None).decode(), clear)
+        self.assertEqual(symbol.svg(dark="#fff", light="#000", inverse=True).decode(),
+                         plain.replace("#ffffff", "#x").replace("#000000", "#ffffff").replace("#x", "#000000"))
+        self.assertEqual(symbol.svg(dark="yellow", light=None, inverse=True, inline=True).decode(), clear.replace("#000000", "#ffff00").split("\n", 1)[1])
+        titled = plain.replace(' shape-rendering="crispEdges">', ' shape-rendering="crispEdges" class="a &quot;b&quot;" role="img">\n<title>A &amp; &lt;B&gt; \U0001f600</title>')
+        self.assertEqual(symbol.svg(title="A & <B> \U0001f600", class_name='a "b"').decode(), titled)
+        self.assertEqual(symbol.svg(mm=29, title="A").decode(), symbol.svg(mm=29).decode().replace('crispEdges">', 'crispEdges" role="img">\n<title>A</title>'))
+        for named in ({"dark": "navy", "light": "#ffe", "title": "A"}, {"light": None, "mm": 20}, {"dark": "yellow", "light": "black", "inverse": True}, {"caption": "A", "mm": 20}):
+            self.assertEqual(qrproved.parse_picture(symbol.svg(**named)), [(symbol.modules, symbol.side)], named)
+        below = '<text x="14.5" y="31.75" font-family="sans-serif" font-size="3.00" text-anchor="middle" fill="#000000">A &amp; $1</text>\n</svg>'
+        self.assertEqual(symbol.svg(caption="A & $1").decode(),
+                         plain.replace('viewBox="0 0 29 29"', 'viewBox="0 0 29 33"').replace('height="29"', 'height="33"').replace("</svg>", below))
+        self.assertRegex(symbol.svg(caption="x" * 29, mm=29).decode(), '(?s) width="29\\.000mm" height="33\\.000mm" viewBox="0 0 29 33" .* font-size="1\\.66"')
+        # WCAG 2.1: #949494 on white has a contrast of 3.03, and #959595 one of 2.99
+        symbol.svg(dark="#949494")
+        for wrong in ({"dark": "#959595"}, {"light": "#123456"}, {"dark": "#fff", "light": "#000"}, {"inverse": True}, {"dark": "yellow", "light": None},
+                      {"light": None, "inverse": True}, {"dark": "#12"}, {"dark": "rebeccapurple"}, {"title": "a\x01"}, {"class_name": "\ud800"}):
+            with self.assertRaises(SettingsError, msg=wrong):
+                symbol.svg(**wrong)
+        for wrong in ({"dark": None}, {"dark": 0}, {"inverse": 1}, {"title": 3}, {"caption": b"A"}, {"class_name": b"a"}, {"class": "a"}):
+            with self.assertRaises(TypeError, msg=wrong):
+                symbol.svg(**wrong)
+
+    def test_whole_dots(self):
+        symbol = qrproved.encode("Shelf 12")
+        # 20 mm have 159.8 dots of 203 an inch, and so 5 for each of 29 modules
+        self.assertEqual(symbol.png(fit_mm=20), symbol.png(scale=5, dpi=203))
+        self.assertEqual(symbol.png(fit_mm=12, dpi=600), symbol.png(scale=9, dpi=600))
+        self.assertEqual(symbol.pbm(fit_mm=20, dpi=203), symbol.pbm(scale=5))
+        for kind in ("zpl", "tspl", "escpos"):
+            self.assertEqual(getattr(symbol, kind)(fit_mm=20, dpi=300), getattr(symbol, kind)(scale=8))
+        self.assertEqual(qrproved.labels([symbol], fit_mm=20), symbol.zpl(scale=5))
+        for kind, file in (("png", symbol.png(scale=5, dpi=203)), ("pbm", symbol.pbm(scale=5)), ("bin", symbol.escpos(scale=5))):
+            saved = io.BytesIO()
+            symbol.save(saved, kind=kind, fit_mm=20, dpi=203)
+            self.assertEqual(saved.getvalue(), file, kind)
+        for kind, wrong in (("png", {"scale": 4}), ("png", {"mm": 20}), ("zpl", {"scale": 4}), ("tspl", {"mm": 20}), ("pbm", {"scale": 4})):
+            with self.assertRaisesRegex(TypeError, "and (fit_mm|mm) both say how large the symbol is"):
+                getattr(symbol, kind)(fit_mm=20, **wrong)
+        for kind in ("svg", "pdf", "eps", "txt"):
+            with self.assertRaisesRegex(TypeError, "whole dots of a printer"):
+                symbol.save(io.BytesIO(), kind=kind, fit_mm=20)
+        for wrong in ({"dpi": 203}, {"mm": 20}):
+            with self.assertRaises(TypeError):
+                symbol.save(io.BytesIO(), kind="pbm", **wrong)
+        with self.assertRaisesRegex(SettingsError, "29 modules of one dot are 3.63 mm wide, and not 3"):
+            symbol.png(fit_mm=3)
+        with self.assertRaisesRegex(SettingsError, "fit_mm is more than 0"):
+            symbol.png(fit_mm=0)
+        with warnings.catch_warnings(record=True) as said:
+            warnings.simplefilter("always")
+            symbol.pbm(fit_mm=4)
+        self.assertEqual([str(it.message) for it in said], ["modules of 0.125 mm: under 0.25 mm few scanners read them"])
 
     def test_warnings(self):
         symbol = qrproved.encode("Shelf 12")

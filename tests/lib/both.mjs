@@ -50,7 +50,7 @@ const CALLS = {
     return [qr.draw(symbols, { type, margin }), mm === null ? null : symbols[0].svg({ margin, mm, quiet: true })];
   },
   file: (asked) => {
-    const symbols = encoded(asked), { kind, isSeries, chosen } = asked, options = { ...chosen, quiet: true };
+    const symbols = encoded(asked), { kind, isSeries, chosen: { fit_mm: fitMm, ...chosen } } = asked, options = { ...chosen, ...(fitMm === undefined ? {} : { fitMm }), quiet: true };
     if (kind === 'size') return Object.values(symbols[0].printedSize(chosen));
     if (!isSeries) return hashOf(symbols[0][kind](options));
     if (asked.sheet) return hashOf(qr.sheetsOf(symbols, asked.sheet, options));
