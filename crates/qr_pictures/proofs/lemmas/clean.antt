@@ -60,13 +60,15 @@ found p f t h is =
     let g : Grid = square f.side dark in
     let same : (r c : ℕ) → r < f.side → c < f.side → colour g r c ≡ dark r c = colour-square f.side dark in
     let to : Turned t f.side (colour g) (sampled p f) = λ r c l m. sym (turned-same t f.side (colour g) dark r c same l m ∙ turned-back t f.side (sampled p f) r c l m) in
-    let read = turn-read t f.side (colour g) (sampled p f) h.frame.least to same is in
-    (g, record {
-      square = square-same f.side dark (colour g) (λ r c l m. sym (same r c l m));
-      finders = read.0;
-      fourth = read.1;
-      drawing = drawing-same p f (sampled p f) (turned t f.side (colour g)) to h;
-    })
+    let read = turn-read t f.side (colour g) (sampled p f) h.frame.least to same is in (
+      g,
+      record {
+        square = square-same f.side dark (colour g) (λ r c l m. sym (same r c l m));
+        finders = read.0;
+        fourth = read.1;
+        drawing = drawing-same p f (sampled p f) (turned t f.side (colour g)) to h;
+      },
+    )
 
 -- ---- a clean picture is found
 
@@ -89,8 +91,9 @@ greys-are p f dark one other h k =
     let a = k.first ∙ h.pixels 0 0 (omega arith) (omega arith) in
     let b = k.second ∙ h.pixels k.row k.col row col in
     elim (grey-two f dark 0 0) [
-      inl d ↦ elim (grey-two f dark k.row k.col) [ inl e ↦ absurd (k.differ (b ∙ e ∙ sym (a ∙ d))) | inr e ↦ inr (a ∙ d, b ∙ e) ]
-    | inr d ↦ elim (grey-two f dark k.row k.col) [ inl e ↦ inl (a ∙ d, b ∙ e) | inr e ↦ absurd (k.differ (b ∙ e ∙ sym (a ∙ d))) ] ]
+      | inl d ↦ elim (grey-two f dark k.row k.col) [ inl e ↦ absurd (k.differ (b ∙ e ∙ sym (a ∙ d))) | inr e ↦ inr (a ∙ d, b ∙ e) ]
+      | inr d ↦ elim (grey-two f dark k.row k.col) [ inl e ↦ inl (a ∙ d, b ∙ e) | inr e ↦ absurd (k.differ (b ∙ e ∙ sym (a ∙ d))) ]
+    ]
 
 -- a drawing has a dark pixel and a light one
 pub light-pixel : (p : Pixels) (f : Frame) (dark : ℕ → ℕ → Bool) (t : Turn) → IsDrawing p f dark → IsTurn f.side dark t → (c : ℕ) × PixelOf p f 0 c 0 0 false

@@ -93,8 +93,10 @@ begins-with p f dark line y r h row is b =
     let seven : (f.left + 7 * f.scale - f.left) / f.scale ≡ 7 = ap (λ z. z / f.scale) (let e : f.left + 7 * f.scale - f.left ≡ 7 * f.scale + 0 = omega arith in e) ∙ div-mul-add 7 f.scale 0 some in
     let light : get_or line (f.left + 7 * f.scale) 0 ≡ f.light = line-pixel p f dark line y r 7 (f.left + 7 * f.scale) false h row is (omega arith) (omega arith) seven b.next in
     record {
-      run = record { each = λ x lo hi. let c : (x - f.left) / f.scale < 7 = div_below (x - f.left) f.scale 7 (omega arith) (omega arith) in
-          line-pixel p f dark line y r ((x - f.left) / f.scale) x true h row is lo (omega arith) refl (b.run ((x - f.left) / f.scale) c) };
+      run = record {
+        each = λ x lo hi. let c : (x - f.left) / f.scale < 7 = div_below (x - f.left) f.scale 7 (omega arith) (omega arith) in
+            line-pixel p f dark line y r ((x - f.left) / f.scale) x true h row is lo (omega arith) refl (b.run ((x - f.left) / f.scale) c);
+      };
       inside = omega arith;
       other = λ e. h.frame.differ (sym e ∙ light);
     }
@@ -109,13 +111,15 @@ ends-with p f dark line y r h row is b =
     let cut8 : (f.side - 7) * f.scale ≡ (f.side - 8) * f.scale + f.scale = ap (λ z. z * f.scale) (let e : f.side - 7 ≡ f.side - 8 + 1 = omega arith in e) ∙ omega arith in
     let lt : f.scale - 1 < f.scale = omega arith in
     let eight : (f.left + f.side * f.scale - 7 * f.scale - 1 - f.left) / f.scale ≡ f.side - 8 =
-        ap (λ z. z / f.scale) (let e : f.left + f.side * f.scale - 7 * f.scale - 1 - f.left ≡ (f.side - 8) * f.scale + (f.scale - 1) = omega arith in e) ∙ div-mul-add (f.side - 8) f.scale (f.scale - 1) lt in
+    ap (λ z. z / f.scale) (let e : f.left + f.side * f.scale - 7 * f.scale - 1 - f.left ≡ (f.side - 8) * f.scale + (f.scale - 1) = omega arith in e) ∙ div-mul-add (f.side - 8) f.scale (f.scale - 1) lt in
     let light : get_or line (f.left + f.side * f.scale - 7 * f.scale - 1) 0 ≡ f.light = line-pixel p f dark line y r (f.side - 8) (f.left + f.side * f.scale - 7 * f.scale - 1) false h row is (omega arith) (omega arith) eight b.next in
     record {
-      run = record { each = λ x lo hi.
-          let c : f.side - 7 ≤ (x - f.left) / f.scale = le-div (f.side - 7) (x - f.left) f.scale (omega arith) (omega arith) in
-          let d : (x - f.left) / f.scale < f.side = div_below (x - f.left) f.scale f.side (omega arith) (omega arith) in
-          line-pixel p f dark line y r ((x - f.left) / f.scale) x true h row is (omega arith) hi refl (b.run ((x - f.left) / f.scale) c d) };
+      run = record {
+        each = λ x lo hi.
+            let c : f.side - 7 ≤ (x - f.left) / f.scale = le-div (f.side - 7) (x - f.left) f.scale (omega arith) (omega arith) in
+            let d : (x - f.left) / f.scale < f.side = div_below (x - f.left) f.scale f.side (omega arith) (omega arith) in
+            line-pixel p f dark line y r ((x - f.left) / f.scale) x true h row is (omega arith) hi refl (b.run ((x - f.left) / f.scale) c d);
+      };
       inside = omega arith;
       other = λ e. h.frame.differ (sym e ∙ light);
     }
@@ -124,17 +128,25 @@ ends-with p f dark line y r h row is b =
 pub three-ends : (p : Pixels) (f : Frame) (dark : ℕ → ℕ → Bool) (t : Turn) (first last : List ℕ) → IsDrawing p f dark → IsTurn f.side dark t → IsLine p first f.top → IsLine p last (f.top + f.side * f.scale - 1)
     → HasThreeEnds first last f.left (f.left + f.side * f.scale) (7 * f.scale) f.dark
 three-ends p f dark Upright first last h is a b =
-    inl ( ends-with p f dark first f.top 0 h (top-row p f h.frame) a (top-ends f.side dark h.frame.least is.1)
-    , begins-with p f dark last (f.top + f.side * f.scale - 1) (f.side - 1) h (bottom-row p f h.frame) b (bottom-begins f.side dark h.frame.least is.2) )
+    inl (
+      ends-with p f dark first f.top 0 h (top-row p f h.frame) a (top-ends f.side dark h.frame.least is.1),
+      begins-with p f dark last (f.top + f.side * f.scale - 1) (f.side - 1) h (bottom-row p f h.frame) b (bottom-begins f.side dark h.frame.least is.2),
+    )
 three-ends p f dark Quarter first last h is a b =
-    inr (inl ( begins-with p f dark first f.top 0 h (top-row p f h.frame) a (top-begins f.side dark h.frame.least is.0)
-    , ends-with p f dark first f.top 0 h (top-row p f h.frame) a (top-ends f.side dark h.frame.least is.1) ))
+    inr (inl (
+      begins-with p f dark first f.top 0 h (top-row p f h.frame) a (top-begins f.side dark h.frame.least is.0),
+      ends-with p f dark first f.top 0 h (top-row p f h.frame) a (top-ends f.side dark h.frame.least is.1),
+    ))
 three-ends p f dark Half first last h is a b =
-    inl ( ends-with p f dark first f.top 0 h (top-row p f h.frame) a (top-ends f.side dark h.frame.least is.1)
-    , begins-with p f dark last (f.top + f.side * f.scale - 1) (f.side - 1) h (bottom-row p f h.frame) b (bottom-begins f.side dark h.frame.least is.2) )
+    inl (
+      ends-with p f dark first f.top 0 h (top-row p f h.frame) a (top-ends f.side dark h.frame.least is.1),
+      begins-with p f dark last (f.top + f.side * f.scale - 1) (f.side - 1) h (bottom-row p f h.frame) b (bottom-begins f.side dark h.frame.least is.2),
+    )
 three-ends p f dark ThreeQuarters first last h is a b =
-    inr (inr ( begins-with p f dark first f.top 0 h (top-row p f h.frame) a (top-begins f.side dark h.frame.least is.0)
-    , begins-with p f dark last (f.top + f.side * f.scale - 1) (f.side - 1) h (bottom-row p f h.frame) b (bottom-begins f.side dark h.frame.least is.2) ))
+    inr (inr (
+      begins-with p f dark first f.top 0 h (top-row p f h.frame) a (top-begins f.side dark h.frame.least is.0),
+      begins-with p f dark last (f.top + f.side * f.scale - 1) (f.side - 1) h (bottom-row p f h.frame) b (bottom-begins f.side dark h.frame.least is.2),
+    ))
 
 -- ---- dark pixels at the four edges of the square
 
@@ -151,8 +163,12 @@ dark-begin p f dark y r h row b =
     let across = h.frame.across in
     let most = row.most in
     let zero : (f.left - f.left) / f.scale ≡ 0 = ap (λ z. z / f.scale) (let e : f.left - f.left ≡ 0 * f.scale + 0 = omega arith in e) ∙ div-mul-add 0 f.scale 0 h.frame.scaled in
-    record { row_in = omega arith; col_in = omega arith; is = shown-inside p f dark y f.left h row.least row.most (omega arith) (omega arith)
-        ∙ ap (λ z. cond (dark z ((f.left - f.left) / f.scale)) f.dark f.light) row.is ∙ ap (λ z. cond (dark r z) f.dark f.light) zero ∙ ap (λ z. cond z f.dark f.light) (b.run 0 (omega arith)) }
+    record {
+      row_in = omega arith;
+      col_in = omega arith;
+      is = shown-inside p f dark y f.left h row.least row.most (omega arith) (omega arith)
+          ∙ ap (λ z. cond (dark z ((f.left - f.left) / f.scale)) f.dark f.light) row.is ∙ ap (λ z. cond (dark r z) f.dark f.light) zero ∙ ap (λ z. cond z f.dark f.light) (b.run 0 (omega arith));
+    }
 
 dark-end : (p : Pixels) (f : Frame) (dark : ℕ → ℕ → Bool) (y r : ℕ) → IsDrawing p f dark → IsRowOf f y r → Ends f.side dark r → DarkAt p f y (f.left + f.side * f.scale - 1)
 dark-end p f dark y r h row b =
@@ -162,8 +178,12 @@ dark-end p f dark y r h row b =
     let across = h.frame.across in
     let most = row.most in
     let end : (f.left + f.side * f.scale - 1 - f.left) / f.scale ≡ f.side - 1 = ap (λ z. z / f.scale) (let e : f.left + f.side * f.scale - 1 - f.left ≡ f.side * f.scale - 1 = omega arith in e) ∙ last-module f.side f.scale h.frame.least h.frame.scaled in
-    record { row_in = omega arith; col_in = omega arith; is = shown-inside p f dark y (f.left + f.side * f.scale - 1) h row.least row.most (omega arith) (omega arith)
-        ∙ ap (λ z. cond (dark z ((f.left + f.side * f.scale - 1 - f.left) / f.scale)) f.dark f.light) row.is ∙ ap (λ z. cond (dark r z) f.dark f.light) end ∙ ap (λ z. cond z f.dark f.light) (b.run (f.side - 1) (omega arith) (omega arith)) }
+    record {
+      row_in = omega arith;
+      col_in = omega arith;
+      is = shown-inside p f dark y (f.left + f.side * f.scale - 1) h row.least row.most (omega arith) (omega arith)
+          ∙ ap (λ z. cond (dark z ((f.left + f.side * f.scale - 1 - f.left) / f.scale)) f.dark f.light) row.is ∙ ap (λ z. cond (dark r z) f.dark f.light) end ∙ ap (λ z. cond z f.dark f.light) (b.run (f.side - 1) (omega arith) (omega arith));
+    }
 
 -- the rows and columns of three corners
 pub record Corners (p : Pixels) (f : Frame) : Type 0 where
@@ -207,9 +227,13 @@ pub top-found : (p : Pixels) (f : Frame) (dark : ℕ → ℕ → Bool) (t : Turn
 top-found p f dark t top light h is e most all at =
     let k = (corners p f dark t h is).top in
     let row = k.1.row_in in
-    elim (cases_order top f.top) [ inl s ↦ s | inr o ↦ elim o [
-      inl lt ↦ let a = at (omega arith) in absurd (a.2 (margin p f dark top a.0 h (omega arith) a.1 (above f top a.0 lt) ∙ e))
-    | inr gt ↦ absurd (h.frame.differ (sym k.1.is ∙ all f.top k.0 gt k.1.col_in ∙ sym e)) ] ]
+    elim (cases_order top f.top) [
+      | inl s ↦ s
+      | inr o ↦ elim o [
+        | inl lt ↦ let a = at (omega arith) in absurd (a.2 (margin p f dark top a.0 h (omega arith) a.1 (above f top a.0 lt) ∙ e))
+        | inr gt ↦ absurd (h.frame.differ (sym k.1.is ∙ all f.top k.0 gt k.1.col_in ∙ sym e))
+      ]
+    ]
 
 pub bottom-found : (p : Pixels) (f : Frame) (dark : ℕ → ℕ → Bool) (t : Turn) (bottom light : ℕ) → IsDrawing p f dark → IsTurn f.side dark t → f.light ≡ light → bottom ≤ p.height
     → ((y x : ℕ) → bottom ≤ y → y < p.height → x < p.width → grey p y x ≡ light) → (0 < bottom → (x : ℕ) × (x < p.width) × (grey p (bottom - 1) x ≢ light)) → bottom ≡ f.top + f.side * f.scale
@@ -217,9 +241,13 @@ bottom-found p f dark t bottom light h is e most all at =
     let s = size-least f.side f.scale h.frame.least h.frame.scaled in
     let k = (corners p f dark t h is).bottom in
     let row = k.1.row_in in
-    elim (cases_order bottom (f.top + f.side * f.scale)) [ inl s ↦ s | inr o ↦ elim o [
-      inl lt ↦ absurd (h.frame.differ (sym k.1.is ∙ all (f.top + f.side * f.scale - 1) k.0 (omega arith) row k.1.col_in ∙ sym e))
-    | inr gt ↦ let a = at (omega arith) in absurd (a.2 (margin p f dark (bottom - 1) a.0 h (omega arith) a.1 (below f (bottom - 1) a.0 (omega arith)) ∙ e)) ] ]
+    elim (cases_order bottom (f.top + f.side * f.scale)) [
+      | inl s ↦ s
+      | inr o ↦ elim o [
+        | inl lt ↦ absurd (h.frame.differ (sym k.1.is ∙ all (f.top + f.side * f.scale - 1) k.0 (omega arith) row k.1.col_in ∙ sym e))
+        | inr gt ↦ let a = at (omega arith) in absurd (a.2 (margin p f dark (bottom - 1) a.0 h (omega arith) a.1 (below f (bottom - 1) a.0 (omega arith)) ∙ e))
+      ]
+    ]
 
 first-least : (p : Pixels) (f : Frame) (dark : ℕ → ℕ → Bool) (line : List ℕ) (y i : ℕ) → IsDrawing p f dark → IsLine p line y → y < p.height → IsFirstOther line f.light i → f.left ≤ i
 first-least p f dark line y i h is l o =
@@ -269,18 +297,26 @@ right-found p f dark t first last i j h is a b o q =
 pub begins-found : (line : List ℕ) (left right w dark i : ℕ) → left + w < right → right ≤ length line → BeginsWith line left w dark → IsFirstOther (take (right - left) (drop left line)) dark i → i ≡ w
 begins-found line left right w dark i short room b o =
     let len = piece-length line left right room in
-    elim (cases_order i w) [ inl e ↦ e | inr other ↦ elim other [
-      inl lt ↦ absurd (o.at (omega arith) (piece line left right i (omega arith) ∙ b.run.each (left + i) (omega arith) (omega arith)))
-    | inr gt ↦ absurd (b.other (sym (piece line left right w (omega arith)) ∙ o.before.each w (omega arith) gt)) ] ]
+    elim (cases_order i w) [
+      | inl e ↦ e
+      | inr other ↦ elim other [
+        | inl lt ↦ absurd (o.at (omega arith) (piece line left right i (omega arith) ∙ b.run.each (left + i) (omega arith) (omega arith)))
+        | inr gt ↦ absurd (b.other (sym (piece line left right w (omega arith)) ∙ o.before.each w (omega arith) gt))
+      ]
+    ]
 
 pub ends-found : (line : List ℕ) (right w dark i : ℕ) → right ≤ length line → EndsWith line right w dark → IsEndOfOthers (take right line) dark i → right - i ≡ w
 ends-found line right w dark i room b o =
     let in_line = b.inside in
     let len = length-take-le right line room in
     let most = o.most in
-    elim (cases_order i (right - w)) [ inl e ↦ omega arith | inr other ↦ elim other [
-      inl lt ↦ let l : right - w - 1 < right = omega arith in absurd (b.other (sym (get_or-take right line (right - w - 1) 0 l) ∙ o.after.each (right - w - 1) (omega arith) (omega arith)))
-    | inr gt ↦ let l : i - 1 < right = omega arith in absurd (o.at (omega arith) (get_or-take right line (i - 1) 0 l ∙ b.run.each (i - 1) (omega arith) (omega arith))) ] ]
+    elim (cases_order i (right - w)) [
+      | inl e ↦ omega arith
+      | inr other ↦ elim other [
+        | inl lt ↦ let l : right - w - 1 < right = omega arith in absurd (b.other (sym (get_or-take right line (right - w - 1) 0 l) ∙ o.after.each (right - w - 1) (omega arith) (omega arith)))
+        | inr gt ↦ let l : i - 1 < right = omega arith in absurd (o.at (omega arith) (get_or-take right line (i - 1) 0 l ∙ b.run.each (i - 1) (omega arith) (omega arith)))
+      ]
+    ]
 
 -- one of three ends is found
 pub width-found : (first last : List ℕ) (left right w dark ur ll ul : ℕ) → left + w < right → right ≤ length first → right ≤ length last → HasThreeEnds first last left right w dark

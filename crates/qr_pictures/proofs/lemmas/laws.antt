@@ -47,8 +47,9 @@ bottom-not-more p f e k m same lt =
 left-not-less : (p : Pixels) (f e : Frame) → Shown p f → Shown p e → e.light ≡ f.light → f.left < e.left → ⊥
 left-not-less p f e k m same lt =
     elim (corners-of p f k).left [
-      inl d ↦ both p f e f.top f.left k same d (margin p e (sampled p e) f.top f.left m.drawing d.row_in d.col_in (before e f.top f.left lt))
-    | inr d ↦ both p f e (f.top + f.side * f.scale - 1) f.left k same d (margin p e (sampled p e) (f.top + f.side * f.scale - 1) f.left m.drawing d.row_in d.col_in (before e (f.top + f.side * f.scale - 1) f.left lt)) ]
+      | inl d ↦ both p f e f.top f.left k same d (margin p e (sampled p e) f.top f.left m.drawing d.row_in d.col_in (before e f.top f.left lt))
+      | inr d ↦ both p f e (f.top + f.side * f.scale - 1) f.left k same d (margin p e (sampled p e) (f.top + f.side * f.scale - 1) f.left m.drawing d.row_in d.col_in (before e (f.top + f.side * f.scale - 1) f.left lt))
+    ]
 
 not-less : (m n : ℕ) → (m < n → ⊥) → (n < m → ⊥) → m ≡ n
 not-less m n a b = elim (cases_order m n) [ inl e ↦ e | inr o ↦ elim o [ inl l ↦ absurd (a l) | inr l ↦ absurd (b l) ] ]
@@ -173,14 +174,17 @@ left-light p f k =
     let col = c.col_in in
     let least = k.drawing.frame.least in
     let some = k.drawing.frame.scaled in
-    elim (cases_lt 0 f.left) [ inl lt ↦ (0, omega arith, margin p f (sampled p f) 0 0 k.drawing (omega arith) (omega arith) (before f 0 0 lt))
-    | inr zero ↦
-        let x : 0 ≡ f.left + (0 * f.scale + 0) = omega arith in
-        elim (left-finder k.turn f.side (sampled p f) k.is) [
-          inl h ↦ let d = separator p f k 3 3 7 0 0 0 h (omega arith) (omega arith) (omega arith) (omega arith) (omega arith) in
-              (f.top + (7 * f.scale + 0), d.row_in, ap (λ z. grey p (f.top + (7 * f.scale + 0)) z) x ∙ d.is)
-        | inr h ↦ let d = separator p f k (f.side - 4) 3 (f.side - 8) 0 0 0 h (omega arith) (omega arith) (omega arith) (omega arith) (omega arith) in
-              (f.top + ((f.side - 8) * f.scale + 0), d.row_in, ap (λ z. grey p (f.top + ((f.side - 8) * f.scale + 0)) z) x ∙ d.is) ] ]
+    elim (cases_lt 0 f.left) [
+      | inl lt ↦ (0, omega arith, margin p f (sampled p f) 0 0 k.drawing (omega arith) (omega arith) (before f 0 0 lt))
+      | inr zero ↦
+          let x : 0 ≡ f.left + (0 * f.scale + 0) = omega arith in
+          elim (left-finder k.turn f.side (sampled p f) k.is) [
+            | inl h ↦ let d = separator p f k 3 3 7 0 0 0 h (omega arith) (omega arith) (omega arith) (omega arith) (omega arith) in
+                (f.top + (7 * f.scale + 0), d.row_in, ap (λ z. grey p (f.top + (7 * f.scale + 0)) z) x ∙ d.is)
+            | inr h ↦ let d = separator p f k (f.side - 4) 3 (f.side - 8) 0 0 0 h (omega arith) (omega arith) (omega arith) (omega arith) (omega arith) in
+                (f.top + ((f.side - 8) * f.scale + 0), d.row_in, ap (λ z. grey p (f.top + ((f.side - 8) * f.scale + 0)) z) x ∙ d.is)
+          ]
+    ]
 
 top-light : (p : Pixels) (f : Frame) → Shown p f → (x : ℕ) × (x < p.width) × (grey p 0 x ≡ f.light)
 top-light p f k =
@@ -189,14 +193,17 @@ top-light p f k =
     let col = c.col_in in
     let least = k.drawing.frame.least in
     let some = k.drawing.frame.scaled in
-    elim (cases_lt 0 f.top) [ inl lt ↦ (0, omega arith, margin p f (sampled p f) 0 0 k.drawing (omega arith) (omega arith) (above f 0 0 lt))
-    | inr zero ↦
-        let y : 0 ≡ f.top + (0 * f.scale + 0) = omega arith in
-        elim (top-finder k.turn f.side (sampled p f) k.is) [
-          inl h ↦ let d = separator p f k 3 3 0 7 0 0 h (omega arith) (omega arith) (omega arith) (omega arith) (omega arith) in
-              (f.left + (7 * f.scale + 0), d.col_in, ap (λ z. grey p z (f.left + (7 * f.scale + 0))) y ∙ d.is)
-        | inr h ↦ let d = separator p f k 3 (f.side - 4) 0 (f.side - 8) 0 0 h (omega arith) (omega arith) (omega arith) (omega arith) (omega arith) in
-              (f.left + ((f.side - 8) * f.scale + 0), d.col_in, ap (λ z. grey p z (f.left + ((f.side - 8) * f.scale + 0))) y ∙ d.is) ] ]
+    elim (cases_lt 0 f.top) [
+      | inl lt ↦ (0, omega arith, margin p f (sampled p f) 0 0 k.drawing (omega arith) (omega arith) (above f 0 0 lt))
+      | inr zero ↦
+          let y : 0 ≡ f.top + (0 * f.scale + 0) = omega arith in
+          elim (top-finder k.turn f.side (sampled p f) k.is) [
+            | inl h ↦ let d = separator p f k 3 3 0 7 0 0 h (omega arith) (omega arith) (omega arith) (omega arith) (omega arith) in
+                (f.left + (7 * f.scale + 0), d.col_in, ap (λ z. grey p z (f.left + (7 * f.scale + 0))) y ∙ d.is)
+            | inr h ↦ let d = separator p f k 3 (f.side - 4) 0 (f.side - 8) 0 0 h (omega arith) (omega arith) (omega arith) (omega arith) (omega arith) in
+                (f.left + ((f.side - 8) * f.scale + 0), d.col_in, ap (λ z. grey p z (f.left + ((f.side - 8) * f.scale + 0))) y ∙ d.is)
+          ]
+    ]
 
 -- the last pixel of a square that reaches the edge
 last-pixel : (start n scale edge : ℕ) → 21 ≤ n → 1 ≤ scale → start + n * scale ≡ edge → edge - 1 ≡ start + ((n - 1) * scale + (scale - 1))
@@ -211,14 +218,17 @@ right-light p f k =
     let least = k.drawing.frame.least in
     let some = k.drawing.frame.scaled in
     let across = k.drawing.frame.across in
-    elim (cases_lt (f.left + f.side * f.scale) p.width) [ inl lt ↦ (0, omega arith, margin p f (sampled p f) 0 (p.width - 1) k.drawing (omega arith) (omega arith) (after f 0 (p.width - 1) (omega arith)))
-    | inr zero ↦
-        let x : p.width - 1 ≡ f.left + ((f.side - 1) * f.scale + (f.scale - 1)) = last-pixel f.left f.side f.scale p.width least some (omega arith) in
-        elim (right-finder k.turn f.side (sampled p f) k.is) [
-          inl h ↦ let d = separator p f k 3 (f.side - 4) 7 (f.side - 1) 0 (f.scale - 1) h (omega arith) (omega arith) (omega arith) (omega arith) (omega arith) in
-              (f.top + (7 * f.scale + 0), d.row_in, ap (λ z. grey p (f.top + (7 * f.scale + 0)) z) x ∙ d.is)
-        | inr h ↦ let d = separator p f k (f.side - 4) (f.side - 4) (f.side - 8) (f.side - 1) 0 (f.scale - 1) h (omega arith) (omega arith) (omega arith) (omega arith) (omega arith) in
-              (f.top + ((f.side - 8) * f.scale + 0), d.row_in, ap (λ z. grey p (f.top + ((f.side - 8) * f.scale + 0)) z) x ∙ d.is) ] ]
+    elim (cases_lt (f.left + f.side * f.scale) p.width) [
+      | inl lt ↦ (0, omega arith, margin p f (sampled p f) 0 (p.width - 1) k.drawing (omega arith) (omega arith) (after f 0 (p.width - 1) (omega arith)))
+      | inr zero ↦
+          let x : p.width - 1 ≡ f.left + ((f.side - 1) * f.scale + (f.scale - 1)) = last-pixel f.left f.side f.scale p.width least some (omega arith) in
+          elim (right-finder k.turn f.side (sampled p f) k.is) [
+            | inl h ↦ let d = separator p f k 3 (f.side - 4) 7 (f.side - 1) 0 (f.scale - 1) h (omega arith) (omega arith) (omega arith) (omega arith) (omega arith) in
+                (f.top + (7 * f.scale + 0), d.row_in, ap (λ z. grey p (f.top + (7 * f.scale + 0)) z) x ∙ d.is)
+            | inr h ↦ let d = separator p f k (f.side - 4) (f.side - 4) (f.side - 8) (f.side - 1) 0 (f.scale - 1) h (omega arith) (omega arith) (omega arith) (omega arith) (omega arith) in
+                (f.top + ((f.side - 8) * f.scale + 0), d.row_in, ap (λ z. grey p (f.top + ((f.side - 8) * f.scale + 0)) z) x ∙ d.is)
+          ]
+    ]
 
 bottom-light : (p : Pixels) (f : Frame) → Shown p f → (x : ℕ) × (x < p.width) × (grey p (p.height - 1) x ≡ f.light)
 bottom-light p f k =
@@ -228,14 +238,17 @@ bottom-light p f k =
     let least = k.drawing.frame.least in
     let some = k.drawing.frame.scaled in
     let down = k.drawing.frame.down in
-    elim (cases_lt (f.top + f.side * f.scale) p.height) [ inl lt ↦ (0, omega arith, margin p f (sampled p f) (p.height - 1) 0 k.drawing (omega arith) (omega arith) (below f (p.height - 1) 0 (omega arith)))
-    | inr zero ↦
-        let y : p.height - 1 ≡ f.top + ((f.side - 1) * f.scale + (f.scale - 1)) = last-pixel f.top f.side f.scale p.height least some (omega arith) in
-        elim (bottom-finder k.turn f.side (sampled p f) k.is) [
-          inl h ↦ let d = separator p f k (f.side - 4) 3 (f.side - 1) 7 (f.scale - 1) 0 h (omega arith) (omega arith) (omega arith) (omega arith) (omega arith) in
-              (f.left + (7 * f.scale + 0), d.col_in, ap (λ z. grey p z (f.left + (7 * f.scale + 0))) y ∙ d.is)
-        | inr h ↦ let d = separator p f k (f.side - 4) (f.side - 4) (f.side - 1) (f.side - 8) (f.scale - 1) 0 h (omega arith) (omega arith) (omega arith) (omega arith) (omega arith) in
-              (f.left + ((f.side - 8) * f.scale + 0), d.col_in, ap (λ z. grey p z (f.left + ((f.side - 8) * f.scale + 0))) y ∙ d.is) ] ]
+    elim (cases_lt (f.top + f.side * f.scale) p.height) [
+      | inl lt ↦ (0, omega arith, margin p f (sampled p f) (p.height - 1) 0 k.drawing (omega arith) (omega arith) (below f (p.height - 1) 0 (omega arith)))
+      | inr zero ↦
+          let y : p.height - 1 ≡ f.top + ((f.side - 1) * f.scale + (f.scale - 1)) = last-pixel f.top f.side f.scale p.height least some (omega arith) in
+          elim (bottom-finder k.turn f.side (sampled p f) k.is) [
+            | inl h ↦ let d = separator p f k (f.side - 4) 3 (f.side - 1) 7 (f.scale - 1) 0 h (omega arith) (omega arith) (omega arith) (omega arith) (omega arith) in
+                (f.left + (7 * f.scale + 0), d.col_in, ap (λ z. grey p z (f.left + (7 * f.scale + 0))) y ∙ d.is)
+            | inr h ↦ let d = separator p f k (f.side - 4) (f.side - 4) (f.side - 1) (f.side - 8) (f.scale - 1) 0 h (omega arith) (omega arith) (omega arith) (omega arith) (omega arith) in
+                (f.left + ((f.side - 8) * f.scale + 0), d.col_in, ap (λ z. grey p z (f.left + ((f.side - 8) * f.scale + 0))) y ∙ d.is)
+          ]
+    ]
 
 -- so there are no margins if dark and light can be exchanged
 record Whole (p : Pixels) (f : Frame) : Type 0 where
@@ -275,12 +288,15 @@ no-exchange p f e k m light dark =
     let right : f.left + f.side * f.scale - 1 ≡ e.left + e.side * e.scale - 1 = ap (λ z. z - 1) (a.right ∙ sym b.right) in
     let bottom : f.top + f.side * f.scale - 1 ≡ e.top + e.side * e.scale - 1 = ap (λ z. z - 1) (a.bottom ∙ sym b.bottom) in
     elim (corners-of p f k).rows [
-      inl r ↦ elim (corners-of p e m).cols [
-        inl c ↦ clash p f e f.top f.left e.top e.left k dark r.0 c.0 top left
-      | inr c ↦ clash p f e f.top (f.left + f.side * f.scale - 1) e.top (e.left + e.side * e.scale - 1) k dark r.1 c.0 top right ]
-    | inr r ↦ elim (corners-of p e m).cols [
-        inl c ↦ clash p f e (f.top + f.side * f.scale - 1) f.left (e.top + e.side * e.scale - 1) e.left k dark r.0 c.1 bottom left
-      | inr c ↦ clash p f e (f.top + f.side * f.scale - 1) (f.left + f.side * f.scale - 1) (e.top + e.side * e.scale - 1) (e.left + e.side * e.scale - 1) k dark r.1 c.1 bottom right ] ]
+      | inl r ↦ elim (corners-of p e m).cols [
+        | inl c ↦ clash p f e f.top f.left e.top e.left k dark r.0 c.0 top left
+        | inr c ↦ clash p f e f.top (f.left + f.side * f.scale - 1) e.top (e.left + e.side * e.scale - 1) k dark r.1 c.0 top right
+      ]
+      | inr r ↦ elim (corners-of p e m).cols [
+        | inl c ↦ clash p f e (f.top + f.side * f.scale - 1) f.left (e.top + e.side * e.scale - 1) e.left k dark r.0 c.1 bottom left
+        | inr c ↦ clash p f e (f.top + f.side * f.scale - 1) (f.left + f.side * f.scale - 1) (e.top + e.side * e.scale - 1) (e.left + e.side * e.scale - 1) k dark r.1 c.1 bottom right
+      ]
+    ]
 
 greys-one : (p : Pixels) (f e : Frame) → Shown p f → Shown p e → (e.light ≡ f.light) × (e.dark ≡ f.dark)
 greys-one p f e k m =
@@ -289,12 +305,15 @@ greys-one p f e k m =
     let d = k.drawing.pixels e.top a.0 a.1.row_in a.1.col_in in
     let l = k.drawing.pixels (e.top + (0 * e.scale + 0)) (e.left + (b.0 * e.scale + 0)) b.1.row_in b.1.col_in in
     elim (grey-two f (sampled p f) e.top a.0) [
-      inl dark ↦ elim (grey-two f (sampled p f) (e.top + (0 * e.scale + 0)) (e.left + (b.0 * e.scale + 0))) [
-        inl same ↦ absurd (m.drawing.frame.differ (sym a.1.is ∙ d ∙ dark ∙ sym (sym b.1.is ∙ l ∙ same)))
-      | inr light ↦ (sym b.1.is ∙ l ∙ light, sym a.1.is ∙ d ∙ dark) ]
-    | inr light ↦ elim (grey-two f (sampled p f) (e.top + (0 * e.scale + 0)) (e.left + (b.0 * e.scale + 0))) [
-        inl dark ↦ absurd (no-exchange p f e k m (sym b.1.is ∙ l ∙ dark) (sym a.1.is ∙ d ∙ light))
-      | inr same ↦ absurd (m.drawing.frame.differ (sym a.1.is ∙ d ∙ light ∙ sym (sym b.1.is ∙ l ∙ same))) ] ]
+      | inl dark ↦ elim (grey-two f (sampled p f) (e.top + (0 * e.scale + 0)) (e.left + (b.0 * e.scale + 0))) [
+        | inl same ↦ absurd (m.drawing.frame.differ (sym a.1.is ∙ d ∙ dark ∙ sym (sym b.1.is ∙ l ∙ same)))
+        | inr light ↦ (sym b.1.is ∙ l ∙ light, sym a.1.is ∙ d ∙ dark)
+      ]
+      | inr light ↦ elim (grey-two f (sampled p f) (e.top + (0 * e.scale + 0)) (e.left + (b.0 * e.scale + 0))) [
+        | inl dark ↦ absurd (no-exchange p f e k m (sym b.1.is ∙ l ∙ dark) (sym a.1.is ∙ d ∙ light))
+        | inr same ↦ absurd (m.drawing.frame.differ (sym a.1.is ∙ d ∙ light ∙ sym (sym b.1.is ∙ l ∙ same)))
+      ]
+    ]
 
 -- ---- the square
 
@@ -332,8 +351,8 @@ square-written p s g bytes k written =
     let n = s.frame.side in
     let dark : ℕ → ℕ → Bool = turned (back s.turn) n (sampled p s.frame) in
     square-same n (λ r c. not (eqb (get_or bytes (r * n + c) 0) 0)) dark (λ r c l m.
-        let row = div-mul-add r n c m in
-        let col = mod-mul-add r n c m in
-        let at = written (r * n + c) (mul-add-lt r n c n l m) in
-        ap (λ z. not (eqb z 0)) at ∙ byte-colour (dark ((r * n + c) / n) ((r * n + c) % n)) ∙ ap (λ z. dark z ((r * n + c) % n)) row ∙ ap (λ z. dark r z) col)
+    let row = div-mul-add r n c m in
+    let col = mod-mul-add r n c m in
+    let at = written (r * n + c) (mul-add-lt r n c n l m) in
+    ap (λ z. not (eqb z 0)) at ∙ byte-colour (dark ((r * n + c) / n) ((r * n + c) % n)) ∙ ap (λ z. dark z ((r * n + c) % n)) row ∙ ap (λ z. dark r z) col)
     ∙ sym (square-is p s g k)

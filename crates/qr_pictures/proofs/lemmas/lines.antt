@@ -26,10 +26,17 @@ piece-length line from end l = omega (arith, length-take (end - from) (drop from
 pub all-decided : (line : List ℕ) (from end value i : ℕ) → end ≤ length line → IsFirstOther (take (end - from) (drop from line)) value i → Decides (eqb i (end - from)) (AreAll line from end value)
 all-decided line from end value i room o =
     let len = piece-length line from end room in
-    let most = o.most in
-    (λ e. let f = eqb-true i (end - from) e in
-        record { each = λ x lo hi. let l : x - from < end - from = omega arith in let lt : x - from < i = omega arith in let place : x ≡ from + (x - from) = omega arith in
-            ap (λ z. get_or line z 0) place ∙ sym (piece line from end (x - from) l) ∙ o.before.each (x - from) (omega arith) lt }
-    , λ h. eq-eqb i (end - from) (elim (cases_order i (end - from)) [ inl e ↦ e | inr other ↦ elim other [
-        inl lt ↦ absurd (o.at (omega arith) (piece line from end i lt ∙ h.each (from + i) (omega arith) (omega arith)))
-      | inr gt ↦ absurd (omega arith) ] ]))
+    let most = o.most in (
+      λ e. let f = eqb-true i (end - from) e in
+          record {
+            each = λ x lo hi. let l : x - from < end - from = omega arith in let lt : x - from < i = omega arith in let place : x ≡ from + (x - from) = omega arith in
+                ap (λ z. get_or line z 0) place ∙ sym (piece line from end (x - from) l) ∙ o.before.each (x - from) (omega arith) lt;
+          },
+      λ h. eq-eqb i (end - from) (elim (cases_order i (end - from)) [
+        | inl e ↦ e
+        | inr other ↦ elim other [
+          | inl lt ↦ absurd (o.at (omega arith) (piece line from end i lt ∙ h.each (from + i) (omega arith) (omega arith)))
+          | inr gt ↦ absurd (omega arith)
+        ]
+      ]),
+    )

@@ -56,12 +56,14 @@ grey-two f dark y x =
 -- two functions that agree on the modules of the square are drawn in the same way
 pub drawn-same : (f : Frame) (dark other : ℕ → ℕ → Bool) (y x : ℕ) → 1 ≤ f.scale → ((r c : ℕ) → r < f.side → c < f.side → dark r c ≡ other r c) → drawn_grey f dark y x ≡ drawn_grey f other y x
 drawn-same f dark other y x some same =
-    elim (cases_Bool (is_inside f y x)) [ inl e ↦
-        let b = bounds f y x e in
-        let r = module-at (y - f.top) f.side f.scale some (omega arith) in
-        let c = module-at (x - f.left) f.side f.scale some (omega arith) in
-        grey-inside f dark y x e ∙ ap (λ b. cond b f.dark f.light) (same ((y - f.top) / f.scale) ((x - f.left) / f.scale) r.0 c.0) ∙ sym (grey-inside f other y x e)
-    | inr e ↦ grey-outside f dark y x e ∙ sym (grey-outside f other y x e) ]
+    elim (cases_Bool (is_inside f y x)) [
+      | inl e ↦
+          let b = bounds f y x e in
+          let r = module-at (y - f.top) f.side f.scale some (omega arith) in
+          let c = module-at (x - f.left) f.side f.scale some (omega arith) in
+          grey-inside f dark y x e ∙ ap (λ b. cond b f.dark f.light) (same ((y - f.top) / f.scale) ((x - f.left) / f.scale) r.0 c.0) ∙ sym (grey-inside f other y x e)
+      | inr e ↦ grey-outside f dark y x e ∙ sym (grey-outside f other y x e)
+    ]
 
 pub drawing-same : (p : Pixels) (f : Frame) (dark other : ℕ → ℕ → Bool) → ((r c : ℕ) → r < f.side → c < f.side → dark r c ≡ other r c) → IsDrawing p f dark → IsDrawing p f other
 drawing-same p f dark other same h = record { frame = h.frame; pixels = λ y x l m. h.pixels y x l m ∙ drawn-same f dark other y x h.frame.scaled same }

@@ -13,11 +13,13 @@ moved : (n : ℕ) (dark other : ℕ → ℕ → Bool) (a b a2 b2 : ℕ) (row col
     → ((r c : ℕ) → r < n → c < n → (row r c < n) × (col r c < n) × (other r c ≡ dark (row r c) (col r c)) × (ring_of a b (row r c) (col r c) ≡ ring_of a2 b2 r c))
     → HasFinder n dark a b → HasFinder n other a2 b2
 moved n dark other a b a2 b2 row col same h =
-    record { rings = λ r c l m near.
-        let k = same r c l m in
-        let e = k.3 in
-        let le : ring_of a b (row r c) (col r c) ≤ 4 = subst (λ (z : ℕ). z ≤ 4) (sym e) near in
-        k.2 ∙ h.rings (row r c) (col r c) k.0 k.1 le ∙ ap (λ (z : ℕ). not (eqb z 2 || eqb z 4)) e }
+    record {
+      rings = λ r c l m near.
+          let k = same r c l m in
+          let e = k.3 in
+          let le : ring_of a b (row r c) (col r c) ≤ 4 = subst (λ (z : ℕ). z ≤ 4) (sym e) near in
+          k.2 ∙ h.rings (row r c) (col r c) k.0 k.1 le ∙ ap (λ (z : ℕ). not (eqb z 2 || eqb z 4)) e;
+    }
 
 -- the square that a symbol of side `n` becomes if it is turned
 abbrev pub Turned : Turn → ℕ → (ℕ → ℕ → Bool) → (ℕ → ℕ → Bool) → Type 0
@@ -108,49 +110,56 @@ pub turn-shown : (t : Turn) (n : ℕ) (dark other : ℕ → ℕ → Bool) → 21
 turn-shown Upright n dark other some h f g =
     let same : (r c : ℕ) → r < n → c < n → dark r c ≡ other r c = λ r c l m. sym (upright-place n dark other h r c l m) in
     (finder-same n dark other 3 3 same f.top_left, finder-same n dark other 3 (n - 4) same f.top_right, finder-same n dark other (n - 4) 3 same f.bottom_left)
-turn-shown Quarter n dark other some h f g =
-    ( quarter n dark other (n - 4) 3 3 3 h refl (omega arith) f.bottom_left
-    , quarter n dark other 3 3 3 (n - 4) h refl (omega arith) f.top_left
-    , (λ x. quarter-is-no (g (three n other dark (n - 4) 3 (n - 4) (n - 4) (turned-from Quarter n dark other h) (omega arith) refl x)))
-    , quarter n dark other 3 (n - 4) (n - 4) (n - 4) h refl (omega arith) f.top_right )
-turn-shown Half n dark other some h f g =
-    ( (λ x. half-is-no (g (half n other dark 3 3 (n - 4) (n - 4) (turned-from Half n dark other h) (omega arith) (omega arith) x)))
-    , half n dark other (n - 4) 3 3 (n - 4) h (omega arith) (omega arith) f.bottom_left
-    , half n dark other 3 (n - 4) (n - 4) 3 h (omega arith) (omega arith) f.top_right
-    , half n dark other 3 3 (n - 4) (n - 4) h (omega arith) (omega arith) f.top_left )
-turn-shown ThreeQuarters n dark other some h f g =
-    ( three n dark other 3 (n - 4) 3 3 h (omega arith) refl f.top_right
-    , (λ x. three-is-no (g (quarter n other dark 3 (n - 4) (n - 4) (n - 4) (turned-from ThreeQuarters n dark other h) refl (omega arith) x)))
-    , three n dark other 3 3 (n - 4) 3 h (omega arith) refl f.top_left
-    , three n dark other (n - 4) 3 (n - 4) (n - 4) h (omega arith) refl f.bottom_left )
+turn-shown Quarter n dark other some h f g = (
+  quarter n dark other (n - 4) 3 3 3 h refl (omega arith) f.bottom_left,
+  quarter n dark other 3 3 3 (n - 4) h refl (omega arith) f.top_left,
+  (λ x. quarter-is-no (g (three n other dark (n - 4) 3 (n - 4) (n - 4) (turned-from Quarter n dark other h) (omega arith) refl x))),
+  quarter n dark other 3 (n - 4) (n - 4) (n - 4) h refl (omega arith) f.top_right,
+)
+turn-shown Half n dark other some h f g = (
+  (λ x. half-is-no (g (half n other dark 3 3 (n - 4) (n - 4) (turned-from Half n dark other h) (omega arith) (omega arith) x))),
+  half n dark other (n - 4) 3 3 (n - 4) h (omega arith) (omega arith) f.bottom_left,
+  half n dark other 3 (n - 4) (n - 4) 3 h (omega arith) (omega arith) f.top_right,
+  half n dark other 3 3 (n - 4) (n - 4) h (omega arith) (omega arith) f.top_left,
+)
+turn-shown ThreeQuarters n dark other some h f g = (
+  three n dark other 3 (n - 4) 3 3 h (omega arith) refl f.top_right,
+  (λ x. three-is-no (g (quarter n other dark 3 (n - 4) (n - 4) (n - 4) (turned-from ThreeQuarters n dark other h) refl (omega arith) x))),
+  three n dark other 3 3 (n - 4) 3 h (omega arith) refl f.top_left,
+  three n dark other (n - 4) 3 (n - 4) (n - 4) h (omega arith) refl f.bottom_left,
+)
 
 pub turn-read : (t : Turn) (n : ℕ) (dark other : ℕ → ℕ → Bool) → 21 ≤ n → Turned t n dark other → Turned (back t) n other dark → IsTurn n other t
     → HasFinders n dark × (HasFinder n dark (n - 4) (n - 4) → t ≡ Upright)
 turn-read Upright n dark other some h k is =
-    let same = upright-place n dark other h in
-    ( record { top_left = finder-same n other dark 3 3 same is.0; top_right = finder-same n other dark 3 (n - 4) same is.1; bottom_left = finder-same n other dark (n - 4) 3 same is.2 }
-    , λ x. refl )
-turn-read Quarter n dark other some h k is =
-    ( record {
-        top_left = three n other dark 3 (n - 4) 3 3 k (omega arith) refl is.1;
-        top_right = three n other dark (n - 4) (n - 4) 3 (n - 4) k (omega arith) refl is.3;
-        bottom_left = three n other dark 3 3 (n - 4) 3 k (omega arith) refl is.0;
-      }
-    , λ x. absurd (is.2 (quarter n dark other (n - 4) (n - 4) (n - 4) 3 h refl (omega arith) x)) )
-turn-read Half n dark other some h k is =
-    ( record {
-        top_left = half n other dark (n - 4) (n - 4) 3 3 k (omega arith) (omega arith) is.3;
-        top_right = half n other dark (n - 4) 3 3 (n - 4) k (omega arith) (omega arith) is.2;
-        bottom_left = half n other dark 3 (n - 4) (n - 4) 3 k (omega arith) (omega arith) is.1;
-      }
-    , λ x. absurd (is.0 (half n dark other (n - 4) (n - 4) 3 3 h (omega arith) (omega arith) x)) )
-turn-read ThreeQuarters n dark other some h k is =
-    ( record {
-        top_left = quarter n other dark (n - 4) 3 3 3 k refl (omega arith) is.2;
-        top_right = quarter n other dark 3 3 3 (n - 4) k refl (omega arith) is.0;
-        bottom_left = quarter n other dark (n - 4) (n - 4) (n - 4) 3 k refl (omega arith) is.3;
-      }
-    , λ x. absurd (is.1 (three n dark other (n - 4) (n - 4) 3 (n - 4) h (omega arith) refl x)) )
+    let same = upright-place n dark other h in (
+      record { top_left = finder-same n other dark 3 3 same is.0; top_right = finder-same n other dark 3 (n - 4) same is.1; bottom_left = finder-same n other dark (n - 4) 3 same is.2 },
+      λ x. refl,
+    )
+turn-read Quarter n dark other some h k is = (
+  record {
+    top_left = three n other dark 3 (n - 4) 3 3 k (omega arith) refl is.1;
+    top_right = three n other dark (n - 4) (n - 4) 3 (n - 4) k (omega arith) refl is.3;
+    bottom_left = three n other dark 3 3 (n - 4) 3 k (omega arith) refl is.0;
+  },
+  λ x. absurd (is.2 (quarter n dark other (n - 4) (n - 4) (n - 4) 3 h refl (omega arith) x)),
+)
+turn-read Half n dark other some h k is = (
+  record {
+    top_left = half n other dark (n - 4) (n - 4) 3 3 k (omega arith) (omega arith) is.3;
+    top_right = half n other dark (n - 4) 3 3 (n - 4) k (omega arith) (omega arith) is.2;
+    bottom_left = half n other dark 3 (n - 4) (n - 4) 3 k (omega arith) (omega arith) is.1;
+  },
+  λ x. absurd (is.0 (half n dark other (n - 4) (n - 4) 3 3 h (omega arith) (omega arith) x)),
+)
+turn-read ThreeQuarters n dark other some h k is = (
+  record {
+    top_left = quarter n other dark (n - 4) 3 3 3 k refl (omega arith) is.2;
+    top_right = quarter n other dark 3 3 3 (n - 4) k refl (omega arith) is.0;
+    bottom_left = quarter n other dark (n - 4) (n - 4) (n - 4) 3 k refl (omega arith) is.3;
+  },
+  λ x. absurd (is.1 (three n dark other (n - 4) (n - 4) 3 (n - 4) h (omega arith) refl x)),
+)
 
 -- the finder patterns say how the square is turned
 pub turn-one : (t u : Turn) (n : ℕ) (dark : ℕ → ℕ → Bool) → IsTurn n dark t → IsTurn n dark u → t ≡ u
@@ -176,17 +185,26 @@ pub turn-same : (t : Turn) (n : ℕ) (dark other : ℕ → ℕ → Bool) → ((r
 turn-same Upright n dark other same a =
     (finder-same n dark other 3 3 same a.0, finder-same n dark other 3 (n - 4) same a.1, finder-same n dark other (n - 4) 3 same a.2)
 turn-same Quarter n dark other same a =
-    let again : (r c : ℕ) → r < n → c < n → other r c ≡ dark r c = λ r c l m. sym (same r c l m) in
-    ( finder-same n dark other 3 3 same a.0, finder-same n dark other 3 (n - 4) same a.1
-    , (λ x. a.2 (finder-same n other dark (n - 4) 3 again x)), finder-same n dark other (n - 4) (n - 4) same a.3 )
+    let again : (r c : ℕ) → r < n → c < n → other r c ≡ dark r c = λ r c l m. sym (same r c l m) in (
+      finder-same n dark other 3 3 same a.0,
+      finder-same n dark other 3 (n - 4) same a.1,
+      (λ x. a.2 (finder-same n other dark (n - 4) 3 again x)),
+      finder-same n dark other (n - 4) (n - 4) same a.3,
+    )
 turn-same Half n dark other same a =
-    let again : (r c : ℕ) → r < n → c < n → other r c ≡ dark r c = λ r c l m. sym (same r c l m) in
-    ( (λ x. a.0 (finder-same n other dark 3 3 again x)), finder-same n dark other 3 (n - 4) same a.1
-    , finder-same n dark other (n - 4) 3 same a.2, finder-same n dark other (n - 4) (n - 4) same a.3 )
+    let again : (r c : ℕ) → r < n → c < n → other r c ≡ dark r c = λ r c l m. sym (same r c l m) in (
+      (λ x. a.0 (finder-same n other dark 3 3 again x)),
+      finder-same n dark other 3 (n - 4) same a.1,
+      finder-same n dark other (n - 4) 3 same a.2,
+      finder-same n dark other (n - 4) (n - 4) same a.3,
+    )
 turn-same ThreeQuarters n dark other same a =
-    let again : (r c : ℕ) → r < n → c < n → other r c ≡ dark r c = λ r c l m. sym (same r c l m) in
-    ( finder-same n dark other 3 3 same a.0, (λ x. a.1 (finder-same n other dark 3 (n - 4) again x))
-    , finder-same n dark other (n - 4) 3 same a.2, finder-same n dark other (n - 4) (n - 4) same a.3 )
+    let again : (r c : ℕ) → r < n → c < n → other r c ≡ dark r c = λ r c l m. sym (same r c l m) in (
+      finder-same n dark other 3 3 same a.0,
+      (λ x. a.1 (finder-same n other dark 3 (n - 4) again x)),
+      finder-same n dark other (n - 4) 3 same a.2,
+      finder-same n dark other (n - 4) (n - 4) same a.3,
+    )
 
 -- ---- modules that are outside of a finder pattern
 

@@ -13,5 +13,6 @@ pub returns-in-None : goal.returns-in-None
 returns-in-None c =
     let p = c.args.picture.now in
     tried-again c.square_in-in-None.result _ _ _ (λ h s g k. elim (greys-are p s.frame (turned s.turn s.frame.side (colour g)) c.in_ok-one.one c.in_ok-one.other k.drawing c.in_ok-one.ensures) [
-        inl e ↦ c.in-None.ensures s g k (sym e.1) (sym e.0)
-      | inr e ↦ h s g k (sym e.0) (sym e.1) ]) c.square_in-in-None.ensures
+      | inl e ↦ c.in-None.ensures s g k (sym e.1) (sym e.0)
+      | inr e ↦ h s g k (sym e.0) (sym e.1)
+    ]) c.square_in-in-None.ensures

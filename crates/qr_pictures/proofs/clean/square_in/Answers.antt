@@ -15,8 +15,8 @@ pub returns-in_err-turn : goal.returns-in_err-turn
 returns-in_err-turn c =
     let p = c.args.picture.now in
     rw c.from_residual-in_err-turn.ensures (λ s g k dark light.
-        let same : c.in_ok-frame.frame ≡ s.frame = some-one (c.in_ok-frame.ensures.finds s.frame (turned s.turn s.frame.side (colour g)) s.turn dark light k.drawing (clean-turn p s g k)) in
-        c.in_err-turn.ensures s.turn (subst (λ (f : Frame). IsTurn f.side (sampled p f) s.turn) (sym same) (clean-turn-sampled p s g k)))
+    let same : c.in_ok-frame.frame ≡ s.frame = some-one (c.in_ok-frame.ensures.finds s.frame (turned s.turn s.frame.side (colour g)) s.turn dark light k.drawing (clean-turn p s g k)) in
+    c.in_err-turn.ensures s.turn (subst (λ (f : Frame). IsTurn f.side (sampled p f) s.turn) (sym same) (clean-turn-sampled p s g k)))
 
 pub returns-then-is_drawing : goal.returns-then-is_drawing
 returns-then-is_drawing c = found c.args.picture.now c.in_ok-frame.frame c.in_ok-turn.turn (c.is_drawing.ensures.0 c.if-is_drawing.true) c.in_ok-turn.ensures

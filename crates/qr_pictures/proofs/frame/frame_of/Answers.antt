@@ -20,18 +20,19 @@ returns-then-left-right-clause-finds c f colours t dark light drawing is =
     let top = top-found p f colours t c.first_row-top.result c.args.light drawing is light c.first_row-top.ensures.most c.first_row-top.ensures.before c.first_row-top.ensures.at in
     let bottom = bottom-found p f colours t c.end_of_rows-bottom.result c.args.light drawing is light c.end_of_rows-bottom.ensures.most c.end_of_rows-bottom.ensures.after c.end_of_rows-bottom.ensures.at in
     let edges = edges-found p f colours t c.row-first.result.now c.row-last.result.now c.first_row-top.result c.end_of_rows-bottom.result c.args.dark c.args.light
-        c.first_other-first_start.result c.first_other-last_start.result c.end_of_others-first_end.result c.end_of_others-last_end.result c.min-left.result c.max-right.result drawing is dark light top bottom
-        (record { len = c.row-first.ensures.len; shows = c.row-first.ensures.pixels }) (record { len = c.row-last.ensures.len; shows = c.row-last.ensures.pixels })
-        (record { most = c.first_other-first_start.ensures.most; before = c.first_other-first_start.ensures.before; at = c.first_other-first_start.ensures.at })
-        (record { most = c.first_other-last_start.ensures.most; before = c.first_other-last_start.ensures.before; at = c.first_other-last_start.ensures.at })
-        (record { most = c.end_of_others-first_end.ensures.most; after = c.end_of_others-first_end.ensures.after; at = c.end_of_others-first_end.ensures.at })
-        (record { most = c.end_of_others-last_end.ensures.most; after = c.end_of_others-last_end.ensures.after; at = c.end_of_others-last_end.ensures.at })
-        c.min-left.ensures c.max-right.ensures in
+    c.first_other-first_start.result c.first_other-last_start.result c.end_of_others-first_end.result c.end_of_others-last_end.result c.min-left.result c.max-right.result drawing is dark light top bottom
+    (record { len = c.row-first.ensures.len; shows = c.row-first.ensures.pixels }) (record { len = c.row-last.ensures.len; shows = c.row-last.ensures.pixels })
+    (record { most = c.first_other-first_start.ensures.most; before = c.first_other-first_start.ensures.before; at = c.first_other-first_start.ensures.at })
+    (record { most = c.first_other-last_start.ensures.most; before = c.first_other-last_start.ensures.before; at = c.first_other-last_start.ensures.at })
+    (record { most = c.end_of_others-first_end.ensures.most; after = c.end_of_others-first_end.ensures.after; at = c.end_of_others-first_end.ensures.at })
+    (record { most = c.end_of_others-last_end.ensures.most; after = c.end_of_others-last_end.ensures.after; at = c.end_of_others-last_end.ensures.at })
+    c.min-left.ensures c.max-right.ensures in
     let left = edges.left_is in
     let right = edges.right_is in
     elim c.then-left-right.branch [
-      then-left-right-via-then-left-right w ↦ absurd (omega arith)
-    | then-left-right-via-else-left-right+then-right-left w ↦ absurd (w.if-right-left.true (omega arith)) ]
+      | then-left-right-via-then-left-right w ↦ absurd (omega arith)
+      | then-left-right-via-else-left-right+then-right-left w ↦ absurd (w.if-right-left.true (omega arith))
+    ]
 
 pub returns-in_err-side-clause-finds : goal.returns-in_err-side-clause-finds
 returns-in_err-side-clause-finds c f colours t dark light drawing is =
@@ -40,13 +41,13 @@ returns-in_err-side-clause-finds c f colours t dark light drawing is =
     let top = top-found p f colours t c.first_row-top.result c.args.light drawing is light c.first_row-top.ensures.most c.first_row-top.ensures.before c.first_row-top.ensures.at in
     let bottom = bottom-found p f colours t c.end_of_rows-bottom.result c.args.light drawing is light c.end_of_rows-bottom.ensures.most c.end_of_rows-bottom.ensures.after c.end_of_rows-bottom.ensures.at in
     let edges = edges-found p f colours t c.row-first.result.now c.row-last.result.now c.first_row-top.result c.end_of_rows-bottom.result c.args.dark c.args.light
-        c.first_other-first_start.result c.first_other-last_start.result c.end_of_others-first_end.result c.end_of_others-last_end.result c.min-left.result c.max-right.result drawing is dark light top bottom
-        (record { len = c.row-first.ensures.len; shows = c.row-first.ensures.pixels }) (record { len = c.row-last.ensures.len; shows = c.row-last.ensures.pixels })
-        (record { most = c.first_other-first_start.ensures.most; before = c.first_other-first_start.ensures.before; at = c.first_other-first_start.ensures.at })
-        (record { most = c.first_other-last_start.ensures.most; before = c.first_other-last_start.ensures.before; at = c.first_other-last_start.ensures.at })
-        (record { most = c.end_of_others-first_end.ensures.most; after = c.end_of_others-first_end.ensures.after; at = c.end_of_others-first_end.ensures.at })
-        (record { most = c.end_of_others-last_end.ensures.most; after = c.end_of_others-last_end.ensures.after; at = c.end_of_others-last_end.ensures.at })
-        c.min-left.ensures c.max-right.ensures in
+    c.first_other-first_start.result c.first_other-last_start.result c.end_of_others-first_end.result c.end_of_others-last_end.result c.min-left.result c.max-right.result drawing is dark light top bottom
+    (record { len = c.row-first.ensures.len; shows = c.row-first.ensures.pixels }) (record { len = c.row-last.ensures.len; shows = c.row-last.ensures.pixels })
+    (record { most = c.first_other-first_start.ensures.most; before = c.first_other-first_start.ensures.before; at = c.first_other-first_start.ensures.at })
+    (record { most = c.first_other-last_start.ensures.most; before = c.first_other-last_start.ensures.before; at = c.first_other-last_start.ensures.at })
+    (record { most = c.end_of_others-first_end.ensures.most; after = c.end_of_others-first_end.ensures.after; at = c.end_of_others-first_end.ensures.at })
+    (record { most = c.end_of_others-last_end.ensures.most; after = c.end_of_others-last_end.ensures.after; at = c.end_of_others-last_end.ensures.at })
+    c.min-left.ensures c.max-right.ensures in
     let left = edges.left_is in
     let right = edges.right_is in
     let width = c.finder_width-width.ensures (7 * f.scale) edges.short edges.three in
@@ -61,13 +62,13 @@ returns-clause-finds c f colours t dark light drawing is =
     let top = top-found p f colours t c.first_row-top.result c.args.light drawing is light c.first_row-top.ensures.most c.first_row-top.ensures.before c.first_row-top.ensures.at in
     let bottom = bottom-found p f colours t c.end_of_rows-bottom.result c.args.light drawing is light c.end_of_rows-bottom.ensures.most c.end_of_rows-bottom.ensures.after c.end_of_rows-bottom.ensures.at in
     let edges = edges-found p f colours t c.row-first.result.now c.row-last.result.now c.first_row-top.result c.end_of_rows-bottom.result c.args.dark c.args.light
-        c.first_other-first_start.result c.first_other-last_start.result c.end_of_others-first_end.result c.end_of_others-last_end.result c.min-left.result c.max-right.result drawing is dark light top bottom
-        (record { len = c.row-first.ensures.len; shows = c.row-first.ensures.pixels }) (record { len = c.row-last.ensures.len; shows = c.row-last.ensures.pixels })
-        (record { most = c.first_other-first_start.ensures.most; before = c.first_other-first_start.ensures.before; at = c.first_other-first_start.ensures.at })
-        (record { most = c.first_other-last_start.ensures.most; before = c.first_other-last_start.ensures.before; at = c.first_other-last_start.ensures.at })
-        (record { most = c.end_of_others-first_end.ensures.most; after = c.end_of_others-first_end.ensures.after; at = c.end_of_others-first_end.ensures.at })
-        (record { most = c.end_of_others-last_end.ensures.most; after = c.end_of_others-last_end.ensures.after; at = c.end_of_others-last_end.ensures.at })
-        c.min-left.ensures c.max-right.ensures in
+    c.first_other-first_start.result c.first_other-last_start.result c.end_of_others-first_end.result c.end_of_others-last_end.result c.min-left.result c.max-right.result drawing is dark light top bottom
+    (record { len = c.row-first.ensures.len; shows = c.row-first.ensures.pixels }) (record { len = c.row-last.ensures.len; shows = c.row-last.ensures.pixels })
+    (record { most = c.first_other-first_start.ensures.most; before = c.first_other-first_start.ensures.before; at = c.first_other-first_start.ensures.at })
+    (record { most = c.first_other-last_start.ensures.most; before = c.first_other-last_start.ensures.before; at = c.first_other-last_start.ensures.at })
+    (record { most = c.end_of_others-first_end.ensures.most; after = c.end_of_others-first_end.ensures.after; at = c.end_of_others-first_end.ensures.at })
+    (record { most = c.end_of_others-last_end.ensures.most; after = c.end_of_others-last_end.ensures.after; at = c.end_of_others-last_end.ensures.at })
+    c.min-left.ensures c.max-right.ensures in
     let left = edges.left_is in
     let right = edges.right_is in
     let width = c.finder_width-width.ensures (7 * f.scale) edges.short edges.three in
