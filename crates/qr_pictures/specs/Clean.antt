@@ -1,5 +1,5 @@
 -- Clean pictures: what the pixels of a picture are if it shows one symbol and nothing else, drawn without any fault.
-use Rattle.std.specs.Prelude.{◌≡◌, ℕ, ◌-◌}
+use Rattle.std.specs.Prelude.{◌≡◌, ◌-◌}
 use Rattle.qr_matrix.specs.Grid.{Grid, IsSquare, colour}
 use Rattle.qr_pictures.specs.Finders.{HasFinder, HasFinders}
 use Rattle.qr_pictures.specs.Pixels.{IsDrawing, Pixels}

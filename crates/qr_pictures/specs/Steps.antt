@@ -1,5 +1,5 @@
 -- What the code does step by step. Only private contracts use these definitions.
-use Rattle.std.specs.Prelude.{◌≡◌, ◌≢◌, ◌⊎◌, ℕ, ◌+◌, ◌-◌, ◌*◌, ◌/◌, ◌%◌, ◌<◌, ◌≤◌, Bool, ◌||◌, not, ◌==◌, if◌then◌else◌, List, length, slice_index_or}
+use Rattle.std.specs.Prelude.{◌≡◌, ◌≢◌, ◌⊎◌, ℕ, ◌+◌, ◌-◌, ◌*◌, ◌%◌, ◌<◌, ◌≤◌, Bool, ◌||◌, not, ◌==◌, if◌then◌else◌, List, length, slice_index_or}
 use Rattle.qr_layout.specs.Region.{ring_of}
 use Rattle.qr_pictures.specs.Finders.{HasFinder}
 use Rattle.qr_pictures.specs.Pixels.{Pixels, drawn_grey, grey}

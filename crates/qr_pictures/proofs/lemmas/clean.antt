@@ -1,17 +1,17 @@
 -- A clean picture is found, and what is found is a clean picture.
-use Rattle.std.proofs.Common.{◌≡◌, ◌≢◌, ◌⊎◌, ℕ, ◌+◌, ◌-◌, ◌*◌, ◌/◌, ◌<◌, ◌≤◌, Bool, true, false, cond, eqb, Option, None, Some, MatchOption, refl, sym, ap, ◌∙◌, arith, inl, inr}
+use Rattle.std.proofs.Common.{◌≡◌, ◌≢◌, ◌⊎◌, ℕ, ◌+◌, ◌-◌, ◌*◌, ◌/◌, ◌<◌, Bool, true, false, cond, eqb, Option, None, Some, MatchOption, refl, sym, ap, ◌∙◌, arith, inl, inr}
 use Rattle.std.proofs.lemmas.{Bool.{eq-eqb, ne_eqb}, Nat.{div-mul-add}}
-use Rattle.qr_matrix.{proofs.Facts.{colour-square, square-same}, specs.Grid.{Grid, IsSquare, colour, square}}
+use Rattle.qr_matrix.{proofs.Facts.{colour-square, square-same}, specs.Grid.{Grid, colour, square}}
 use Rattle.qr_pictures.specs.Clean.{IsCleanPicture}
-use Rattle.qr_pictures.specs.Pixels.{IsDrawing, IsFrameIn, Pixels, drawn_grey, grey}
+use Rattle.qr_pictures.specs.Pixels.{IsDrawing, Pixels, grey}
 use Rattle.qr_pictures.specs.Steps.{HasGreys, IsTurn, back, sampled}
 use Rattle.qr_pictures.specs.Turns.{turned}
 use Rattle.qr_pictures.specs.declared.clean.CleanSquare.{CleanSquare}
 use Rattle.qr_pictures.specs.declared.frame.Frame.{Frame}
 use Rattle.qr_pictures.specs.declared.turn.Turn.{Turn, TheVariants.{Upright, Quarter, Half, ThreeQuarters}}
 use Rattle.qr_pictures.proofs.lemmas.picture.{drawing-same, grey-two, module-in, shown-inside}
-use Rattle.qr_pictures.proofs.lemmas.turn.{Turned, turn-read, turn-same, turn-shown, turned-back, turned-from, turned-same}
-use Rattle.qr_pictures.proofs.lemmas.frame.{DarkAt, corners, top-begins, top-ends}
+use Rattle.qr_pictures.proofs.lemmas.turn.{Turned, turn-read, turn-same, turn-shown, turned-back, turned-same}
+use Rattle.qr_pictures.proofs.lemmas.frame.{corners, top-begins, top-ends}
 
 -- ---- the pixels of a module
 

@@ -1,11 +1,11 @@
 -- The comparison of every pixel with the drawing.
-use Rattle.std.proofs.Common.{◌≡◌, ◌≢◌, ◌⊎◌, ℕ, ◌+◌, ◌-◌, ◌*◌, ◌/◌, ◌%◌, ◌<◌, ◌≤◌, Bool, true, false, cond, eqb, ltb, leb, ◌&&◌, List, length, get_or, take, drop, refl, sym, ap, ◌∙◌, arith, inl, inr}
-use Rattle.std.proofs.lemmas.{Bool.{cases_Bool, cases_lt}, Bool.Decides.{nat_tests}, Nat.{div-add-mod', div-mul-add, mod_below}, Grind.{same_number_lists}}
+use Rattle.std.proofs.Common.{◌≡◌, ◌≢◌, ◌⊎◌, ℕ, ◌+◌, ◌-◌, ◌*◌, ◌/◌, ◌%◌, ◌<◌, ◌≤◌, Bool, cond, eqb, List, length, get_or, sym, ap, ◌∙◌, arith, inl, inr}
+use Rattle.std.proofs.lemmas.{Bool.{cases_lt}, Bool.Decides.{nat_tests}, Nat.{div-add-mod', div-mul-add, mod_below}, Grind.{same_number_lists}}
 use Rattle.std.specs.Bool.{Decides}
-use Rattle.qr_pictures.specs.Pixels.{IsDrawing, IsFrameIn, Pixels, drawn_grey, grey, is_inside}
-use Rattle.qr_pictures.specs.Steps.{AreAll, AreModules, IsLineDrawn, IsModule, IsRowDrawn, sampled}
+use Rattle.qr_pictures.specs.Pixels.{IsFrameIn, Pixels, drawn_grey, grey}
+use Rattle.qr_pictures.specs.Steps.{AreAll, IsLineDrawn, IsModule, IsRowDrawn, sampled}
 use Rattle.qr_pictures.specs.declared.frame.Frame.{Frame}
-use Rattle.qr_pictures.proofs.lemmas.picture.{above, after, before, below, drawn-same, grey-inside, grey-outside, inside, module-at, module-in}
+use Rattle.qr_pictures.proofs.lemmas.picture.{above, after, before, below, grey-inside, grey-outside, inside, module-at, module-in}
 
 -- one of the two grey values
 shade : (v d l : ℕ) → (v ≡ d) ⊎ (v ≡ l) → v ≡ cond (eqb v d) d l

@@ -1,11 +1,11 @@
 -- The frame of a drawing is the one that is guessed.
-use Rattle.std.proofs.Common.{◌≡◌, ◌≢◌, ◌⊎◌, ℕ, ◌+◌, ◌-◌, ◌*◌, ◌/◌, ◌%◌, ◌<◌, ◌≤◌, Bool, true, false, cond, eqb, ltb, leb, min, max, ◌||◌, not, List, length, get_or, take, drop, refl, sym, ap, subst, ◌∙◌, arith, inl, inr}
-use Rattle.std.proofs.Math.Nat.{mul-div_cancel, mul-le-mul_right}
+use Rattle.std.proofs.Common.{◌≡◌, ◌≢◌, ◌⊎◌, ℕ, ◌+◌, ◌-◌, ◌*◌, ◌/◌, ◌%◌, ◌<◌, ◌≤◌, Bool, true, false, cond, eqb, min, max, ◌||◌, not, List, length, get_or, take, drop, refl, sym, ap, subst, ◌∙◌, arith, inl, inr}
+use Rattle.std.proofs.Math.Nat.{mul-le-mul_right}
 use Rattle.std.proofs.lemmas.{Bool.{cases_lt, cases_order}, Nat.{div_below, div-mul-add, le-div, mod-mul-add}, List.{get_or-take, length-take-le}}
 use Rattle.qr_layout.specs.Region.{ring_of}
 use Rattle.qr_pictures.specs.Finders.{HasFinder}
-use Rattle.qr_pictures.specs.Pixels.{IsDrawing, IsFrameIn, Pixels, drawn_grey, grey, is_inside}
-use Rattle.qr_pictures.specs.Steps.{AreAll, BeginsWith, EndsWith, HasThreeEnds, IsTurn}
+use Rattle.qr_pictures.specs.Pixels.{IsDrawing, IsFrameIn, Pixels, grey, is_inside}
+use Rattle.qr_pictures.specs.Steps.{BeginsWith, EndsWith, HasThreeEnds, IsTurn}
 use Rattle.qr_pictures.specs.declared.frame.Frame.{Frame}
 use Rattle.qr_pictures.specs.declared.turn.Turn.{Turn, TheVariants.{Upright, Quarter, Half, ThreeQuarters}}
 use Rattle.qr_pictures.proofs.lemmas.lines.{IsEndOfOthers, IsFirstOther, piece, piece-length}

@@ -1,12 +1,12 @@
 -- A picture is the clean picture of one square at most.
-use Rattle.std.proofs.Common.{◌≡◌, ◌≢◌, ◌⊎◌, ℕ, ◌+◌, ◌-◌, ◌*◌, ◌/◌, ◌%◌, ◌<◌, ◌≤◌, Bool, true, false, not, eqb, List, length, get_or, map, refl, sym, ap, subst, ◌∙◌, arith, inl, inr}
+use Rattle.std.proofs.Common.{◌≡◌, ◌⊎◌, ℕ, ◌+◌, ◌-◌, ◌*◌, ◌/◌, ◌%◌, ◌<◌, ◌≤◌, Bool, true, false, not, eqb, List, get_or, map, refl, sym, ap, subst, ◌∙◌, arith, inl, inr}
 use Rattle.std.specs.List.{range_with_len}
 use Rattle.std.proofs.lemmas.{Bool.{cases_lt, cases_order}, List.FromFn.{get_or-map-range_with_len, length-map-range_with_len}, Nat.{div-mul-add, mod-mul-add, mul-add-lt}}
 use Rattle.qr_matrix.{proofs.Facts.{square-same}, specs.{Bytes.{byte_of, square_of_bytes}, Grid.{Grid, colour, square}}}
 use Rattle.qr_layout.specs.Region.{ring_of}
 use Rattle.qr_pictures.specs.Clean.{IsCleanPicture}
 use Rattle.qr_pictures.specs.Finders.{HasFinder}
-use Rattle.qr_pictures.specs.Pixels.{IsDrawing, IsFrameIn, Pixels, grey}
+use Rattle.qr_pictures.specs.Pixels.{IsDrawing, Pixels, grey}
 use Rattle.qr_pictures.specs.Steps.{BeginsWith, EndsWith, HasThreeEnds, IsTurn, back, sampled}
 use Rattle.qr_pictures.specs.Turns.{turned}
 use Rattle.qr_pictures.specs.declared.clean.CleanSquare.{CleanSquare}

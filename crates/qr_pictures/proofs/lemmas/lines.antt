@@ -1,5 +1,5 @@
 -- Runs of bytes in a row of pixels.
-use Rattle.std.proofs.Common.{◌≡◌, ◌≢◌, ℕ, ◌+◌, ◌-◌, ◌<◌, ◌≤◌, true, eqb, List, length, length-drop, length-take, get_or, take, drop, sym, ap, ◌∙◌, arith, inl, inr}
+use Rattle.std.proofs.Common.{◌≡◌, ◌≢◌, ℕ, ◌+◌, ◌-◌, ◌<◌, ◌≤◌, eqb, List, length, length-drop, length-take, get_or, take, drop, sym, ap, ◌∙◌, arith, inl, inr}
 use Rattle.std.proofs.lemmas.{Bool.{cases_order, eq-eqb, eqb-true}, List.{get_or-drop, get_or-take}}
 use Rattle.std.specs.Bool.{Decides}
 use Rattle.qr_pictures.specs.Steps.{AreAll}

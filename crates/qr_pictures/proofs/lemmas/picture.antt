@@ -1,7 +1,7 @@
 -- Rows of pixels, and what the drawing of a square has at a pixel.
-use Rattle.std.proofs.Common.{◌≡◌, ◌≢◌, ◌⊎◌, ℕ, ◌+◌, ◌-◌, ◌*◌, ◌/◌, ◌%◌, ◌<◌, ◌≤◌, Bool, true, false, cond, eqb, ltb, leb, ◌&&◌, List, length, get_or, take, drop, Option, None, Some, refl, sym, ap, ◌∙◌, arith, inl, inr}
-use Rattle.std.proofs.lemmas.{List.{get_or-drop, get_or-take}, Bool.{cases_Bool}, Bool.Decides.{nat_tests}, Nat.{row_fits, div_below, div-add-mod', div-mul-add, mod_below}}
-use Rattle.qr_pictures.specs.Pixels.{IsDrawing, IsFrameIn, Pixels, drawn_grey, grey, is_inside, pixels_of}
+use Rattle.std.proofs.Common.{◌≡◌, ◌⊎◌, ℕ, ◌+◌, ◌-◌, ◌*◌, ◌/◌, ◌%◌, ◌<◌, ◌≤◌, Bool, true, false, cond, ◌&&◌, List, get_or, take, drop, None, Some, sym, ap, ◌∙◌, arith, inl, inr}
+use Rattle.std.proofs.lemmas.{List.{get_or-drop, get_or-take}, Bool.{cases_Bool}, Bool.Decides.{nat_tests}, Nat.{row_fits, div_below, div-add-mod', mod_below}}
+use Rattle.qr_pictures.specs.Pixels.{IsDrawing, Pixels, drawn_grey, grey, is_inside, pixels_of}
 use Rattle.qr_pictures.specs.declared.frame.Frame.{Frame}
 
 -- a pixel of a row

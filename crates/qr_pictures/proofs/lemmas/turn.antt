@@ -1,8 +1,7 @@
 -- Finder patterns of a square that is turned.
-use Rattle.std.proofs.Common.{◌≡◌, ◌≢◌, ◌⊎◌, ℕ, ◌+◌, ◌-◌, ◌*◌, ◌/◌, ◌%◌, ◌<◌, ◌≤◌, Bool, true, false, eqb, ◌||◌, not, max, refl, sym, ap, subst, ◌∙◌, arith, inl, inr}
+use Rattle.std.proofs.Common.{◌≡◌, ℕ, ◌+◌, ◌-◌, ◌<◌, ◌≤◌, Bool, eqb, ◌||◌, not, max, refl, sym, ap, subst, ◌∙◌, arith}
 use Rattle.std.specs.Int.{abs_diff}
 use Rattle.qr_layout.specs.Region.{ring_of}
-use Rattle.qr_matrix.{proofs.Facts.{colour-square, square-same}, specs.Grid.{Grid, IsSquare, colour, square}}
 use Rattle.qr_pictures.specs.Finders.{HasFinder, HasFinders}
 use Rattle.qr_pictures.specs.Turns.{turned}
 use Rattle.qr_pictures.specs.Steps.{IsTurn, back}

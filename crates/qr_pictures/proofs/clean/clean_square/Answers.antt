@@ -1,4 +1,4 @@
-use Rattle.std.proofs.Common.{◌≡◌, sym, inl, inr}
+use Rattle.std.proofs.Common.{sym, inl, inr}
 use Rattle.qr_matrix.specs.Grid.{colour}
 use Rattle.qr_pictures.specs.{Turns.turned}
 use Rattle.qr_pictures.proofs.lemmas.clean.{clean-turn, greys-are, one-grey, tried-again}

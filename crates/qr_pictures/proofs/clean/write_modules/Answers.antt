@@ -1,4 +1,4 @@
-use Rattle.std.proofs.Common.{◌≡◌, ◌<◌, ◌*◌, arith, rules}
+use Rattle.std.proofs.Common.{◌<◌, arith, rules}
 use Rattle.qr_pictures.proofs.lemmas.laws.{square-written}
 use Rattle.qr_pictures.proofs.clean.write_modules.Goals as goal
 

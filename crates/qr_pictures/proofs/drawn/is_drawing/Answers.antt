@@ -1,4 +1,4 @@
-use Rattle.std.proofs.Common.{◌≡◌, ◌<◌, true, arith, rules, refl, below_more}
+use Rattle.std.proofs.Common.{◌≡◌, true, arith, rules, refl, below_more}
 use Rattle.qr_pictures.proofs.drawn.is_drawing.Goals as goal
 
 pub loop-y-preserved : goal.loop-y-preserved

@@ -1,4 +1,4 @@
-use Rattle.std.proofs.Common.{◌≡◌, ◌<◌, ◌≤◌, ◌+◌, ◌*◌, ◌-◌, inl, inr, arith, rules}
+use Rattle.std.proofs.Common.{◌<◌, ◌≤◌, ◌+◌, ◌*◌, ◌-◌, inl, inr, arith, rules}
 use Rattle.std.proofs.lemmas.{Bool.Decides.{Decides-eqb}, Slice.Eq.{slice_eq-Decides}}
 use Rattle.qr_pictures.proofs.lemmas.drawn.{copied-row, line-decided, margin-row, row-later}
 use Rattle.qr_pictures.proofs.drawn.is_row_drawn.Goals as goal

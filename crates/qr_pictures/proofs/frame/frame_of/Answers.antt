@@ -1,4 +1,4 @@
-use Rattle.std.proofs.Common.{◌≡◌, ◌<◌, ◌≤◌, ◌+◌, ◌-◌, ◌*◌, Some, sym, arith}
+use Rattle.std.proofs.Common.{◌≡◌, ◌-◌, ◌*◌, Some, sym, arith}
 use Rattle.qr_pictures.specs.Steps.{IsSide}
 use Rattle.qr_pictures.proofs.lemmas.frame.{bottom-found, edges-found, size-least, top-found}
 use Rattle.qr_pictures.proofs.lemmas.picture.{none-some, some-pair}

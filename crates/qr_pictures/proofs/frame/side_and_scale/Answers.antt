@@ -1,4 +1,4 @@
-use Rattle.std.proofs.Common.{◌≡◌, ◌%◌, ap, ◌∙◌, arith}
+use Rattle.std.proofs.Common.{◌%◌, ap, ◌∙◌, arith}
 use Rattle.qr_pictures.proofs.lemmas.frame.{scale-found, side-found}
 use Rattle.qr_pictures.proofs.frame.side_and_scale.Goals as goal
 use Rattle.qr_pictures.proofs.frame.side_and_scale.Goals.{then-scale-eq0-via-then-scale-eq0, then-scale-eq0-via-else-scale-eq0+then-width-ne0, then-scale-eq0-via-else-scale-eq0+else-width-ne0+then-size-scale-ne0}

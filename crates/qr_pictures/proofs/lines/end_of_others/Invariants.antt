@@ -1,4 +1,4 @@
-use Rattle.std.proofs.Common.{ℕ, ◌≤◌, length}
+use Rattle.std.proofs.Common.{◌≤◌, length}
 use Rattle.qr_pictures.specs.Steps.{AreAll}
 use Rattle.qr_pictures.proofs.lines.end_of_others.Given as goal
 

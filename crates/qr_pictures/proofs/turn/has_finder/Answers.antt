@@ -1,4 +1,4 @@
-use Rattle.std.proofs.Common.{◌≡◌, ◌<◌, ◌≤◌, ◌+◌, true, arith, rules, refl, below_more, inl, inr}
+use Rattle.std.proofs.Common.{◌≡◌, true, arith, rules, refl, below_more, inl, inr}
 use Rattle.std.proofs.lemmas.Bool.{cases_lt}
 use Rattle.qr_pictures.proofs.lemmas.turn.{row-outside}
 use Rattle.qr_pictures.proofs.turn.has_finder.Goals as goal

@@ -1,4 +1,4 @@
-use Rattle.std.proofs.Common.{◌≡◌, ◌<◌, ◌≤◌, ◌+◌, true, arith, rules, refl, below_more, inl, inr}
+use Rattle.std.proofs.Common.{◌≡◌, true, arith, rules, refl, below_more, inl, inr}
 use Rattle.std.proofs.lemmas.Bool.{cases_lt}
 use Rattle.qr_pictures.proofs.lemmas.turn.{col-outside}
 use Rattle.qr_pictures.proofs.turn.is_finder_row.Goals as goal
