@@ -29,6 +29,7 @@ struct Drawn {
 }
 
 const WIDTH: usize = 70;
+
 const HEIGHT: usize = 80;
 
 impl Drawn {

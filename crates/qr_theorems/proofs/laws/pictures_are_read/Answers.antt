@@ -18,8 +18,8 @@ write_modules-requires-clause-room c =
 pub returns-in_err-square : goal.returns-in_err-square
 returns-in_err-square c =
     rw c.from_residual.ensures (λ x l rule i h mask g may s o some scale margin metre p file pixels.
-        absurd (c.in_err-square.ensures (clean-at c.args.version o) g
-        (picture-clean c.args.version l rule i x h mask g o p c.args.picture.now c.files_are_read_back.ensures s some scale margin metre (omega arith) (omega arith) file pixels)))
+    absurd (c.in_err-square.ensures (clean-at c.args.version o) g
+    (picture-clean c.args.version l rule i x h mask g o p c.args.picture.now c.files_are_read_back.ensures s some scale margin metre (omega arith) (omega arith) file pixels)))
 
 pub returns : goal.returns
 returns c = λ x l rule i h mask g may s o some scale margin metre p file pixels.

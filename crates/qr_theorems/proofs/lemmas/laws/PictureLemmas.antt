@@ -30,10 +30,12 @@ near-bottom-left s r c some l m near = omega arith
 
 finder-at : (v mask : ℕ) (l : Level) (cw : List ℕ) (a b : ℕ) → ((r c : ℕ) → r < side_of v → c < side_of v → ring_of a b r c ≤ 4 → finder_ring (side_of v) r c ≡ ring_of a b r c) → HasFinder (side_of v) (colour (grid_of v l mask cw)) a b
 finder-at v mask l cw a b is =
-    record { rings = λ r c lr lc near.
-        let e = is r c lr lc near in
-        let le : finder_ring (side_of v) r c ≤ 4 = omega (arith, e) in
-        colour-square (side_of v) (colour_of v l mask cw) r c lr lc ∙ ring-colour v mask l cw r c le ∙ ap (λ z. not (eqb z 2 || eqb z 4)) e }
+    record {
+      rings = λ r c lr lc near.
+          let e = is r c lr lc near in
+          let le : finder_ring (side_of v) r c ≤ 4 = omega (arith, e) in
+          colour-square (side_of v) (colour_of v l mask cw) r c lr lc ∙ ring-colour v mask l cw r c le ∙ ap (λ z. not (eqb z 2 || eqb z 4)) e;
+    }
 
 symbol-finders : (v mask : ℕ) (l : Level) (cw : List ℕ) → 1 ≤ v → HasFinders (side_of v) (colour (grid_of v l mask cw))
 symbol-finders v mask l cw some =
@@ -99,24 +101,32 @@ grey-inside : (f : Frame) (dark : ℕ → ℕ → Bool) (y x : ℕ) → is_insid
 unfolding drawn_grey
 grey-inside f dark y x e = ap (λ b. cond (b && dark ((y - f.top) / f.scale) ((x - f.left) / f.scale)) f.dark f.light) e
 
-shade : (b : Bool) → cond (not b) 255 0 ≡ cond b 0 255
-shade true = refl
-shade false = refl
+shade : (b : Bool) (white black : ℕ) → cond (not b) white black ≡ cond b black white
+shade true white black = refl
+shade false white black = refl
 
 raster-drawn : (m s y x : ℕ) (g : Grid) → 1 ≤ s → cond (not (is_dark_at m g (y / s) (x / s))) 255 0 ≡ drawn_grey (frame-of g.side m s) (colour g) y x
 raster-drawn m s y x g some =
     let f : Frame = frame-of g.side m s in
-    shade (is_dark_at m g (y / s) (x / s)) ∙
-    elim (cases_lt y (m * s)) [ inl l ↦ ap (λ b. cond b 0 255) (dark-above m (y / s) (x / s) g (lower m s y some l)) ∙ sym (grey-outside f (colour g) y x (grind (arith, nat_tests)))
-    | inr top ↦ elim (cases_lt x (m * s)) [ inl l ↦ ap (λ b. cond b 0 255) (dark-before m (y / s) (x / s) g (lower m s x some l)) ∙ sym (grey-outside f (colour g) y x (grind (arith, nat_tests)))
-    | inr left ↦ elim (cases_lt y (m * s + g.side * s)) [ inr l ↦ ap (λ b. cond b 0 255) (dark-below m (y / s) (x / s) g (past m g.side s y some l)) ∙ sym (grey-outside f (colour g) y x (grind (arith, nat_tests)))
-    | inl bottom ↦ elim (cases_lt x (m * s + g.side * s)) [ inr l ↦ ap (λ b. cond b 0 255) (dark-after m (y / s) (x / s) g (past m g.side s x some l)) ∙ sym (grey-outside f (colour g) y x (grind (arith, nat_tests)))
-    | inl right ↦
-        let r = inner m s y some top in
-        let c = inner m s x some left in
-        ap (λ b. cond b 0 255) (dark-inside m (y / s) (x / s) g r.0 (upper m g.side s y some bottom) c.0 (upper m g.side s x some right)
-          ∙ ap (λ z. colour g z (x / s - m)) (sym r.1) ∙ ap (λ z. colour g ((y - m * s) / s) z) (sym c.1))
-        ∙ sym (grey-inside f (colour g) y x (grind (arith, nat_tests))) ] ] ] ]
+    shade (is_dark_at m g (y / s) (x / s)) 255 0 ∙
+    elim (cases_lt y (m * s)) [
+      | inl l ↦ ap (λ b. cond b 0 255) (dark-above m (y / s) (x / s) g (lower m s y some l)) ∙ sym (grey-outside f (colour g) y x (grind (arith, nat_tests)))
+      | inr top ↦ elim (cases_lt x (m * s)) [
+        | inl l ↦ ap (λ b. cond b 0 255) (dark-before m (y / s) (x / s) g (lower m s x some l)) ∙ sym (grey-outside f (colour g) y x (grind (arith, nat_tests)))
+        | inr left ↦ elim (cases_lt y (m * s + g.side * s)) [
+          | inr l ↦ ap (λ b. cond b 0 255) (dark-below m (y / s) (x / s) g (past m g.side s y some l)) ∙ sym (grey-outside f (colour g) y x (grind (arith, nat_tests)))
+          | inl bottom ↦ elim (cases_lt x (m * s + g.side * s)) [
+            | inr l ↦ ap (λ b. cond b 0 255) (dark-after m (y / s) (x / s) g (past m g.side s x some l)) ∙ sym (grey-outside f (colour g) y x (grind (arith, nat_tests)))
+            | inl right ↦
+                let r = inner m s y some top in
+                let c = inner m s x some left in
+                ap (λ b. cond b 0 255) (dark-inside m (y / s) (x / s) g r.0 (upper m g.side s y some bottom) c.0 (upper m g.side s x some right)
+                ∙ ap (λ z. colour g z (x / s - m)) (sym r.1) ∙ ap (λ z. colour g ((y - m * s) / s) z) (sym c.1))
+                ∙ sym (grey-inside f (colour g) y x (grind (arith, nat_tests)))
+          ]
+        ]
+      ]
+    ]
 
 -- the side of a version
 side-step : (v : ℕ) → side_of v % 4 ≡ 1
