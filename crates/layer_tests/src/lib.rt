@@ -1,5 +1,5 @@
-//! Tests of the public functions of `qr_layout`, `qr_field`, `qr_matrix`, `qr_bits` and `qr_images`, and of the
-//! documents of `qr_drawing`. 1-M stands for version 1 and level M.
+//! Tests of the public functions of `qr_layout`, `qr_field`, `qr_matrix`, `qr_bits`, `qr_images` and `qr_pictures`, and
+//! of the documents of `qr_drawing`. 1-M stands for version 1 and level M.
 //!
 //! The files of `src`:
 //!
@@ -12,6 +12,7 @@
 //! - `layout`: versions, blocks, format and version information, roles
 //! - `matrix`: the square of modules
 //! - `penalty`: the penalty of squares
+//! - `pictures`: clean pictures
 //! - `room`: how many characters fit a symbol
 //! - `segments`: segments, prefixes and folding
 //! - `walk`: the order in which codewords fill the region
@@ -35,6 +36,8 @@ mod layout;
 mod matrix;
 #[cfg(test)]
 mod penalty;
+#[cfg(test)]
+mod pictures;
 #[cfg(test)]
 mod room;
 #[cfg(test)]

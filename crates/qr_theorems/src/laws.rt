@@ -1,6 +1,6 @@
 //! The theorems, in the order of README's claims. The contract of each function is the theorem.
 
-ghost use Rattle.std.specs.Prelude.{List, MatchResult, Option, false, length, ℕ, ◌<◌, ◌≡◌, ◌≤◌};
+ghost use Rattle.std.specs.Prelude.{List, MatchResult, Option, false, length, ℕ, ◌*◌, ◌<◌, ◌≡◌, ◌≤◌};
 ghost use Rattle.qr_layout.specs.declared.level.Level.{Level};
 ghost use Rattle.qr_matrix.specs.Grid.{Grid};
 ghost use Rattle.qr_bits.specs.Interpretation.{MayWrite};
@@ -23,6 +23,7 @@ ghost use Rattle.qr_mending.specs.declared.format.FormatCopy.{FormatCopy};
 ghost use Rattle.qr_theorems.specs.Damage.{AreDamagedSquares, DifferInFewModules};
 ghost use Rattle.qr_theorems.specs.Distance.{DamagedMessagesAreOne, MessagesLieApart, SymbolsLieApart};
 ghost use Rattle.qr_theorems.specs.Images.{ImagesAreRead};
+ghost use Rattle.qr_theorems.specs.Pictures.{IsReadFrom};
 ghost use Rattle.qr_theorems.specs.Laws.{OutputsReadBack};
 
 use qr_bits::Rule;
@@ -30,6 +31,8 @@ use qr_images::laws::files_are_read_back;
 use qr_layout::{Level, Version};
 use qr_matrix::Matrix;
 use qr_mending::{Mended, mend_series, mend_symbol, mend_symbol_with_unknown};
+use qr_pictures::laws::clean_pictures_are_one;
+use qr_pictures::{CleanSquare, Picture, clean_square, write_modules};
 use qr_symbol::ReadFault;
 use std::alloc::Global;
 
@@ -167,4 +170,23 @@ pub fn images_are_read(version: Version)
     ensures { ImagesAreRead version }
 {
     files_are_read_back();
+}
+
+/// From the bytes of a PNG file to the bytes of the input, by the code that reads pictures. Take the file that
+/// `write_image` of `qr_images` writes for a symbol, and the pixels of the picture that this file is by the rules of PNG.
+/// In these pixels `clean_square` finds the symbol. Reading the modules that `write_modules` then writes yields the bytes
+/// of the input, the interpretation, the segments of fewest bits, and the structured append header, if the symbol has one.
+pub fn pictures_are_read(
+    version: Version,
+    picture: &Picture,
+    modules: &mut [u8],
+) -> Option<CleanSquare>
+    requires { 177 * 177 ≤ length modules.old }
+    ensures { IsReadFrom version picture.now result modules.new }
+{
+    files_are_read_back();
+    clean_pictures_are_one();
+    let square = clean_square(picture)?;
+    write_modules(picture, &square, modules);
+    Some(square)
 }

@@ -6,3 +6,4 @@ pub mod ModuleLemmas
 pub mod FewModuleLemmas
 pub mod SeriesLemmas
 pub mod ImageLemmas
+pub mod PictureLemmas
