@@ -1,6 +1,6 @@
 -- What the modules of a symbol are in a picture. `shows` has the brightness of each pixel of the picture, by its column and
 -- its row.
-use Rattle.std.specs.Prelude.{ℕ, ◌+◌, ◌-◌, ◌*◌, ◌/◌, min, if◌then◌else◌}
+use Rattle.std.specs.Prelude.{ℕ, ◌+◌, ◌-◌, ◌*◌, ◌/◌, ◌≤◌, min, if◌then◌else◌}
 use Rattle.qr_sampling.specs.Brightness.{brightness}
 use Rattle.qr_sampling.specs.Levels.{dark_level, light_level, module_of}
 use Rattle.qr_sampling.specs.Place.{column_of, row_of}
@@ -50,3 +50,11 @@ placed how values column row = if how.is_mirrored then module_in how values row 
 -- What a module of the symbol is in the picture [own]
 unfoldable pub sampled : (ℕ → ℕ → ℕ) → Sampling → ℕ → ℕ → ℕ
 sampled shows how = placed how (value_at shows how)
+
+-- The side and the reach are not too great, and the tables have room for each module [own]
+pub record IsEnough (side reach bytes sums modules : ℕ) : Type 0 where
+  pub side_in : side ≤ 177
+  pub reach_in : reach ≤ 4
+  pub bytes_room : 3 * (side * side) ≤ bytes
+  pub sums_room : 3 * (side * side) ≤ sums
+  pub modules_room : side * side ≤ modules

@@ -1,5 +1,5 @@
 -- What the tables of the code hold. Only contracts of private functions cite this file.
-use Rattle.std.specs.Prelude.{ℕ, List, ◌*◌, ◌≤◌}
+use Rattle.std.specs.Prelude.{ℕ, List}
 use Rattle.qr_sampling.specs.{Levels.{across, light_of, mark}, Tables.IsTable}
 
 -- The tables have for each module the sum around it in its row: of all values, of the light ones, and of their marks
@@ -7,11 +7,3 @@ pub record AreSums (side : ℕ) (f : ℕ → ℕ → ℕ) (all light count : Lis
   pub all_are : IsTable side (across side f) all
   pub light_are : IsTable side (across side (light_of side f)) light
   pub count_are : IsTable side (across side (λ c r. mark (light_of side f c r))) count
-
--- The side and the reach are not too great, and the tables have room for each module
-pub record IsEnough (side reach bytes sums modules : ℕ) : Type 0 where
-  pub side_in : side ≤ 177
-  pub reach_in : reach ≤ 4
-  pub bytes_room : 3 * (side * side) ≤ bytes
-  pub sums_room : 3 * (side * side) ≤ sums
-  pub modules_room : side * side ≤ modules

@@ -23,6 +23,7 @@ pub struct Map {
     pub divisor: Form,
 }
 
+// Returns the product of two numbers.
 #[tactic(auto, using(crate::proofs::Named::product_facts))]
 fn product(a: i64, n: u32) -> i64
     requires a_in { unsigned_abs a < 2 ^ 46 }
@@ -63,6 +64,7 @@ impl Form {
         }
     }
 
+    // Returns the value of the form at a place.
     fn value(&self, u: u32, v: u32) -> i64
         requires u_in { u < 2 ^ 14 }
         requires v_in { v < 2 ^ 14 }
@@ -75,6 +77,7 @@ impl Form {
 impl Map {
     ghost use Rattle.qr_sampling.specs.Place.{column_of, quotient_of, row_of};
 
+    // Returns the quotient of two values, which is 0 if one of them is not positive.
     #[tactic(auto, unfolding(crate::specs::Place::quotient_of))]
     fn quotient(over: i64, under: i64) -> u32
         ensures value { result ≡ quotient_of over under }

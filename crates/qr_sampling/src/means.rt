@@ -9,6 +9,7 @@ use crate::map::Map;
 use crate::picture::Picture;
 use crate::sampling::Sampling;
 
+// Returns the sum of the brightness at places in a row, a pixel apart, up to `reach` to each side of the column `x`.
 #[tactic(auto, using(crate::proofs::Named::sum_facts), unfolding(crate::specs::Sampling::row_sum))]
 fn row_sum(picture: &Picture, reach: u32, x: u32, y: u32) -> u32
     requires reach_in { reach ≤ 4 }
@@ -23,6 +24,7 @@ fn row_sum(picture: &Picture, reach: u32, x: u32, y: u32) -> u32
     sum
 }
 
+// Returns the sum of the brightness at places in a square, a pixel apart, around the place `x`, `y`.
 #[tactic(auto, using(crate::proofs::Named::sum_facts), unfolding(crate::specs::Sampling::square_sum))]
 fn square_sum(picture: &Picture, reach: u32, x: u32, y: u32) -> u32
     requires reach_in { reach ≤ 4 }
@@ -54,6 +56,7 @@ fn rounded_mean(sum: u32, count: u32) -> u8
     ((sum + count / 2) / count) as u8
 }
 
+// Returns the brightness of a module.
 #[tactic(auto, using(crate::proofs::Named::mean_facts), unfolding(crate::specs::Sampling::mean_at))]
 fn mean_at(picture: &Picture, map: &Map, reach: u32, column: u32, row: u32) -> u8
     requires reach_in { reach ≤ 4 }
@@ -67,6 +70,7 @@ fn mean_at(picture: &Picture, map: &Map, reach: u32, column: u32, row: u32) -> u
     rounded_mean(sum, (2 * reach + 1) * (2 * reach + 1))
 }
 
+// Writes the brightness of each module.
 #[tactic(auto, using(crate::proofs::Named::table_facts))]
 fn write_means(picture: &Picture, map: &Map, side: usize, reach: u32, means: &mut [u8])
     requires side_in { side ≤ 177 }

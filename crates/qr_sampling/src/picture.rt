@@ -26,6 +26,7 @@ pub struct Picture<'a> {
     ghost whole: { (height - 1) * stride + width ≤ length pixels.now },
 }
 
+// Returns sixteen times the brightness between two pixels.
 fn between(first: u8, second: u8, sixteenths: u32) -> u32
     requires { sixteenths < 16 }
     ensures value { result ≡ between first second sixteenths }

@@ -2,8 +2,7 @@
 
 ghost use Rattle.std.specs.Prelude.{◌≡◌, ℕ, ◌<◌, ◌≤◌, ◌*◌, length, true, false};
 ghost use Rattle.qr_sampling.specs.Brightness.{shown};
-ghost use Rattle.qr_sampling.specs.Sampling.{sampled};
-ghost use Rattle.qr_sampling.specs.Steps.{IsEnough};
+ghost use Rattle.qr_sampling.specs.Sampling.{IsEnough, sampled};
 ghost use Rattle.qr_sampling.specs.Tables.{IsTable};
 
 use crate::levels::{RowSums, write_across, write_lights, write_marks, write_modules};
