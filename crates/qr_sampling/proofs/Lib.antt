@@ -1,0 +1,2 @@
+mod lemmas
+pub mod Named
