@@ -2,6 +2,7 @@
 import os
 import pathlib
 import random
+import signal
 import subprocess
 import sys
 import tarfile
@@ -28,14 +29,16 @@ class Killed(unittest.TestCase):
             command = [sys.executable, "-B", "-m", "qrproved", "--batch", self.room / "list", "-o", out, "-s", "1", "--jobs", "2", "--resume", *words]
             for _ in range(3):
                 before = self.count(out)
-                with subprocess.Popen(command, start_new_session=True, stderr=subprocess.DEVNULL) as started:
+                with subprocess.Popen(command, start_new_session=True, stdout=subprocess.DEVNULL, stderr=subprocess.DEVNULL) as started:
                     while started.poll() is None and self.count(out) == before:
                         time.sleep(0.01)
                     time.sleep(0.1 * numbers.random())
                     started.kill()
                 deadline = time.monotonic() + 20
                 while self.is_any_left(started.pid):
-                    self.assertLess(time.monotonic(), deadline, "processes that are left over")
+                    if time.monotonic() > deadline:
+                        os.killpg(started.pid, signal.SIGKILL)
+                        self.fail("processes are left over")
                     time.sleep(0.02)
             self.assertEqual(run(*command[4:]), (b"", ""))
             wanted = {f"{k + 1:08}.png": png(f"label {k}") for k in range(count)}
