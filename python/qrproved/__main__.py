@@ -120,7 +120,7 @@ class Report:
     def add(self, done: Done) -> None:
         share = self.source.share()
         self.written += done.count - done.skipped
-        if done.skipped == done.count:  # what is skipped says nothing of the time that is left
+        if done.skipped and done.skipped + len(done.faults) == done.count:  # what is skipped says nothing of the time that is left
             self.start, self.first_share, self.written = time.monotonic(), share or 0.0, 0
         self.count += done.count
         self.skipped += done.skipped
@@ -310,7 +310,7 @@ def parsed(words: list[str]) -> argparse.Namespace:
     parser.add_argument("--tar", action="store_true", help=f"--batch writes tar archives in place of folders, with {LABELS_OF_ARCHIVE:,} labels"
                         " unless --shard says how many")
     parser.add_argument("--resume", action="store_true", help="--batch skips files and archives that are there, as after an interruption")
-    parser.add_argument("--faults", metavar="FILE", help="--batch writes the lines that cannot be drawn to this file, each with a tab and the reason")
+    parser.add_argument("--faults", metavar="FILE", help="--batch writes the numbers of the lines that cannot be drawn to this file, each with a tab and the reason")
     parser.set_defaults(content=None)
     return completed(parser, parser.parse_args(words))
 

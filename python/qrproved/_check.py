@@ -60,11 +60,13 @@ class Expected:
             rows = source.rows_by_columns(given.columns) if given.columns else source.rows()
             for _, label in labels_of(rows, Naming("", "", by_text, given.start, DIGITS)):
                 if isinstance(label.data, str):
-                    self.by_name[key_of(label.path)] = label.data
+                    self.by_name[label.path.casefold()] = label.data
+                    self.by_name.setdefault(key_of(label.path), label.data)
         self.texts = set(self.by_name.values())
 
     def of(self, path: str) -> Optional[str]:
-        return self.by_name.get(key_of(Path(path).stem))
+        name = Path(path).stem
+        return self.by_name.get(name.casefold(), self.by_name.get(key_of(name)))
 
     def fault(self, content: Content, wanted: Optional[str]) -> Optional[str]:
         """Returns what is wrong with a content: None if it is the wanted one, or one of the list if none is wanted."""

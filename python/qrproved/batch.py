@@ -65,6 +65,8 @@ class Settings(NamedTuple):
     def drawn(self, symbols: list[Symbol], caption: Optional[str] = None) -> bytes:
         """Returns the drawing of a symbol or of a series, or the modules of a symbol that gets a page of a PDF. An SVG may have a caption."""
         if caption is not None:
+            if self.kind != "svg" or self.is_series:
+                raise qrproved.SettingsError("only an SVG of one symbol has a caption")
             return symbols[0].svg(margin=self.margin, mm=self.mm, caption=caption)
         if self.kind == "pdf" and self.is_label:
             return symbols[0].modules
@@ -201,7 +203,8 @@ def is_there(path: str) -> bool:
 def archived(part: Part, path: str) -> Done:
     """Writes the labels of a part to a tar archive. Its faults are in a file beside it, so that they are known after an interruption."""
     if part.is_resumed and is_there(path):
-        return Done(len(part.labels), len(part.labels), faults_of(path), [])
+        faults = faults_of(path)
+        return Done(len(part.labels), len(part.labels) - len(faults), faults, [])
     try:
         os.makedirs(os.path.dirname(path) or ".", exist_ok=True)
         with placed(path + BESIDE, path):

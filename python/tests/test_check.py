@@ -65,6 +65,13 @@ class Check(unittest.TestCase):
             run("check", *wrong, status=2)
         self.assertIn("has no column 'x'", run("check", "--expect", table, "--columns", "x", "--", files[0], status=2)[1])
 
+    def test_names_that_are_numbers(self):
+        table = self.put("list.csv", "Code,Name\nShelf 1,007\nShelf 2,7\n")
+        run("--batch", table, "-o", self.room / "out", "--columns", "text=Code", "name=Name")
+        files = sorted((self.room / "out").iterdir())
+        self.assertEqual([it.name for it in files], ["007.png", "7.png"])
+        self.assertEqual(self.check("-q", "--expect", table, "--columns", "text=Code", "name=Name", "--", *files), [])
+
     def test_gs1_and_series(self):
         listed = self.put("list", "(01)04012345678901(10)ABC123\n[10]A(1\n")
         run("--batch", listed, "--gs1", "-o", self.room / "out")

@@ -158,6 +158,16 @@ class Stream(unittest.TestCase):
                       Part(Settings("png"), [Label(1, "1.png", "A")], str(self.room / "file/1.tar"))):
             self.assertEqual([line for line, _ in write(wrong).faults], [1])
 
+    def test_only_an_svg_of_one_symbol_has_a_caption(self):
+        for settings in (Settings("png"), Settings("svg", is_series=True, version=3)):
+            done = write(Part(settings, [Label(1, str(self.room / "a"), "A", "Shelf 1")]))
+            self.assertEqual(done.faults, [(1, "only an SVG of one symbol has a caption")])
+
+    def test_an_archive_that_is_there(self):
+        part = Part(Settings("png", scale=1), [Label(1, "a.png", "A"), Label(2, "b.png", Unreadable("why"))], str(self.room / "a.tar"), True)
+        self.assertEqual(write(part)[:3], (2, 0, [(2, "why")]))
+        self.assertEqual(write(part)[:3], (2, 1, [(2, "why")]))
+
     def test_the_file_of_all_labels_is_whole_or_not_there(self):
         for path in (self.room / "a.zpl", self.room / "link.zpl"):
             with self.assertRaises(KeyError), qrproved.__main__.whole(str(path)) as file:
