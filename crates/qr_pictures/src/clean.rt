@@ -90,12 +90,16 @@ fn is_dark_upright(picture: &Picture, square: &CleanSquare, row: usize, col: usi
 }
 
 /// Writes the modules of the symbol to the beginning of `modules`, row by row, as they are if the symbol is upright: 1
-/// for a dark module, and 0 for a light one. `square` is what `clean_square` returned for the picture.
+/// for a dark module, and 0 for a light one. Bytes after them stay the same. `square` is what `clean_square` returned for
+/// the picture.
 pub fn write_modules(picture: &Picture, square: &CleanSquare, modules: &mut [u8])
     requires frame { IsFrameIn picture.now square.now.frame }
     requires room { square.now.frame.side * square.now.frame.side ≤ length modules.old }
-    ensures { (g : Grid) → IsCleanPicture picture.now square.now g
+    ensures square { (g : Grid) → IsCleanPicture picture.now square.now g
         → square_of_bytes square.now.frame.side modules.new ≡ g }
+    ensures bits { (i : ℕ) → i < square.now.frame.side * square.now.frame.side → slice_index_or modules.new i 0 ≤ 1 }
+    ensures others { (i : ℕ) → square.now.frame.side * square.now.frame.side ≤ i
+        → slice_index_or modules.new i 0 ≡ slice_index_or modules.old i 0 }
 {
     let side = usize::from(square.frame.side);
     for i in 0..side * side {

@@ -356,3 +356,10 @@ square-written p s g bytes k written =
     let at = written (r * n + c) (mul-add-lt r n c n l m) in
     ap (λ z. not (eqb z 0)) at ∙ byte-colour (dark ((r * n + c) / n) ((r * n + c) % n)) ∙ ap (λ z. dark z ((r * n + c) % n)) row ∙ ap (λ z. dark r z) col)
     ∙ sym (square-is p s g k)
+
+byte-small : (b : Bool) → byte_of b ≤ 1
+byte-small true = omega arith
+byte-small false = omega arith
+
+pub byte-at-most : (n : ℕ) (b : Bool) → n ≡ byte_of b → n ≤ 1
+byte-at-most n b e = let l = byte-small b in omega arith

@@ -26,5 +26,5 @@ returns c = λ x l rule i h mask g may s o some scale margin metre p file pixels
     let clean = picture-clean c.args.version l rule i x h mask g o p c.args.picture.now c.files_are_read_back.ensures s some scale margin metre (omega arith) (omega arith) file pixels in
     let shown = c.in_ok-square.ensures in
     let one = c.clean_pictures_are_one.ensures c.args.picture.now c.in_ok-square.square (clean-at c.args.version o) shown.0 g shown.1 clean in
-    let same = c.write_modules.ensures shown.0 shown.1 ∙ one.1 in
+    let same = c.write_modules.ensures.square shown.0 shown.1 ∙ one.1 in
     subst (λ (z : Grid). IsReading z (interpreted_content i h s.segments x)) (sym same) (symbol-read c.args.version l rule i x h mask g (omega arith) (omega arith) may s)
