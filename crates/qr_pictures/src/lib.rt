@@ -1,7 +1,8 @@
-//! This crate reads clean pictures: pictures in grey that show one symbol and nothing else, as programs draw them. Each
-//! module is a square of whole pixels, and there are two grey values, one for dark modules and one for light modules and
-//! the margins. The crate accepts exactly these pictures. The symbol may be light on dark, turned by quarter turns, and
-//! near to the edges of the picture.
+//! This crate reads clean pictures: pictures in grey that show one square with the finder patterns of a symbol, and nothing
+//! else, as programs draw them. Each module is a square of whole pixels, and there are two grey values, one for dark
+//! modules and one for light modules and the margins. The crate accepts exactly these pictures. The square may be light on
+//! dark, turned by quarter turns, and near to the edges of the picture. Whether it is a symbol, the caller finds out by
+//! reading it.
 //!
 //! The frame of the square and the size of its modules are guessed from two rows of pixels. Then every pixel is compared
 //! with the drawing of the modules in this frame. So nothing else has to be checked: if the guess is wrong, or if there

@@ -1,6 +1,6 @@
 -- Which modules of a square are dark. `values` has the brightness of each module, by its column and its row. A module is
 -- compared with the light and the dark modules in a square of 13 by 13 modules around it, as far as this is inside the
--- symbol. So a shadow that falls on a part of the symbol changes nothing.
+-- symbol. So brightness that changes slowly across the symbol matters little.
 use Rattle.std.specs.Prelude.{ℕ, Bool, true, false, ◌+◌, ◌-◌, ◌*◌, ◌/◌, ◌==◌, ◌&&◌, min, nat_lt, if◌then◌else◌}
 use Rattle.qr_sampling.specs.Sums.{sum_below}
 

@@ -8,8 +8,9 @@ use Rattle.qr_sampling.specs.Sums.{sum_below}
 use Rattle.qr_sampling.specs.declared.map.Map.{Map}
 use Rattle.qr_sampling.specs.declared.sampling.Sampling.{Sampling}
 
--- The sum of the brightness at places that are a pixel apart in a row, up to `reach` to each side of the place `x`. `y` is
--- counted from the middle of the pixel at the top [own]
+-- The sum of the brightness at places that are a pixel apart in a row, up to `reach` to each side of the place `x`. `x` is
+-- counted from the edge of the picture, and 8 less counts it from the middle of the first pixel, as `y` and `brightness`
+-- are counted [own]
 unfoldable pub row_sum : (ℕ → ℕ → ℕ) → ℕ → ℕ → ℕ → ℕ
 row_sum shows reach x y = sum_below (2 * reach + 1) (λ i. brightness shows (x + 16 * i - (16 * reach + 8)) y)
 
