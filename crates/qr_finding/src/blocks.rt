@@ -1,0 +1,235 @@
+//! Thresholds. A picture is divided into blocks of eight by eight pixels, and each block has a threshold. A pixel is dark if
+//! it is not brighter than the threshold of its block.
+
+ghost use Rattle.std.specs.Prelude.{◌≤◌, ◌<◌, ◌+◌};
+
+use crate::number::Number;
+use crate::tables::{byte_at, part, put};
+use crate::view::{DARK, LIGHT, Point};
+use qr_sampling::Picture;
+
+/// The side of a block.
+const BLOCK: usize = 8;
+
+/// The number of blocks in a row, and the number of such rows.
+#[derive(Clone, Copy)]
+pub(crate) struct Grid {
+    pub(crate) columns: usize,
+    pub(crate) rows: usize,
+    ghost columns_in: { columns ≤ 8192 },
+    ghost rows_in: { rows ≤ 8192 },
+}
+
+impl Grid {
+    pub(crate) fn of(picture: &Picture) -> Grid {
+        Grid::new(usize::from(picture.width), usize::from(picture.height))
+    }
+
+    /// Returns the grid of a picture of this size.
+    pub(crate) fn new(width: usize, height: usize) -> Grid {
+        Grid {
+            columns: width.div_ceil(BLOCK).min(8192),
+            rows: height.div_ceil(BLOCK).min(8192),
+        }
+    }
+}
+
+/// The thresholds of a picture that is smaller by a power of two, which is `shift`.
+#[derive(Clone, Copy)]
+pub(crate) struct Thresholds<'a> {
+    pub(crate) values: &'a [u8],
+    pub(crate) grid: Grid,
+    pub(crate) shift: u32,
+    ghost shift_in: { shift < 8 },
+}
+
+fn block_index(place: Number, shift: u32, count: usize) -> usize
+    requires { shift < 8 }
+{
+    Number(place.0 >> (7 + shift))
+        .index()
+        .min(count.saturating_sub(1))
+}
+
+impl Thresholds<'_> {
+    // Returns the threshold at a place of the whole picture, in sixteenths of a pixel.
+    pub(crate) fn at(&self, place: Point) -> u8 {
+        let column = block_index(place.x, self.shift, self.grid.columns);
+        let row = block_index(place.y, self.shift, self.grid.rows);
+        byte_at(
+            self.values,
+            row.saturating_mul(self.grid.columns).saturating_add(column),
+        )
+    }
+}
+
+// Counts the pixels of a row that are shown by every fourth, by their brightness.
+fn count_row(row: &[u8], counts: &mut [u32; 256]) {
+    for i in 0..row.len().div_ceil(4) {
+        let level = usize::from(byte_at(row, i.saturating_mul(4)));
+        counts[level] = counts[level].saturating_add(1);
+    }
+}
+
+/// Returns the range of brightness up to which a block has one colour: an eighth of the range of the picture, of which the
+/// darkest and the brightest fiftieth are left out.
+pub(crate) fn low_range(picture: &Picture) -> u8 {
+    let mut counts = [0u32; 256];
+    let mut total = 0u32;
+    for j in 0..usize::from(picture.height).div_ceil(4) {
+        let row = picture.row(j.saturating_mul(4));
+        count_row(row, &mut counts);
+        total = total.saturating_add(row.len().div_ceil(4).min(65_535) as u32);
+    }
+    let low = first_above(&counts, total / 50, false);
+    let high = first_above(&counts, total / 50, true);
+    (high.saturating_sub(low) / 8).min(24).max(5) as u8
+}
+
+// Returns the first level, from black on or from white on, up to which there are more than so many pixels.
+fn first_above(counts: &[u32; 256], limit: u32, from_white: bool) -> usize {
+    let mut seen = 0u32;
+    for k in 0..256usize {
+        let level = if from_white { 255 - k } else { k };
+        seen = seen.saturating_add(counts[level]);
+        if seen > limit {
+            return level;
+        }
+    }
+    if from_white { 0 } else { 255 }
+}
+
+/// The mean of the pixels of a block, and the least and the greatest of them.
+#[derive(Clone, Copy)]
+struct Block {
+    mean: u8,
+    least: u8,
+    most: u8,
+}
+
+fn block_of(picture: &Picture, column: usize, row: usize) -> Block {
+    let width = usize::from(picture.width);
+    let height = usize::from(picture.height);
+    let left = column
+        .saturating_mul(BLOCK)
+        .min(width.saturating_sub(BLOCK));
+    let top = row.saturating_mul(BLOCK).min(height.saturating_sub(BLOCK));
+    let right = left.saturating_add(BLOCK).min(width);
+    let (mut sum, mut count, mut least, mut most) = (0u32, 0u32, 255u8, 0u8);
+    for y in top..top.saturating_add(BLOCK).min(height) {
+        let pixels = part(picture.row(y), left, right);
+        count = count.saturating_add(BLOCK.min(pixels.len()) as u32);
+        for pixel in pixels {
+            sum = sum.saturating_add(u32::from(*pixel));
+            least = least.min(*pixel);
+            most = most.max(*pixel);
+        }
+    }
+    Block {
+        mean: (sum / count.max(1)).min(255) as u8,
+        least,
+        most,
+    }
+}
+
+// Returns the brightness of a block that has one colour: dark if its neighbours are lighter.
+fn plain_level(levels: &[u8], at: usize, columns: usize, least: u8, low_range: u8) -> u8 {
+    let above = u32::from(byte_at(levels, at.saturating_sub(columns)));
+    let left = u32::from(byte_at(levels, at.saturating_sub(1)));
+    let corner = u32::from(byte_at(levels, at.saturating_sub(columns).saturating_sub(1)));
+    let near = ((above + 2 * left + corner) / 4).min(255) as u8;
+    if least < near {
+        near
+    } else {
+        least.saturating_sub(low_range)
+    }
+}
+
+// Writes the level of each block.
+fn write_levels(picture: &Picture, low_range: u8, levels: &mut [u8]) {
+    let grid = Grid::of(picture);
+    for row in 0..grid.rows {
+        for column in 0..grid.columns {
+            let at = row.saturating_mul(grid.columns).saturating_add(column);
+            let block = block_of(picture, column, row);
+            let level = if block.most.saturating_sub(block.least) > low_range {
+                block.mean
+            } else if column > 0 && row > 0 {
+                plain_level(levels, at, grid.columns, block.least, low_range)
+            } else {
+                block.least.saturating_sub(low_range)
+            };
+            put(levels, at, level);
+        }
+    }
+}
+
+// Returns the mean level of the blocks around one, up to `around` to each side.
+fn mean_around(levels: &[u8], grid: Grid, around: usize, column: usize, row: usize) -> u8 {
+    let (mut sum, mut count) = (0u32, 0u32);
+    let left = column.saturating_sub(around);
+    let right = column
+        .saturating_add(around)
+        .saturating_add(1)
+        .min(grid.columns);
+    for y in row.saturating_sub(around)..row
+        .saturating_add(around)
+        .saturating_add(1)
+        .min(grid.rows)
+    {
+        let start = y.saturating_mul(grid.columns);
+        for level in part(
+            levels,
+            start.saturating_add(left),
+            start.saturating_add(right),
+        ) {
+            sum = sum.saturating_add(u32::from(*level));
+            count = count.saturating_add(1);
+        }
+    }
+    (sum / count.max(1)).min(255) as u8
+}
+
+// Writes which pixels of a row are dark.
+fn write_row(pixels: &[u8], thresholds: &[u8], dark: &mut [u8]) {
+    for (x, slot) in dark.iter_mut().enumerate() {
+        *slot = if byte_at(pixels, x) <= byte_at(thresholds, x / BLOCK) {
+            DARK
+        } else {
+            LIGHT
+        };
+    }
+}
+
+/// Writes the thresholds of the blocks of a picture, and which of its pixels are dark. A threshold is the mean level of so
+/// many blocks to each side.
+pub(crate) fn write_dark(
+    picture: &Picture,
+    around: usize,
+    low_range: u8,
+    blocks: (&mut [u8], &mut [u8]),
+    dark: &mut [u8],
+) {
+    let (levels, thresholds) = blocks;
+    write_levels(picture, low_range, levels);
+    let grid = Grid::of(picture);
+    for row in 0..grid.rows {
+        for column in 0..grid.columns {
+            let mean = mean_around(levels, grid, around, column, row);
+            put(
+                thresholds,
+                row.saturating_mul(grid.columns).saturating_add(column),
+                mean,
+            );
+        }
+    }
+    let width = usize::from(picture.width);
+    for y in 0..usize::from(picture.height) {
+        let start = (y / BLOCK).saturating_mul(grid.columns);
+        let row = part(thresholds, start, start.saturating_add(grid.columns));
+        let from = y.saturating_mul(width);
+        if let Some(to) = dark.get_mut(from..from.saturating_add(width)) {
+            write_row(picture.row(y), row, to);
+        }
+    }
+}

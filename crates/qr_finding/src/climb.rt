@@ -1,0 +1,185 @@
+//! Moves the corners of a square of modules until the patterns that every symbol has fit it.
+
+use crate::fit::{Looks, Scene};
+use crate::number::Number;
+use crate::quad::Quad;
+use crate::view::Point;
+
+/// How the corners are moved: by a first step, which is halved down to the least one, and how many of the corners.
+#[derive(Clone, Copy)]
+pub(crate) struct Steps {
+    pub(crate) first: Number,
+    pub(crate) least: Number,
+    pub(crate) corners: usize,
+}
+
+// Returns the place that is a step away, in one of four directions.
+fn moved(place: Point, step: Number, direction: usize) -> Point {
+    let (x, y) = match direction {
+        0 => (place.x + step, place.y),
+        1 => (place.x - step, place.y),
+        2 => (place.x, place.y + step),
+        _ => (place.x, place.y - step),
+    };
+    Point { x, y }
+}
+
+// Moves each corner once in each direction in which the patterns fit better. Returns the square, its fit, and whether it was
+// moved.
+fn turn(
+    scene: &Scene,
+    quad: Quad,
+    best: i64,
+    looks: Looks,
+    steps: (Number, usize),
+) -> (Quad, i64, bool) {
+    let (mut quad, mut best, mut is_moved) = (quad, best, false);
+    let (step, corners) = steps;
+    for k in 0..corners.min(4) {
+        for direction in 0..4usize {
+            let trial = quad.with_place(k, moved(quad.place(k), step, direction));
+            let now = scene.fit(&trial, looks).sum;
+            if now > best {
+                best = now;
+                quad = trial;
+                is_moved = true;
+            }
+        }
+    }
+    (quad, best, is_moved)
+}
+
+/// Returns the square with its corners moved, one after the other, while the patterns fit better.
+pub(crate) fn climb(scene: &Scene, quad: &Quad, steps: Steps, looks: Looks) -> Quad {
+    let mut quad = *quad;
+    let mut best = scene.fit(&quad, looks).sum;
+    let mut step = steps.first;
+    for _ in 0..40 {
+        if step < steps.least || step.0 <= 0 {
+            break;
+        }
+        for _ in 0..3 {
+            let (next, sum, is_moved) = turn(scene, quad, best, looks, (step, steps.corners));
+            quad = next;
+            best = sum;
+            if !is_moved {
+                break;
+            }
+        }
+        step = step / 2;
+    }
+    quad
+}
+
+/// The places of the last alignment pattern and of the modules beside it.
+#[derive(Clone, Copy)]
+struct Target {
+    middle: Point,
+    right: Point,
+    down: Point,
+}
+
+// Returns where a place of the symbol is, in eighths of a module.
+fn place_of(quad: &Quad, u: usize, v: usize) -> Option<Point> {
+    let map = quad.map()?;
+    let (u, v) = (u.min(16_000) as u32, v.min(16_000) as u32);
+    Some(Point {
+        x: Number(i64::from(map.column_of(u, v))),
+        y: Number(i64::from(map.row_of(u, v))),
+    })
+}
+
+fn target_of(quad: &Quad) -> Option<Target> {
+    let at = quad.last().saturating_mul(8).saturating_add(4);
+    let middle = place_of(quad, at, at)?;
+    Some(Target {
+        middle,
+        right: place_of(quad, at.saturating_add(8), at)?.minus(middle),
+        down: place_of(quad, at, at.saturating_add(8))?.minus(middle),
+    })
+}
+
+impl Target {
+    // Returns the place that is so many modules away, times a divisor.
+    fn place(&self, from: Point, right: i64, down: i64, divisor: i64) -> Point {
+        let way = self
+            .right
+            .times(Number(right))
+            .plus(self.down.times(Number(down)));
+        from.plus(way.over(Number(divisor)))
+    }
+
+    // Returns how well an alignment pattern fits a place: the sum of distances, and the number of modules that are right, or
+    // `None` if these are fewer than 20 of 25.
+    fn fit(&self, scene: &Scene, middle: Point) -> Option<Number> {
+        let limit = scene.thresholds.at(middle);
+        let (mut sum, mut right) = (Number(0), 0u32);
+        for j in 0..5u32 {
+            let y = i64::from(j) - 2;
+            for x in -2..3i64 {
+                let is_dark = x.unsigned_abs().max(y.unsigned_abs()) != 1;
+                let distance = scene.distance(self.place(middle, x, y, 1), limit, is_dark);
+                sum = sum + distance.max(-48).min(48);
+                right = right.saturating_add(u32::from(distance > 0));
+            }
+            if right.saturating_add(20 - 5 * j) < 20 {
+                return None;
+            }
+        }
+        if right < 20 { None } else { Some(sum) }
+    }
+
+    // Returns the place near the target at which an alignment pattern fits best.
+    fn best(&self, scene: &Scene, reach: usize) -> Option<Point> {
+        let wide = reach.min(16) * 4;
+        let width = Number::of(usize::from(scene.picture.width)) * 16;
+        let height = Number::of(usize::from(scene.picture.height)) * 16;
+        let (mut best, mut best_sum) = (None, Number(0));
+        for j in 0..wide * 2 + 1 {
+            for i in 0..wide * 2 + 1 {
+                let right = Number::of(i) - Number::of(wide);
+                let down = Number::of(j) - Number::of(wide);
+                let place = self.place(self.middle, right.0, down.0, 4);
+                if place.x < Number(0)
+                    || place.y < Number(0)
+                    || place.x >= width
+                    || place.y >= height
+                {
+                    continue;
+                }
+                if let Some(fit) = self.fit(scene, place) {
+                    let sum = fit * 64 - (right.size() + down.size()) * 16;
+                    if sum > best_sum {
+                        best_sum = sum;
+                        best = Some(place);
+                    }
+                }
+            }
+        }
+        best
+    }
+}
+
+/// Looks for the last alignment pattern up to so many modules away from its place, and returns the square with a fourth
+/// place with which the map meets it.
+pub(crate) fn seek_alignment(scene: &Scene, quad: &Quad, reach: usize) -> Quad {
+    let mut quad = *quad;
+    let Some(target) = target_of(&quad) else {
+        return quad;
+    };
+    let Some(best) = target.best(scene, reach) else {
+        return quad;
+    };
+    let at = quad.last().saturating_mul(8).saturating_add(4);
+    for _ in 0..4 {
+        let Some(middle) = place_of(&quad, at, at) else {
+            break;
+        };
+        let way = best.minus(middle).times(Number::of(quad.last()));
+        let across = quad
+            .across
+            .plus(way.over(Number::of(quad.side.saturating_sub(10))));
+        quad = quad.with_place(0, across);
+    }
+    quad
+}
