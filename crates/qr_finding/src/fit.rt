@@ -100,9 +100,9 @@ impl Scene<'_, '_, '_, '_> {
             .plus(self.look(map, u.saturating_add(high), v.saturating_add(high), is_dark))
     }
 
-    // Adds the modules of a pattern of rings around a module, up to a distance from it, as far as they are in the symbol.
-    fn add_rings(&self, map: &Map, side: usize, rings: Rings, spread: u32, fit: Fit) -> Fit {
-        let mut all = fit;
+    // The fit of the modules of a pattern of rings around a module, up to a distance from it, as far as they are in the symbol.
+    fn fit_of_rings(&self, map: &Map, side: usize, rings: Rings, spread: u32) -> Fit {
+        let mut all = Fit::NONE;
         let (column, row) = rings.middle;
         for y in row.saturating_sub(rings.reach)..row
             .saturating_add(rings.reach)
@@ -145,7 +145,7 @@ impl Scene<'_, '_, '_, '_> {
         let far = side.saturating_sub(4);
         let mut all = Fit::NONE;
         for middle in [(3, 3), (far, 3), (3, far)] {
-            all = self.add_rings(&map, side, Rings::finder(middle), looks.spread, all);
+            all = all.joined(self.fit_of_rings(&map, side, Rings::finder(middle), looks.spread));
         }
         all = self.add_timing(&map, side, all);
         if looks.with_alignment {
@@ -167,7 +167,12 @@ impl Scene<'_, '_, '_, '_> {
                     || (j == 0 && i == last);
                 if !is_finder && (i == last || j == last || i == j) {
                     let middle = (alignment_place(side, i), alignment_place(side, j));
-                    all = self.add_rings(map, side, Rings::alignment(middle), spread, all);
+                    all = all.joined(self.fit_of_rings(
+                        map,
+                        side,
+                        Rings::alignment(middle),
+                        spread,
+                    ));
                 }
             }
         }

@@ -4,3 +4,6 @@ pub mod map
 pub mod means
 pub mod tables
 pub mod levels
+pub mod clean
+pub mod colours
+pub mod laws

@@ -1,5 +1,7 @@
 pub mod Between
 pub mod Brightness
+pub mod Clean
+pub mod Laws
 pub mod Levels
 pub mod Place
 pub mod Sampling

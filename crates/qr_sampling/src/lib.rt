@@ -7,6 +7,7 @@
 //!
 //! The files of `src`:
 //!
+//! - `laws`: laws of sampling
 //! - `levels`: which modules are dark, by the brightness of those around them
 //! - `map`: maps from the places of a symbol to those of a picture; defined in `Place`
 //! - `means`: the brightness of the modules; defined in `Sampling`
@@ -14,6 +15,7 @@
 //! - `sampling`: the modules of a symbol
 #![tactic(auto)]
 
+pub mod laws;
 mod levels;
 mod map;
 mod means;
