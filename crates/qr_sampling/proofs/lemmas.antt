@@ -4,6 +4,6 @@ pub mod map
 pub mod means
 pub mod tables
 pub mod levels
-pub mod clean
+pub mod drawn
 pub mod colours
 pub mod laws

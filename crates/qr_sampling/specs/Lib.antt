@@ -1,6 +1,6 @@
 pub mod Between
 pub mod Brightness
-pub mod Clean
+pub mod Drawn
 pub mod Laws
 pub mod Levels
 pub mod Place

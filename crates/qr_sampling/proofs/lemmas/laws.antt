@@ -1,6 +1,6 @@
--- Clean pictures are sampled.
-use Rattle.qr_sampling.specs.{Brightness.shown, Clean.{Frame, IsClean, IsMapOf, drawn_byte, drawn_dark, pixel}, Place.{column_of, row_of}, Sampling.{mean_at, placed, sampled, sharpened, value_at}, declared.{map.Map.Map, picture.Picture.Picture, sampling.Sampling.Sampling}}
-use Rattle.qr_sampling.proofs.lemmas.{clean.{IsEven, mean-at-even, placed-is}, colours.{AreTwo, module-in-is, sharpened-two}, levels.{placed-mirrored, placed-upright}}
+-- Drawn squares are sampled.
+use Rattle.qr_sampling.specs.{Brightness.shown, Drawn.{Frame, IsDrawn, IsMapOf, drawn_byte, drawn_dark, pixel}, Place.{column_of, row_of}, Sampling.{mean_at, placed, sampled, sharpened, value_at}, declared.{map.Map.Map, picture.Picture.Picture, sampling.Sampling.Sampling}}
+use Rattle.qr_sampling.proofs.lemmas.{drawn.{IsEven, mean-at-even, placed-is}, colours.{AreTwo, module-in-is, sharpened-two}, levels.{placed-mirrored, placed-upright}}
 use Rattle.std.proofs.Common.{◌≡◌, ℕ, Bool, true, false, cond, not, refl, ap, sym, ◌+◌, ◌-◌, ◌*◌, ◌<◌, ◌≤◌, ◌∙◌, min, get_or, arith}
 use Rattle.std.proofs.Math.Nat.{min-eq_left, mul-le-mul_right}
 
@@ -18,7 +18,7 @@ shown-inside picture x y h l =
     ap (λ z. get_or picture.pixels.now (z * picture.stride + min x (picture.width - 1)) 0) (min-eq_left {n = y} {m = picture.height - 1} (omega arith))
     ∙ ap (λ z. get_or picture.pixels.now (y * picture.stride + z) 0) (min-eq_left {n = x} {m = picture.width - 1} (omega arith))
 
-even : (picture : Picture) (f : Frame) (how : Sampling) (dark : ℕ → ℕ → Bool) (column row : ℕ) → IsClean picture f how dark → column < how.side → row < how.side
+even : (picture : Picture) (f : Frame) (how : Sampling) (dark : ℕ → ℕ → Bool) (column row : ℕ) → IsDrawn picture f how dark → column < how.side → row < how.side
     → IsEven (shown picture) (f.left + column * f.scale) (f.top + row * f.scale) f.scale (drawn_byte how.is_inverse (drawn_dark how.is_mirrored dark column row))
 even picture f how dark column row is p q = record {
   each = λ i j a b.
@@ -79,7 +79,7 @@ module-is true false = refl
 module-is false true = refl
 module-is false false = refl
 
-means : (picture : Picture) (f : Frame) (how : Sampling) (dark : ℕ → ℕ → Bool) → IsClean picture f how dark → IsMapOf f how.map → 2 * how.reach + 1 ≤ f.scale
+means : (picture : Picture) (f : Frame) (how : Sampling) (dark : ℕ → ℕ → Bool) → IsDrawn picture f how dark → IsMapOf f how.map → 2 * how.reach + 1 ≤ f.scale
     → AreTwo how.side (λ c r. is_white how.is_inverse (drawn_dark how.is_mirrored dark c r)) (mean_at (shown picture) how.map how.reach)
 unfolding mean_at
 means picture f how dark is to l = record {
@@ -99,7 +99,7 @@ values-by : (side : ℕ) (white : ℕ → ℕ → Bool) (b : Bool) (f g : ℕ �
 values-by side white true f g is one = record { each = is.each }
 values-by side white false f g is one = record { each = one.each }
 
-values : (picture : Picture) (f : Frame) (how : Sampling) (dark : ℕ → ℕ → Bool) → IsClean picture f how dark → IsMapOf f how.map → 2 * how.reach + 1 ≤ f.scale
+values : (picture : Picture) (f : Frame) (how : Sampling) (dark : ℕ → ℕ → Bool) → IsDrawn picture f how dark → IsMapOf f how.map → 2 * how.reach + 1 ≤ f.scale
     → AreTwo how.side (λ c r. is_white how.is_inverse (drawn_dark how.is_mirrored dark c r)) (value_at (shown picture) how)
 unfolding value_at
 values picture f how dark is to l =
@@ -120,7 +120,7 @@ place-is how dark g two column row p q =
     by-mirror false e = sym (placed-upright how g column row e) ∙ (module-in-is how (λ c r. is_white how.is_inverse (drawn_dark how.is_mirrored dark c r)) g column row two p q
         ∙ (ap (λ b. cond {A = ℕ} (is_white how.is_inverse (drawn_dark b dark column row)) (cond how.is_inverse 1 0) (cond how.is_inverse 0 1)) e ∙ module-is how.is_inverse (dark column row)))
 
-pub clean-sampled : (picture : Picture) (f : Frame) (how : Sampling) (dark : ℕ → ℕ → Bool) → IsClean picture f how dark → IsMapOf f how.map → 2 * how.reach + 1 ≤ f.scale
+pub drawn-sampled : (picture : Picture) (f : Frame) (how : Sampling) (dark : ℕ → ℕ → Bool) → IsDrawn picture f how dark → IsMapOf f how.map → 2 * how.reach + 1 ≤ f.scale
     → (column row : ℕ) → column < how.side → row < how.side → sampled (shown picture) how column row ≡ cond (dark column row) 1 0
 unfolding sampled
-clean-sampled picture f how dark is to l column row p q = place-is how dark (value_at (shown picture) how) (values picture f how dark is to l) column row p q
+drawn-sampled picture f how dark is to l column row p q = place-is how dark (value_at (shown picture) how) (values picture f how dark is to l) column row p q

@@ -1,4 +1,4 @@
--- Clean pictures: what a picture shows if a square of modules is drawn in it without any fault. `dark column row` says
+-- Drawn squares: what a picture shows if a square of modules is drawn in it without any fault. `dark column row` says
 -- whether a module of the symbol is dark.
 use Rattle.std.specs.Prelude.{◌≡◌, ℕ, pos, ◌+◌, ◌*◌, ◌<◌, ◌≤◌, Bool, slice_index, if◌then◌else◌}
 use Rattle.qr_sampling.specs.Between.{CanBePicture}
@@ -29,7 +29,7 @@ drawn_dark is_mirrored dark column row = if is_mirrored then dark row column els
 
 -- The square of modules is in the picture, and each module is a square of `f.scale` times `f.scale` pixels of one colour.
 -- What is around the square does not matter [own]
-pub record IsClean (picture : Picture) (f : Frame) (how : Sampling) (dark : ℕ → ℕ → Bool) : Type 0 where
+pub record IsDrawn (picture : Picture) (f : Frame) (how : Sampling) (dark : ℕ → ℕ → Bool) : Type 0 where
   pub can_be : CanBePicture picture.width picture.height picture.stride
   pub across : f.left + how.side * f.scale ≤ picture.width
   pub down : f.top + how.side * f.scale ≤ picture.height

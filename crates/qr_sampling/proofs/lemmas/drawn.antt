@@ -1,5 +1,5 @@
--- The mean brightness of a module of a clean picture is its byte.
-use Rattle.qr_sampling.specs.{Between.between, Brightness.brightness, Clean.HasCoefficients, Place.{quotient_of, value_of}, Sampling.{rounded_mean, row_sum, square_sum}, Sums.sum_below, declared.map.Form.Form}
+-- The mean brightness of a module of a drawn square is its byte.
+use Rattle.qr_sampling.specs.{Between.between, Brightness.brightness, Drawn.HasCoefficients, Place.{quotient_of, value_of}, Sampling.{rounded_mean, row_sum, square_sum}, Sums.sum_below, declared.map.Form.Form}
 use Rattle.qr_sampling.proofs.lemmas.means.{places-some}
 use Rattle.std.proofs.Common.{◌≡◌, ℕ, zero, suc, pos, ap, ◌+◌, ◌-◌, ◌*◌, ◌/◌, ◌%◌, ◌<◌, ◌≤◌, ◌∙◌, ◌*ℤ◌, ◌+ℤ◌, min, arith}
 use Rattle.std.proofs.{Math.Nat.{min-eq_left, mul-div_cancel_left}, lemmas.Nat.div-mul-add}
