@@ -28,16 +28,6 @@ impl Number {
         if other.0 < self.0 { self } else { other }
     }
 
-    pub(crate) fn clipped(self, low: i64, high: i64) -> Self {
-        if self.0 < low {
-            Number(low)
-        } else if self.0 > high {
-            Number(high)
-        } else {
-            self
-        }
-    }
-
     // Returns the whole part of the number divided by 16, rounded down.
     pub(crate) fn pixel(self) -> i64 {
         self.0 >> 4

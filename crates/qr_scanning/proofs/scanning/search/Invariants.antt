@@ -1,0 +1,14 @@
+use Rattle.std.proofs.Common.{◌≡◌, ◌≤◌, length, true}
+use Rattle.std.specs.List.{All}
+use Rattle.qr_scanning.specs.Scanning.{IsScanned}
+use Rattle.qr_scanning.specs.declared.scanning.Scanned.{Scanned}
+use Rattle.qr_scanning.proofs.scanning.search.Given as goal
+
+-- all squares are of the picture, and those that count as read are read
+abbrev pub invariant-offers : goal.invariant-offers
+invariant-offers l = record {
+  there : All (IsScanned l.picture) l.read.items;
+  are_read : All (λ (s : Scanned). s.is_read ≡ true) l.read.items;
+  few : length l.read.items ≤ l.most;
+  others : All (IsScanned l.picture) l.unread.items;
+}
