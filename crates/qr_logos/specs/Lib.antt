@@ -1,0 +1,3 @@
+pub mod Logo
+pub mod Laws
+pub mod Steps

@@ -1,0 +1,13 @@
+//! Logos: how large a square in the middle of a symbol may be covered, so that the symbol can still be read whatever
+//! colours the covered modules get. Each codeword with a covered module counts as misread.
+//!
+//! The files of `src`:
+//!
+//! - `laws`: laws of logos
+//! - `logo`: how many codewords of a block a logo covers, and the largest logo that is allowed
+#![tactic(auto)]
+
+pub mod laws;
+mod logo;
+
+pub use logo::{covered, largest_clear, largest_logo};
