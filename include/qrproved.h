@@ -1,6 +1,6 @@
 /* QR Code symbols (ISO/IEC 18004:2015, QR Code Model 2): calls that encode an input as a symbol or as a series of symbols,
- * draw symbols as text or as SVG, write their images as files, parse drawings, read symbols, mend damaged ones, and say how
- * much fits a symbol. The calls are proved to meet their contracts, which are in crates/qrproved; docs/LIBRARY.md says what
+ * draw symbols as text or as SVG, write their images as files, parse drawings, find symbols in pictures, read symbols, mend
+ * damaged ones, and say how much fits a symbol. The calls are proved to meet their contracts, which are in crates/qrproved; docs/LIBRARY.md says what
  * the contracts mean for a caller. tests/library compares this file with the exports of the library.
  *
  * A module is a byte in a buffer of the caller, in which the modules are row by row, from the top left. The buffer does not
@@ -45,6 +45,8 @@ extern "C" {
 #define QRPROVED_MARGIN_MAX 100    /* the widest light margin on each side of a drawing or an image, in modules */
 #define QRPROVED_SCALE_MAX 100     /* the most pixels of a module on each side of an image */
 #define QRPROVED_LABELS_MAX 10000  /* squares in a document of labels */
+#define QRPROVED_FOUND_MAX 64      /* the most squares that qrproved_find finds in a picture */
+#define QRPROVED_PICTURE_MAX 32767 /* the widest and highest picture that qrproved_find takes, in pixels */
 #define QRPROVED_PAPER_MAX 2000000 /* the widest and highest paper, in micrometres */
 #define QRPROVED_PLACE_MAX 32000   /* how far an image may be from an edge of a label, in dots of the printer */
 #define QRPROVED_WRONG_FORMAT_MAX 3 /* wrong modules of a copy of the format information that a scanner can correct */
@@ -198,6 +200,24 @@ struct qrproved_drawn {
 	uint8_t side;    /* modules on a side of each square, from 8 to 177 */
 };
 
+/* A square that was found in a picture. Its corners are in sixteenths of a pixel, x from the left edge of the picture and y from
+ * the upper edge. The corner (x0, y0) is that of the first module, and the others follow clockwise around the square. */
+struct qrproved_found {
+	uint32_t x0;
+	uint32_t y0;
+	uint32_t x1;
+	uint32_t y1;
+	uint32_t x2;
+	uint32_t y2;
+	uint32_t x3;
+	uint32_t y3;
+	uint32_t side;         /* modules on a side, from 21 to 177 */
+	uint8_t quarter_turns; /* by how many quarter turns the symbol is turned clockwise, to the nearest one: from 0 to 3 */
+	uint8_t is_inverse;    /* 1: the symbol is light on dark; 0: dark on light */
+	uint8_t is_mirrored;   /* 1: the symbol is mirrored: its first row goes from (x0, y0) to (x3, y3); 0: to (x1, y1) */
+	uint8_t is_read;       /* 1: the symbol can be mended; 0: it looks like a symbol, and cannot be mended */
+};
+
 /* Label paper, for qrproved_sheets. All lengths are in micrometres, of which a millimetre has 1,000. */
 struct qrproved_sheet {
 	uint32_t width;   /* width of the paper, at most QRPROVED_PAPER_MAX */
@@ -279,6 +299,20 @@ QRPROVED_HOLDS(offsetof(struct qrproved_sheet, down) == 20);
 QRPROVED_HOLDS(offsetof(struct qrproved_sheet, columns) == 24);
 QRPROVED_HOLDS(offsetof(struct qrproved_sheet, rows) == 28);
 QRPROVED_HOLDS(offsetof(struct qrproved_sheet, first) == 32);
+QRPROVED_HOLDS(sizeof(struct qrproved_found) == 40);
+QRPROVED_HOLDS(offsetof(struct qrproved_found, x0) == 0);
+QRPROVED_HOLDS(offsetof(struct qrproved_found, y0) == 4);
+QRPROVED_HOLDS(offsetof(struct qrproved_found, x1) == 8);
+QRPROVED_HOLDS(offsetof(struct qrproved_found, y1) == 12);
+QRPROVED_HOLDS(offsetof(struct qrproved_found, x2) == 16);
+QRPROVED_HOLDS(offsetof(struct qrproved_found, y2) == 20);
+QRPROVED_HOLDS(offsetof(struct qrproved_found, x3) == 24);
+QRPROVED_HOLDS(offsetof(struct qrproved_found, y3) == 28);
+QRPROVED_HOLDS(offsetof(struct qrproved_found, side) == 32);
+QRPROVED_HOLDS(offsetof(struct qrproved_found, quarter_turns) == 36);
+QRPROVED_HOLDS(offsetof(struct qrproved_found, is_inverse) == 37);
+QRPROVED_HOLDS(offsetof(struct qrproved_found, is_mirrored) == 38);
+QRPROVED_HOLDS(offsetof(struct qrproved_found, is_read) == 39);
 #undef QRPROVED_HOLDS
 
 /* The caller has to use the result of a call, and may not pass NULL as the pointer to a struct or to a number. Compilers that
@@ -611,6 +645,37 @@ QRPROVED_CALL(5)
 uint8_t qrproved_parse_drawing(const uint8_t *text, size_t text_len, uint8_t *modules, size_t modules_len,
                                struct qrproved_drawn *drawn);
 
+/* Finds symbols in a picture in grey: turned, tilted, mirrored, light on dark, in shadow, blurred or small. If a picture shows one
+ * symbol that can be mended and nothing else, drawn without any fault, exactly this symbol is found, with exactly its modules. Other
+ * pictures are searched, and nothing is promised of which symbols are found there; but the modules of each square that is found are
+ * what sampling gives for the picture and these corners. In a square that counts as read at most one module in five is wrong or not
+ * known.
+ *
+ * The modules of square k are written to modules[k * QRPROVED_SYMBOL_MAX] and the bytes that follow, row by row as qrproved_mend takes
+ * them: 0 is a light module, 1 is a dark module, and 2 is a module that is not known. The other bytes of the buffer are unchanged. Its
+ * corners and other numbers are written to found[k]; structs after the last square are unchanged. Squares that can be mended come
+ * first. If nothing is found, the call returns DONE and sets count to 0.
+ *
+ * pixels  a byte for each pixel, from 0 for black to 255 for white, row by row. Row y begins at byte y * stride, and the first is
+ *         that at the top. Bytes between the rows are ignored
+ * width, height  pixels of a row, and number of rows, from 1 to QRPROVED_PICTURE_MAX
+ * stride  number of bytes from the beginning of a row to that of the next, at least width
+ * unread  0: only squares that can be mended are found; 1: squares that look like symbols and cannot be mended are found too
+ * modules  the buffer for the modules. It has QRPROVED_SYMBOL_MAX bytes for each square that may be found
+ * found   the buffer for the structs. At most found_len squares are found, and at most QRPROVED_FOUND_MAX
+ * count   on DONE, the call sets it to the number of squares; on every other status it is unchanged
+ *
+ * Returns the first of these statuses whose cause applies:
+ *   SETTINGS  width, height, stride or unread is out of its range
+ *   ROOM      pixels_len is less than (height - 1) * stride + width, or modules_len is less than QRPROVED_SYMBOL_MAX for each square
+ *             that may be found
+ *   DONE      the call succeeded
+ * If memory is refused, the call returns MEMORY in place of DONE. Its memory grows with the picture: docs/LIBRARY.md says how much.
+ */
+QRPROVED_CALL(11)
+uint8_t qrproved_find(const uint8_t *pixels, size_t pixels_len, uint32_t width, uint32_t height, uint32_t stride, uint32_t unread,
+                      uint8_t *modules, size_t modules_len, struct qrproved_found *found, size_t found_len, size_t *count);
+
 /* Says how many characters fit a symbol if all of them are in one segment, that is, in one mode.
  *
  * version  the version of the symbol, from 1 to 40
@@ -658,6 +723,7 @@ uint8_t qrproved_room(uint32_t version, uint32_t level, uint32_t mode, uint32_t 
 #define QRPROVED_SHEETS_MEMORY(side, count) (5000 + (size_t)(count) * (1500 + 18 * (size_t)(side) * (side)))
 #define QRPROVED_PARSE_DRAWING_MEMORY(side, count, margin) \
 	(4500 + (size_t)(count) * (16 * (size_t)(side) * (side) + 4 * QRPROVED_AREA(side, margin)))
+#define QRPROVED_FIND_MEMORY(width, height) (1000000 + (size_t)(width) * (height) * 7 / 2)
 #define QRPROVED_AREA(side, margin) (((size_t)(side) + 2 * (size_t)(margin)) * ((size_t)(side) + 2 * (size_t)(margin)))
 QRPROVED_CALL(12)
 uint8_t qrproved_encode_in(void *memory, size_t memory_len, const uint8_t *input, size_t input_len, uint32_t version,
@@ -693,6 +759,10 @@ uint8_t qrproved_sheets_in(void *memory, size_t memory_len, const uint8_t *modul
 QRPROVED_CALL(7)
 uint8_t qrproved_parse_drawing_in(void *memory, size_t memory_len, const uint8_t *text, size_t text_len, uint8_t *modules,
                                   size_t modules_len, struct qrproved_drawn *drawn);
+QRPROVED_CALL(13)
+uint8_t qrproved_find_in(void *memory, size_t memory_len, const uint8_t *pixels, size_t pixels_len, uint32_t width, uint32_t height,
+                         uint32_t stride, uint32_t unread, uint8_t *modules, size_t modules_len, struct qrproved_found *found,
+                         size_t found_len, size_t *count);
 #endif
 
 #undef QRPROVED_CALL

@@ -53,7 +53,11 @@ const CALLS = {
     const symbols = encoded(asked), { kind, isSeries, chosen: { fit_mm: fitMm, ...chosen } } = asked, options = { ...chosen, ...(fitMm === undefined ? {} : { fitMm }), quiet: true };
     if (kind === 'size') return Object.values(symbols[0].printedSize(chosen));
     if (!isSeries) return hashOf(symbols[0][kind](options));
-    if (asked.sheet) return hashOf(qr.sheetsOf(symbols, asked.sheet, options));
+    if (asked.sheet) {
+      const { label_width: labelWidth, label_height: labelHeight, ...sheet } = asked.sheet, captions = asked.captions?.slice(0, symbols.length);
+      const given = asked.paper === null ? { ...sheet, labelWidth, labelHeight } : qr.paper(asked.paper, { first: sheet.first });
+      return hashOf(qr.sheetsOf(symbols, given, { ...options, captions }));
+    }
     return hashOf(['svg', 'pdf', 'eps'].includes(kind) ? qr.documentOf(symbols, { type: kind, ...options }) : qr.labels(symbols, { type: kind, ...options }));
   },
   parse: ({ text }) => {

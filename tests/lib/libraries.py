@@ -108,6 +108,11 @@ class Sheet(ctypes.Structure):
     _fields_ = [(name, ctypes.c_uint32) for name in ("width", "height", "left", "top", "across", "down", "columns", "rows", "first")]
 
 
+class Found(ctypes.Structure):
+    _fields_ = [*((name, ctypes.c_uint32) for name in ("x0", "y0", "x1", "y1", "x2", "y2", "x3", "y3", "side")),
+                *bytes_of("quarter_turns", "is_inverse", "is_mirrored", "is_read")]
+
+
 class Drawn(ctypes.Structure):
     _fields_ = bytes_of("drawing", "margin", "count", "side")
 
@@ -126,12 +131,15 @@ PARAMETERS = {
     "qrproved_document": BUFFER + NUMBER * 5 + BUFFER + POINTER,
     "qrproved_sheets": BUFFER + NUMBER * 4 + POINTER + BUFFER + POINTER,
     "qrproved_parse_drawing": INPUT + BUFFER + POINTER,
+    "qrproved_find": INPUT + NUMBER * 4 + BUFFER * 2 + POINTER,
     "qrproved_room": NUMBER * 5 + POINTER,
 }
 
 
 # The calls that serve machines with little memory alone. The crate for Rust and the WebAssembly module do not have them.
 FOR_LITTLE_MEMORY = {"qrproved_draw_row", "qrproved_encode_bits"}
+# The WebAssembly module does not have this call either.
+NOT_IN_WASM = {*FOR_LITTLE_MEMORY, "qrproved_find"}
 
 
 class Library:

@@ -1,6 +1,6 @@
 /* Calls the library for tests/library: library_calls WHAT
  *
- * WHAT is `encode`, `encode_series`, `read`, `mend`, `draw` or `parse_drawing` for one such call, in which a growth of
+ * WHAT is `encode`, `encode_series`, `read`, `mend`, `draw`, `parse_drawing` or `find` for one such call, in which a growth of
  * memory may be refused. Then the program prints what came of the call. `encode_eci`, `encode_gs1`, `encode_series_gs1`,
  * `read_ecis`, `read_gs1` and `mend_ecis` are such calls with ECI headers or GS1 data. `edges` calls with lengths of 0, with buffers
  * that are just large enough, and with symbols that have ECI headers or GS1 data. `threads` makes calls in eight
@@ -150,6 +150,33 @@ static int parse_drawing(void)
 	memset(modules, MARK, sizeof modules), memset(&drawn, MARK, sizeof drawn);
 	uint8_t status = qrproved_parse_drawing(text, written, modules, sizeof modules, &drawn);
 	tell("parse_drawing", status, modules, sizeof modules, &drawn, sizeof drawn);
+	return 0;
+}
+
+/* A picture with a symbol that is four pixels a module, and with one grey pixel, so that it is no clean picture. */
+enum { PIXELS = 200 };
+
+static int find(void)
+{
+	static uint8_t pixels[PIXELS * PIXELS];
+	struct qrproved_symbol symbol;
+	struct {
+		struct qrproved_found one[2];
+		size_t count;
+	} told;
+	if (qrproved_encode(TEXT, sizeof TEXT - 1, 1, 0, 0, NONE, 0, modules, sizeof modules, &symbol)) {
+		puts("find: not prepared");
+		return 0;
+	}
+	for (int y = 0; y < PIXELS; y++)
+		for (int x = 0; x < PIXELS; x++) {
+			int row = y / 4 - 4, column = x / 4 - 4, side = symbol.side;
+			int is_inside = row >= 0 && column >= 0 && row < side && column < side;
+			pixels[y * PIXELS + x] = is_inside && modules[row * side + column] ? 0 : x + y ? 255 : 128;
+		}
+	memset(modules, MARK, sizeof modules), memset(&told, MARK, sizeof told);
+	uint8_t status = qrproved_find(pixels, sizeof pixels, PIXELS, PIXELS, PIXELS, 0, modules, sizeof modules, told.one, 2, &told.count);
+	tell("find", status, modules, sizeof modules, &told, sizeof told);
 	return 0;
 }
 
@@ -364,6 +391,28 @@ static void rooms(void)
 	want("2^32 - 1", qrproved_room(1, 0, 0, UINT32_MAX, 0, &count) == QRPROVED_SETTINGS && count == MARK);
 }
 
+/* A light picture, in which nothing is found, and numbers that are just in range or just out of it. */
+static void edges_of_find(void)
+{
+	static uint8_t pixels[32768];
+	static struct qrproved_found found[QRPROVED_FOUND_MAX + 1];
+	size_t count = MARK;
+	memset(pixels, 200, sizeof pixels), memset(modules, MARK, sizeof modules), memset(found, MARK, sizeof found);
+	want("no width", qrproved_find(pixels, 100, 0, 10, 10, 0, modules, QRPROVED_SYMBOL_MAX, found, 1, &count) == QRPROVED_SETTINGS);
+	want("no height", qrproved_find(pixels, 100, 10, 0, 10, 0, modules, QRPROVED_SYMBOL_MAX, found, 1, &count) == QRPROVED_SETTINGS);
+	want("too wide", qrproved_find(pixels, 32768, 32768, 1, 32768, 0, modules, QRPROVED_SYMBOL_MAX, found, 1, &count) == QRPROVED_SETTINGS);
+	want("too high", qrproved_find(pixels, 32768, 1, 32768, 1, 0, modules, QRPROVED_SYMBOL_MAX, found, 1, &count) == QRPROVED_SETTINGS);
+	want("rows that overlap", qrproved_find(pixels, 100, 10, 10, 9, 0, modules, QRPROVED_SYMBOL_MAX, found, 1, &count) == QRPROVED_SETTINGS);
+	want("unread 2", qrproved_find(pixels, 100, 10, 10, 10, 2, modules, QRPROVED_SYMBOL_MAX, found, 1, &count) == QRPROVED_SETTINGS);
+	want("a pixel less", qrproved_find(pixels, 107, 10, 10, 11, 0, modules, QRPROVED_SYMBOL_MAX, found, 1, &count) == QRPROVED_ROOM);
+	want("a module less", qrproved_find(pixels, 109, 10, 10, 11, 0, modules, 2 * QRPROVED_SYMBOL_MAX - 1, found, 2, &count) == QRPROVED_ROOM);
+	want("nothing is changed", is_marked(modules, 0, sizeof modules) && is_marked(found, 0, sizeof found) && count == MARK);
+	want("all pixels", qrproved_find(pixels, 109, 10, 10, 11, 0, modules, 2 * QRPROVED_SYMBOL_MAX, found, 2, &count) == QRPROVED_DONE && count == 0);
+	want("no room for squares found", qrproved_find(pixels, 109, 10, 10, 11, 1, NULL, 0, NULL, 0, &count) == QRPROVED_DONE && count == 0);
+	want("the widest picture", qrproved_find(pixels, 32767, 32767, 1, 32767, 1, modules, QRPROVED_SYMBOL_MAX, found, 1, &count) == QRPROVED_DONE && count == 0);
+	want("no buffer is changed", is_marked(modules, 0, sizeof modules) && is_marked(found, 0, sizeof found));
+}
+
 static int edges(void)
 {
 	struct qrproved_symbol symbol;
@@ -487,6 +536,7 @@ static int edges(void)
 	want("what they are", drawn.drawing == QRPROVED_ASCII && drawn.margin == 0 && drawn.count == 2 && drawn.side == 21);
 	want("no more is written for them", is_marked(parsed, 882, sizeof parsed));
 	want("one of them", qrproved_parse_drawing(text, 903, parsed, 441, &drawn) == QRPROVED_DONE && drawn.count == 1);
+	edges_of_find();
 	want("numbers above 255", qrproved_encode(TEXT, 5, 257, 0, 0, NONE, 0, modules, 441, &symbol) == QRPROVED_SETTINGS
 	     && qrproved_encode(TEXT, 5, 1, 256, 0, NONE, 0, modules, 441, &symbol) == QRPROVED_SETTINGS
 	     && qrproved_encode(TEXT, 5, 1, 0, 256, NONE, 0, modules, 441, &symbol) == QRPROVED_SETTINGS
@@ -572,6 +622,8 @@ int main(int argc, char **argv)
 		return sheets();
 	if (!strcmp(what, "parse_drawing"))
 		return parse_drawing();
+	if (!strcmp(what, "find"))
+		return find();
 	if (!strcmp(what, "encode_eci"))
 		return encode_as(what, TEXT, sizeof TEXT - 1, QRPROVED_ECI_UTF8);
 	if (!strcmp(what, "encode_gs1"))

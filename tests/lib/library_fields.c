@@ -74,6 +74,44 @@ static void encode_series(void)
 	tell_all("parsed", parsed, (size_t)drawn.count * drawn.side * drawn.side);
 }
 
+/* A picture of 111 by 119 pixels, with 113 bytes from row to row. The square begins at column 5 and row 9, and a module has three
+ * pixels on a side. The first picture is light on dark, the second is turned by a quarter, and the third is mirrored and turned by a
+ * half. */
+enum { PICTURES = 3, SIDE = 33, WIDTH = 111, HEIGHT = 119, STRIDE = 113, LEFT = 5, TOP = 9, SCALE = 3 };
+
+static void draw_picture(int number, uint8_t *pixels)
+{
+	for (int y = 0; y < HEIGHT; y++)
+		for (int x = 0; x < STRIDE; x++) {
+			int row = (y - TOP) / SCALE, column = (x - LEFT) / SCALE, last = SIDE - 1;
+			int is_dark = y >= TOP && x >= LEFT && row <= last && column <= last
+			              && modules[number == 0 ? row * SIDE + column : number == 1 ? (last - column) * SIDE + row : (last - column) * SIDE + last - row];
+			pixels[y * STRIDE + x] = x >= WIDTH ? 99 : (number == 0) == is_dark ? 250 : 20;
+		}
+}
+
+/* Tells a field in all three pictures at once: three numbers below 10,000. */
+#define TELL_FOUND(field) printf("found.%s %llu\n", #field, all[0].field + 10000ULL * all[1].field + 100000000ULL * all[2].field)
+
+/* Finds the symbol of 4-Q in the three pictures. */
+static void find(void)
+{
+	static uint8_t pixels[HEIGHT * STRIDE], found[QRPROVED_SYMBOL_MAX];
+	struct qrproved_found all[PICTURES];
+	struct qrproved_symbol symbol;
+	size_t count;
+	want_done("encode", qrproved_encode(DIGITS, sizeof DIGITS - 1, 4, QRPROVED_LEVEL_Q, QRPROVED_RULE_AUTO, QRPROVED_ECI_UTF8, 1,
+	                                    modules, sizeof modules, &symbol));
+	for (int number = 0; number < PICTURES; number++) {
+		draw_picture(number, pixels);
+		want_done("find", qrproved_find(pixels, (HEIGHT - 1) * STRIDE + WIDTH, WIDTH, HEIGHT, STRIDE, 0, found, sizeof found, &all[number], 1, &count));
+		if (count == 1)
+			tell_all(number == 0 ? "found" : number == 1 ? "found_turned" : "found_mirrored", found, SIDE * SIDE);
+	}
+	TELL_FOUND(x0), TELL_FOUND(y0), TELL_FOUND(x1), TELL_FOUND(y1), TELL_FOUND(x2), TELL_FOUND(y2), TELL_FOUND(x3), TELL_FOUND(y3);
+	TELL_FOUND(side), TELL_FOUND(quarter_turns), TELL_FOUND(is_inverse), TELL_FOUND(is_mirrored), TELL_FOUND(is_read);
+}
+
 static void read_and_mend(void)
 {
 	struct qrproved_content content;
@@ -102,6 +140,7 @@ int main(void)
 {
 	encode();
 	encode_series();
+	find();
 	read_and_mend();
 	return 0;
 }

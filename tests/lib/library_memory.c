@@ -2,7 +2,7 @@
  *
  * WHAT is `enough` or `least`. Both make symbols of some versions in all levels, rules and interpretations, of the longest inputs of
  * many kinds that fit. Standard input has symbols with as many ECI headers as fit, each as its side and its modules. All are read and
- * mended, drawn in each type, written in each format of documents, and parsed, and series are made.
+ * mended, drawn in each type, written in each format of documents, and parsed, and series are made. Some are found in pictures.
  *
  * `enough` makes each call with exactly as much memory as its macro says, at an odd address, and looks for the least memory with which
  * it succeeds. The macro has to be above that by a tenth. With less, down to none, the call has to return MEMORY and to change nothing
@@ -13,19 +13,19 @@
 #include <stdlib.h>
 #include <string.h>
 
-enum { MARK = 7, MEMORY_MAX = 16000000, TEXT_MAX = 8000000, LEVELS = 4, RULES = 3, DRAWINGS = 4, VERSIONS = 40, KINDS = 12, SHORTER = 12 };
-enum call { ENCODE, BITS, SERIES, READ, MEND, DRAW, DOCUMENT, SHEETS, PARSE, CALLS };
+enum { MARK = 7, MEMORY_MAX = 16000000, TEXT_MAX = 8000000, LEVELS = 4, RULES = 3, DRAWINGS = 4, VERSIONS = 40, KINDS = 12, SHORTER = 12, PIXELS_MAX = 400 };
+enum call { ENCODE, BITS, SERIES, READ, MEND, DRAW, DOCUMENT, SHEETS, PARSE, FIND, CALLS };
 
-static const char *const NAMES[CALLS] = {"encode", "encode_bits", "encode_series", "read", "mend", "draw", "document", "sheets", "parse_drawing"};
+static const char *const NAMES[CALLS] = {"encode", "encode_bits", "encode_series", "read", "mend", "draw", "document", "sheets", "parse_drawing", "find"};
 static const uint32_t INTERPRETATIONS[] = {QRPROVED_INTERPRETATION_DEFAULT, 999999, QRPROVED_INTERPRETATION_GS1};
 
 /* Paper with one label on each sheet. */
 static const struct qrproved_sheet PAPER = {100000, 100000, 0, 0, 0, 0, 1, 1, 0};
 
 static uint8_t memory[MEMORY_MAX + 1], input[QRPROVED_BYTES_MAX * 17], modules[QRPROVED_SERIES_MAX], damaged[QRPROVED_SYMBOL_MAX];
-static uint8_t out[TEXT_MAX], text[TEXT_MAX], kept[TEXT_MAX];
+static uint8_t out[TEXT_MAX], text[TEXT_MAX], kept[TEXT_MAX], pixels[PIXELS_MAX * PIXELS_MAX];
 static size_t input_len, text_len, most[CALLS][VERSIONS + 1];
-static uint32_t version, level, rule, interpretation, side, count, drawing;
+static uint32_t version, level, rule, interpretation, side, count, drawing, width;
 static int is_measured;
 
 /* What a call writes, besides the buffer `out`. */
@@ -35,6 +35,10 @@ static union {
 	struct qrproved_content content;
 	struct qrproved_mended mended;
 	struct qrproved_drawn drawn;
+	struct {
+		struct qrproved_found one;
+		size_t count;
+	} found;
 	size_t written;
 	uint8_t bytes[64];
 } told, kept_told;
@@ -59,6 +63,8 @@ static uint8_t call_with(enum call call, uint8_t *place, size_t len)
 		return qrproved_document_in(place, len, modules, area * count, side, count, drawing % 3, 4, 330, out, sizeof out, &told.written);
 	case SHEETS:
 		return qrproved_sheets_in(place, len, modules, area * count, side, count, 4, 330, &PAPER, out, sizeof out, &told.written);
+	case FIND:
+		return qrproved_find_in(place, len, pixels, sizeof pixels, width, width, width, 1, out, QRPROVED_SYMBOL_MAX, &told.found.one, 1, &told.found.count);
 	default:
 		return qrproved_parse_drawing_in(place, len, text, text_len, out, QRPROVED_SERIES_MAX, &told.drawn);
 	}
@@ -68,7 +74,7 @@ static uint8_t call_with(enum call call, uint8_t *place, size_t len)
 static size_t room_of(enum call call)
 {
 	const size_t rooms[CALLS] = {QRPROVED_SYMBOL_MAX, QRPROVED_BITS(177), QRPROVED_SERIES_MAX, QRPROVED_BYTES_MAX, QRPROVED_BYTES_MAX, TEXT_MAX, TEXT_MAX,
-				     TEXT_MAX, QRPROVED_SERIES_MAX};
+				     TEXT_MAX, QRPROVED_SERIES_MAX, QRPROVED_SYMBOL_MAX};
 	return rooms[call];
 }
 
@@ -90,6 +96,8 @@ static size_t enough_for(enum call call)
 		return QRPROVED_DOCUMENT_MEMORY(side, count);
 	case SHEETS:
 		return QRPROVED_SHEETS_MEMORY(side, count);
+	case FIND:
+		return QRPROVED_FIND_MEMORY(width, width);
 	default:
 		return QRPROVED_PARSE_DRAWING_MEMORY(side, count, 4);
 	}
@@ -204,6 +212,19 @@ static void read_and_mend(void)
 	try_call(MEND);
 }
 
+/* Finds the symbol in a picture with two pixels a module, in which every eleventh pixel is grey, so that many squares are mended. */
+static void find(void)
+{
+	width = 2 * side + 16;
+	for (uint32_t y = 0; y < width; y++)
+		for (uint32_t x = 0; x < width; x++) {
+			uint32_t row = (y - 8) / 2, column = (x - 8) / 2;
+			int is_dark = y >= 8 && x >= 8 && row < side && column < side && modules[row * side + column];
+			pixels[y * width + x] = (x + 3 * y) % 11 == 0 ? 120 : is_dark ? 0 : 255;
+		}
+	try_call(FIND);
+}
+
 static void draw_and_parse(void)
 {
 	for (drawing = 0; drawing < DRAWINGS; drawing++) {
@@ -228,8 +249,10 @@ static void try_symbols(uint32_t kind)
 	call_with(ENCODE, memory, MEMORY_MAX);
 	memcpy(modules, out, (size_t)side * side);
 	read_and_mend();
-	if (kind == 2 && level == 0 && rule == 0)
+	if (kind == 2 && level == 0 && rule == 0) {
 		draw_and_parse();
+		find();
+	}
 	if (kind % 5 || level % 3)
 		return;
 	input_len *= 3 + version % 12;

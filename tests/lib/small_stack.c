@@ -104,6 +104,24 @@ static void *parse_drawing(void *none)
 	return none;
 }
 
+/* Finds the symbol in a picture that is twice as large, turned by a seventh, and has a grey pixel, so that it is no clean picture. */
+static void *find(void *none)
+{
+	enum { PIXELS = 450 };
+	static uint8_t pixels[PIXELS * PIXELS], shown[QRPROVED_SYMBOL_MAX];
+	static struct qrproved_found found;
+	size_t found_count;
+	int last = (int)side - 1;
+	for (int y = 0; y < PIXELS; y++)
+		for (int x = 0; x < PIXELS; x++) {
+			int column = ((x - PIXELS / 2) * 7 + (y - PIXELS / 2)) + 7 * (int)side, row = ((y - PIXELS / 2) * 7 - (x - PIXELS / 2)) + 7 * (int)side;
+			int is_inside = row >= 0 && column >= 0 && row / 14 <= last && column / 14 <= last;
+			pixels[y * PIXELS + x] = is_inside && modules[row / 14 * (int)side + column / 14] ? 0 : x + y ? 255 : 128;
+		}
+	status = qrproved_find(pixels, sizeof pixels, PIXELS, PIXELS, PIXELS, 1, shown, sizeof shown, &found, 1, &found_count);
+	return none;
+}
+
 static void *room(void *none)
 {
 	status = qrproved_room(version, level, QRPROVED_MODE_ALPHANUMERIC, interpretation, 1, &most);
@@ -203,6 +221,8 @@ static void all(void)
 			for (rule = 0; rule < RULES; rule++) {
 				encode_interpreted();
 				encode_longest();
+				if (rule == QRPROVED_RULE_AUTO && version % 8 == 1)
+					want("find", in_small_stack(find), QRPROVED_DONE);
 				want("encode_bits", in_small_stack(encode_bits), QRPROVED_DONE);
 				want("read", in_small_stack(read_symbol), QRPROVED_DONE);
 				mend_until_refused(1);
@@ -232,7 +252,7 @@ static int once(const char *name)
 	static const struct { const char *name; void *(*call)(void *); } CALLS[] = {
 		{"encode", encode}, {"encode_bits", encode_bits}, {"encode_series", encode_series}, {"read", read_symbol}, {"mend", mend},
 		{"draw", draw}, {"draw_row", draw_row}, {"document", document}, {"sheets", sheets}, {"image", image},
-		{"parse_drawing", parse_drawing}, {"room", room}};
+		{"parse_drawing", parse_drawing}, {"find", find}, {"room", room}};
 	written = fread(text, 1, sizeof text, stdin);
 	memcpy(modules, text, written < sizeof modules ? written : sizeof modules);
 	while (side * side < written)

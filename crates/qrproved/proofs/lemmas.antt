@@ -8,3 +8,4 @@ pub mod mending
 pub mod drawing
 pub mod row
 pub mod sheets
+pub mod finding

@@ -14,3 +14,4 @@ pub mod Document
 pub mod Sheets
 pub mod Image
 pub mod Parsing
+pub mod Finding

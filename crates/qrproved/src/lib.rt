@@ -1,7 +1,7 @@
 //! A library for C, and for each language that can call C functions. In the comments of this crate a call is one of the
 //! library's functions, which `include/qrproved.h` declares. The calls encode an input as a symbol or a series, read
 //! symbols, mend damaged ones, draw squares of modules, write them as documents for print, as labels or as images, parse
-//! drawings, and say how much fits a symbol. A call writes modules, bytes, ECI headers, texts and files to buffers of the
+//! drawings, find symbols in pictures, and say how much fits a symbol. A call writes modules, bytes, ECI headers, texts and files to buffers of the
 //! caller, and numbers to a struct or a variable of the caller. It keeps no memory, so there is nothing to free.
 //!
 //! The contracts of the calls hold if the caller fulfils the conditions under 'What the caller owes' in
@@ -17,10 +17,10 @@
 //! The files of `src`:
 //!
 //! - `bits`: squares of modules as bits of a buffer
-//! - `checks`: the macros `check!` and `check_eq!` for tests
 //! - `document`: the call that writes documents for print
 //! - `drawing`: the call that draws squares of modules
 //! - `encoding`: the calls that encode an input as one symbol
+//! - `finding`: the call that finds symbols in a picture
 //! - `image`: the call that writes the image of a square as a file
 //! - `interpretation`: ECI headers and FNC1, as numbers for C
 //! - `laws`: laws about the calls and their numbers
@@ -30,7 +30,6 @@
 //! - `reading`: the call that reads a symbol without error correction
 //! - `room`: the call that says how much fits a symbol
 //! - `row`: the call that draws one line of a text
-//! - `samples`: symbols for the tests
 //! - `series`: the call that encodes an input as a series
 //! - `settings`: which numbers of a caller are allowed, and what they mean
 //! - `sheets`: the call that writes labels on sheets of paper
@@ -39,11 +38,10 @@
 #![tactic(auto)]
 
 mod bits;
-#[cfg(test)]
-mod checks;
 mod document;
 mod drawing;
 mod encoding;
+mod finding;
 mod image;
 mod interpretation;
 pub mod laws;
@@ -53,8 +51,6 @@ mod parsing;
 mod reading;
 mod room;
 mod row;
-#[cfg(test)]
-mod samples;
 mod series;
 mod settings;
 mod sheets;
@@ -64,6 +60,7 @@ mod version;
 pub use document::qrproved_document;
 pub use drawing::qrproved_draw;
 pub use encoding::{QrprovedSymbol, qrproved_encode, qrproved_encode_bits};
+pub use finding::{QrprovedFound, qrproved_find};
 pub use image::qrproved_image;
 pub use interpretation::QrprovedEci;
 pub use mending::{QrprovedMended, qrproved_mend};

@@ -12,6 +12,7 @@ pub const SYMBOL_MAX: usize = 31329;
 pub const SERIES_MAX: usize = 501264;
 pub const BYTES_MAX: usize = 7089;
 pub const ECIS_MAX: usize = 1970;
+pub const FOUND_MAX: usize = 64;
 pub const SCALE_MAX: u8 = 100;
 pub const WRONG_FORMAT_MAX: u8 = 3;
 
@@ -104,6 +105,24 @@ pub struct Drawn {
     pub margin: u8,
     pub count: u8,
     pub side: u8,
+}
+
+#[repr(C)]
+#[derive(Clone, Copy, Default)]
+pub struct Found {
+    pub x0: u32,
+    pub y0: u32,
+    pub x1: u32,
+    pub y1: u32,
+    pub x2: u32,
+    pub y2: u32,
+    pub x3: u32,
+    pub y3: u32,
+    pub side: u32,
+    pub quarter_turns: u8,
+    pub is_inverse: u8,
+    pub is_mirrored: u8,
+    pub is_read: u8,
 }
 
 // Each call but that for the version may be made if these conditions of include/qrproved.h hold:
@@ -214,6 +233,20 @@ extern "C" {
         text: *mut c_uchar,
         text_len: usize,
         written: *mut usize,
+    ) -> u8;
+
+    pub fn qrproved_find(
+        pixels: *const c_uchar,
+        pixels_len: usize,
+        width: Setting,
+        height: Setting,
+        stride: Setting,
+        unread: Setting,
+        modules: *mut c_uchar,
+        modules_len: usize,
+        found: *mut Found,
+        found_len: usize,
+        count: *mut usize,
     ) -> u8;
 
     pub fn qrproved_parse_drawing(

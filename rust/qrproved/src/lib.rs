@@ -471,6 +471,26 @@ pub struct Drawn {
     pub squares: Vec<Vec<u8>>,
 }
 
+/// A square that [`find`] found in a picture.
+#[derive(Clone, Debug, PartialEq, Eq, Hash)]
+pub struct Found {
+    /// The modules on a side, from 21 to 177.
+    pub side: usize,
+    /// The modules, row by row, as [`mend`] takes them.
+    pub modules: Vec<u8>,
+    /// The column and the row of each corner in sixteenths of a pixel, from the upper left corner of the picture: of the first
+    /// module, and then clockwise around the square.
+    pub corners: [(u32, u32); 4],
+    /// By how many quarter turns the symbol is turned clockwise, to the nearest one.
+    pub quarter_turns: u8,
+    /// Whether it is light on dark.
+    pub is_inverse: bool,
+    /// Whether it is mirrored: its first row goes from the first corner to the last.
+    pub is_mirrored: bool,
+    /// Whether it can be mended.
+    pub is_read: bool,
+}
+
 impl Mended {
     /// Returns whether the square is the symbol, module by module.
     #[must_use]
@@ -982,6 +1002,64 @@ pub fn parse_drawing(text: &[u8]) -> Result<Drawn, Error> {
             .map(<[u8]>::to_vec)
             .collect(),
     })
+}
+
+/// Finds the symbols of a picture in grey, at most 64. The picture has a byte for each pixel, from 0 for black to 255 for white, and
+/// each row begins `stride` bytes after the one above. With `unread`, squares that look like symbols and that [`mend`] does not read
+/// are found too, after the others.
+///
+/// # Errors
+///
+/// [`Error::Settings`] if the width or the height is 0 or above 32,767, or `stride` is less than the width; [`Error::Room`] if
+/// there are fewer pixels than the rows take; [`Error::Memory`].
+pub fn find(
+    pixels: &[u8],
+    width: u32,
+    height: u32,
+    stride: u32,
+    unread: bool,
+) -> Result<Vec<Found>, Error> {
+    let mut found = [c::Found::default(); c::FOUND_MAX];
+    let mut count = 0;
+    let modules = filled(c::FOUND_MAX * c::SYMBOL_MAX, |modules, len| {
+        // SAFETY: `filled` has checked the version, each length is that of its slice, and only the call has the buffers
+        // and the number to which it writes.
+        let status = unsafe {
+            c::qrproved_find(
+                pixels.as_ptr(),
+                pixels.len(),
+                width,
+                height,
+                stride,
+                c::Setting::from(unread),
+                modules,
+                len,
+                found.as_mut_ptr(),
+                found.len(),
+                &mut count,
+            )
+        };
+        (status, count * c::SYMBOL_MAX)
+    })?;
+    let places = modules.chunks_exact(c::SYMBOL_MAX);
+    Ok(found
+        .iter()
+        .zip(places)
+        .map(|(it, place)| Found {
+            side: it.side as usize,
+            modules: place[..(it.side as usize).pow(2)].to_vec(),
+            corners: [
+                (it.x0, it.y0),
+                (it.x1, it.y1),
+                (it.x2, it.y2),
+                (it.x3, it.y3),
+            ],
+            quarter_turns: it.quarter_turns,
+            is_inverse: it.is_inverse != 0,
+            is_mirrored: it.is_mirrored != 0,
+            is_read: it.is_read != 0,
+        })
+        .collect())
 }
 
 /// Returns the SVG document of symbols of one version, as [`draw`] does, with a size: it is `mm` millimetres wide with its margin.

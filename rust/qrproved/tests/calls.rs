@@ -1,6 +1,6 @@
 //! What the crate adds to the library: its types, and its refusals. The symbols themselves are compared by tests/library.
 use qrproved::{
-    document, draw, draw_squares, draw_svg, encode, encode_series, image, mend, parse_drawing,
+    document, draw, draw_squares, draw_svg, encode, encode_series, find, image, mend, parse_drawing,
     read, room, sheets, Content, Document, Drawing, Eci, Error, Fnc1, Format, Header, ImageOptions,
     Interpretation, Level, Mode, Options, Rule, SettingError, Sheet, TextError, Version,
 };
@@ -857,4 +857,44 @@ fn drawings_are_parsed() {
         }
     }
     assert_eq!(parse_drawing(b""), Err(Error::NoDrawing));
+}
+
+/// Returns the picture of a symbol of three pixels a module and a margin of four modules, turned by a quarter, with one grey pixel if
+/// it is not to be a clean picture.
+fn turned_picture(modules: &[u8], side: usize, is_clean: bool) -> (Vec<u8>, usize) {
+    let size = 3 * (side + 8);
+    let mut pixels = vec![255; size * size];
+    for y in 0..3 * side {
+        for x in 0..3 * side {
+            if modules[(side - 1 - x / 3) * side + y / 3] == 1 {
+                pixels[(y + 12) * size + x + 12] = 0;
+            }
+        }
+    }
+    if !is_clean {
+        pixels[0] = 128;
+    }
+    (pixels, size)
+}
+
+#[test]
+fn symbols_are_found_in_pictures() {
+    let symbol = encode(b"Shelf 12", Version::MIN, Level::M, &PLAIN).unwrap();
+    for is_clean in [true, false] {
+        let (pixels, size) = turned_picture(symbol.modules(), symbol.side(), is_clean);
+        let width = size as u32;
+        let all = find(&pixels, width, width, width, false).unwrap();
+        assert_eq!(all.len(), 1);
+        assert_eq!(
+            (&all[0].modules[..], all[0].side, all[0].quarter_turns),
+            (symbol.modules(), symbol.side(), 1)
+        );
+        assert!(all[0].is_read && !all[0].is_inverse && !all[0].is_mirrored);
+        assert_eq!(
+            find(&pixels[1..], width, width, width, false),
+            Err(Error::Room)
+        );
+    }
+    assert_eq!(find(&[200; 100], 10, 10, 10, true), Ok(Vec::new()));
+    assert_eq!(find(&[200; 100], 10, 10, 9, true), Err(Error::Settings));
 }

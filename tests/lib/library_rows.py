@@ -1,0 +1,927 @@
+"""Rows for the calls of the library. A row says in words what is tried, and then what a call is given and what it has to return and
+write. The values were worked out by hand, are those of the standard (ISO/IEC 18004:2015), or come from another encoder. None comes from
+the library.
+
+Before a call each byte that it might write is MARK. Its buffer is longer than the room that the call is told of."""
+import ctypes
+from functools import partial
+from typing import NamedTuple
+
+from damage import inverted, unread
+from libraries import DEFAULT, ECI_UTF8, GS1, MARK, STATUSES, Content, Drawn, Found, Library, Mended, Series, Sheet, Symbol, check
+from squares import interleaved, square_of
+
+SPARE = 8  # bytes of a buffer after the room that a call is told of
+# Numbers of levels and rules.
+L, M, Q, H = range(4)
+AUTO, BYTES_ONLY, WITH_KANJI = range(3)
+NUMERIC, ALPHANUMERIC, BYTE, KANJI = range(4)
+ASCII, ASCII_INVERSE, UTF8, SVG = range(4)
+SVG_MM, EPS, PDF = range(3)
+PBM = 1
+
+# ---- calls
+
+class Outcome(NamedTuple):
+    """What a call returns, the struct or number that it may set, and its buffer without the MARKs at the end. (No result ends with
+    this byte.)"""
+    status: str
+    told: object
+    written: bytes
+
+
+def called(call, given, told, room, after=()):
+    """Makes a call with a buffer of which it may write the first bytes."""
+    buffer = (ctypes.c_uint8 * (room + SPARE))(*[MARK] * (room + SPARE))
+    ctypes.memset(ctypes.byref(told), MARK, ctypes.sizeof(told))
+    status = call(*given, buffer, room, *after, ctypes.byref(told))
+    return Outcome(STATUSES[status], told, bytes(buffer).rstrip(bytes([MARK])))
+
+
+def verdict(it):
+    """Returns the status. If it is not DONE, says so if the call changed the buffer or the struct."""
+    if it.status == "DONE":
+        return it.status
+    is_same = bytes(it.told).count(MARK) == ctypes.sizeof(it.told)
+    return it.status + (", buffer changed" if it.written else "") + ("" if is_same else ", struct changed")
+
+
+def fields(struct, *names):
+    return tuple(getattr(struct, name) for name in names)
+
+
+def told_by(it, *names):
+    """Returns these fields of the struct. If the status is not DONE, returns the verdict."""
+    return fields(it.told, *names) if it.status == "DONE" else verdict(it)
+
+
+def encode(library, data, version, level, rule, interpretation=DEFAULT, boost=0, room=625, call="qrproved_encode"):
+    """Encodes an input. The room is that of version 2 if it is not given."""
+    given = data, len(data), version, level, rule, interpretation, boost
+    return called(getattr(library.library, call), given, Symbol(), room)
+
+
+encode_bits = partial(encode, call="qrproved_encode_bits")
+
+
+def encode_series(library, data, version, level, rule, room):
+    return called(library.library.qrproved_encode_series, (data, len(data), version, level, rule, DEFAULT), Series(), room)
+
+
+def read(library, modules, side, room):
+    return called(library.library.qrproved_read, (modules, len(modules), side), Content(), room, (None, 0))
+
+
+def mend(library, modules, side, room):
+    return called(library.library.qrproved_mend, (modules, len(modules), side), Mended(), room, (None, 0))
+
+
+def parse_drawing(library, text, room):
+    return called(library.library.qrproved_parse_drawing, (text, len(text)), Drawn(), room)
+
+
+# The number that a call is to set, if it does not.
+UNCHANGED = int.from_bytes(bytes([MARK]) * ctypes.sizeof(ctypes.c_size_t), "little")
+# What the functions below return if a number is out of range.
+SETTINGS = "SETTINGS", UNCHANGED, b""
+
+
+def file_of(call, given, room):
+    """Returns the status, the length that the call reports, and what it wrote."""
+    it = called(call, given, ctypes.c_size_t(), room)
+    return it.status, it.told.value, it.written
+
+
+def done(text):
+    return "DONE", len(text), text
+
+
+def too_short(text):
+    """What is returned if there is too little room for a text."""
+    return "ROOM", len(text), b""
+
+
+NO_SQUARES = "ROOM", 0, b""  # there are fewer modules than the numbers say
+
+
+def draw(library, side, count, drawing, margin, room):
+    return file_of(library.library.qrproved_draw, (SQUARES, len(SQUARES), side, count, drawing, margin), room)
+
+
+def draw_row(library, side, drawing, margin, line, room):
+    return file_of(library.library.qrproved_draw_row, (BITS, len(BITS), side, drawing, margin, line), room)
+
+
+def document(library, side, count, format, margin, micrometres, room):
+    return file_of(library.library.qrproved_document, (SQUARES, len(SQUARES), side, count, format, margin, micrometres), room)
+
+
+def sheets(library, side, count, margin, micrometres, room, **changed):
+    sheet = Sheet(**{**SHEET, **changed})
+    return file_of(library.library.qrproved_sheets, (LABELS, len(LABELS), side, count, margin, micrometres, ctypes.byref(sheet)), room)
+
+
+def image(library, side, format, scale, margin, pixels_a_metre, room):
+    return file_of(library.library.qrproved_image, (SQUARE, len(SQUARE), side, format, scale, margin, pixels_a_metre, 0, 0), room)
+
+
+# ---- one symbol
+
+# The symbol of `A` in byte mode at version 1 and level L (1-L), as another encoder draws it.
+LETTER = """
+111111100101101111111
+100000100111001000001
+101110101101101011101
+101110100101001011101
+101110100010101011101
+100000100000101000001
+111111101010101111111
+000000001101100000000
+111011111111011000100
+101100001000001000110
+010111100110100010001
+010110001100001000100
+001101101000101010101
+000000001001010101010
+111111101011011101111
+100000101111110111000
+101110101101011101101
+101110100110001000110
+101110101100100010001
+100000101000001000110
+111111101110101010111
+""".replace("\n", "")
+LETTER_AS_MODULES = bytes(map(int, LETTER))
+# The bits of `LETTER`, one after the other: 441 of them take 55 bytes and a bit.
+LETTER_AS_BITS = int(LETTER.ljust(56 * 8, "0"), 2).to_bytes(56, "big")
+DIGITS, LETTERS, TEN_KANJI = b"7" * 7090, b"a" * 81, b"\x93\x5F" * 10
+
+
+def symbol(library, call, data, version, level, rule, room):
+    it = call(library, data, version, level, rule, room=room)
+    return it.status, fields(it.told, "version", "side", "level", "mask"), it.written
+
+
+SYMBOLS = [
+    # two bytes more than the symbol takes
+    ("a letter at 1-L", encode, b"A", 1, L, BYTES_ONLY, 443, ("DONE", (1, 21, L, 0), LETTER_AS_MODULES)),
+    ("a letter at 1-L as bits", encode_bits, b"A", 1, L, BYTES_ONLY, 58, ("DONE", (1, 21, L, 0), LETTER_AS_BITS)),
+]
+
+
+def beginning_of_bits(library):
+    """Returns the first five bytes of `LETTER` as bits, and the last one."""
+    bits = encode_bits(library, b"A", 1, L, BYTES_ONLY).written
+    return bits[:5], bits[55:]
+
+
+# The first row is 11111110 01011011 11111, and the second 100 00010011 10010000 01.
+BEGINNINGS = [("a letter at 1-L as bits, typed as bytes", (bytes([0xFE, 0x5B, 0xFC, 0x13, 0x90]), b"\x80"))]
+
+
+def version_and_mask(library, *given):
+    return told_by(encode(library, *given, room=441), "version", "mask")
+
+
+# The masks are those of another encoder.
+MASKS = [
+    ("a letter at 1-Q", b"g", 1, Q, AUTO, (1, 0)),
+    ("five letters at 1-L", b"hello", 1, L, AUTO, (1, 7)),
+]
+
+
+def least_version(library, data, level, rule, interpretation=DEFAULT):
+    it = encode(library, data, 1, level, rule, interpretation)
+    return it.told.version if it.status == "DONE" else verdict(it)
+
+
+# The least versions that an input fits (Table 7).
+LEAST_VERSIONS = [
+    ("41 digits at L", DIGITS[:41], L, AUTO, 1),
+    ("42 digits at L", DIGITS[:42], L, AUTO, 2),
+    ("34 digits at M", DIGITS[:34], M, AUTO, 1),
+    ("35 digits at M", DIGITS[:35], M, AUTO, 2),
+    ("27 digits at Q", DIGITS[:27], Q, AUTO, 1),
+    ("28 digits at Q", DIGITS[:28], Q, AUTO, 2),
+    ("17 digits at H", DIGITS[:17], H, AUTO, 1),
+    ("18 digits at H", DIGITS[:18], H, AUTO, 2),
+    ("17 digits as bytes at L", DIGITS[:17], L, BYTES_ONLY, 1),
+    ("18 digits as bytes at L", DIGITS[:18], L, BYTES_ONLY, 2),
+    # they fit 1-L only if kanji mode is allowed
+    ("ten kanji", TEN_KANJI, L, AUTO, 2),
+    ("ten kanji as bytes", TEN_KANJI, L, BYTES_ONLY, 2),
+    ("ten kanji with kanji mode", TEN_KANJI, L, WITH_KANJI, 1),
+    # An ECI header takes 12, 20 or 28 bits, and FNC1 for GS1 data takes 4. At level L version 1 has a capacity of 152 bits. In byte
+    # mode 17 bytes take 148 of them, 16 take 140 and 15 take 132. In numeric mode 41 digits take 151.
+    ("17 letters", LETTERS[:17], L, AUTO, DEFAULT, 1),
+    ("16 letters as UTF-8", LETTERS[:16], L, AUTO, ECI_UTF8, 1),
+    ("17 letters as UTF-8", LETTERS[:17], L, AUTO, ECI_UTF8, 2),
+    ("16 letters with ECI 127", LETTERS[:16], L, AUTO, 127, 1),
+    ("16 letters with ECI 128", LETTERS[:16], L, AUTO, 128, 2),
+    ("15 letters with ECI 16,383", LETTERS[:15], L, AUTO, 16_383, 1),
+    ("15 letters with ECI 16,384", LETTERS[:15], L, AUTO, 16_384, 2),
+    ("14 letters with ECI 999,999", LETTERS[:14], L, AUTO, 999_999, 1),
+    ("17 letters as GS1 data", LETTERS[:17], L, AUTO, GS1, 1),
+    ("41 digits", DIGITS[:41], L, AUTO, DEFAULT, 1),
+    ("40 digits as GS1 data", DIGITS[:40], L, AUTO, GS1, 1),
+    ("41 digits as GS1 data", DIGITS[:41], L, AUTO, GS1, 2),
+]
+
+
+def boosted(library, data, level):
+    return told_by(encode(library, data, 1, level, AUTO, boost=1), "version", "level")
+
+
+# Each row has the lowest level that is allowed, and the version and the level that the symbol gets (Table 7).
+BOOSTED = [
+    ("17 digits", DIGITS[:17], L, (1, H)),
+    ("18 digits", DIGITS[:18], L, (1, Q)),
+    ("27 digits", DIGITS[:27], L, (1, Q)),
+    ("28 digits", DIGITS[:28], L, (1, M)),
+    ("34 digits", DIGITS[:34], M, (1, M)),
+    ("35 digits", DIGITS[:35], L, (1, L)),
+    ("35 digits at M", DIGITS[:35], M, (2, Q)),
+    ("42 digits", DIGITS[:42], L, (2, Q)),
+    ("17 digits at H", DIGITS[:17], H, (1, H)),
+]
+
+
+def encoding_verdict(library, call, data, version, level, rule, room):
+    return verdict(call(library, data, version, level, rule, room=room))
+
+
+REFUSED_SYMBOLS = [
+    ("no byte", encode, b"", 1, L, AUTO, 441, "EMPTY"),
+    ("7,090 digits", encode, DIGITS, 1, L, AUTO, 441, "TOO_LONG"),
+    ("2,954 digits as bytes", encode, DIGITS[:2954], 1, L, BYTES_ONLY, 441, "TOO_LONG"),
+    ("version 0", encode, b"7", 0, L, AUTO, 441, "SETTINGS"),
+    ("version 41", encode, b"7", 41, L, AUTO, 441, "SETTINGS"),
+    ("version 257", encode, b"7", 257, L, AUTO, 441, "SETTINGS"),
+    ("level 4", encode, b"7", 1, 4, AUTO, 441, "SETTINGS"),
+    ("level 256", encode, b"7", 1, 256, AUTO, 441, "SETTINGS"),
+    ("rule 256", encode, b"7", 1, L, 256, 441, "SETTINGS"),
+    ("rule 3", encode, b"7", 1, L, 3, 441, "SETTINGS"),
+    ("no byte at level 4", encode, b"", 1, 4, AUTO, 441, "SETTINGS"),
+    ("440 bytes", encode, b"7", 1, H, AUTO, 440, "ROOM"),
+    ("no room", encode, b"7", 1, H, AUTO, 0, "ROOM"),
+    ("no byte as bits", encode_bits, b"", 1, L, AUTO, 56, "EMPTY"),
+    ("7,090 digits as bits", encode_bits, DIGITS, 1, L, AUTO, 56, "TOO_LONG"),
+    ("version 41 as bits", encode_bits, b"7", 41, L, AUTO, 56, "SETTINGS"),
+    ("level 4 as bits", encode_bits, b"7", 1, 4, AUTO, 56, "SETTINGS"),
+    ("55 bytes for bits", encode_bits, b"7", 1, H, AUTO, 55, "ROOM"),
+    ("56 bytes for the bits of version 2", encode_bits, b"7", 2, H, AUTO, 56, "ROOM"),
+    ("no room for bits", encode_bits, b"7", 1, H, AUTO, 0, "ROOM"),
+]
+
+
+def interpretation_verdict(library, data, rule, interpretation, boost):
+    return verdict(encode(library, data, 1, L, rule, interpretation, boost))
+
+
+# The separator of fields is the byte 1D (hexadecimal).
+INTERPRETATIONS = [
+    ("ECI 1,000,002", b"a", AUTO, 1_000_002, 0, "SETTINGS"),
+    ("boost 2", b"a", AUTO, ECI_UTF8, 2, "SETTINGS"),
+    ("boost 257", b"a", AUTO, ECI_UTF8, 257, "SETTINGS"),
+    ("kanji as UTF-8", b"a", WITH_KANJI, ECI_UTF8, 0, "SETTINGS"),
+    ("kanji as Shift JIS", b"a", WITH_KANJI, 20, 0, "DONE"),
+    ("kanji in GS1 data", b"a", WITH_KANJI, GS1, 0, "DONE"),
+    ("no byte as UTF-8", b"", AUTO, ECI_UTF8, 0, "EMPTY"),
+    ("no GS1 data", b"", AUTO, GS1, 0, "EMPTY"),
+    ("two separators", b"10a\x1D\x1D17261231", AUTO, GS1, 0, "FIELDS"),
+    ("a field that begins with %", b"10a\x1D%", AUTO, GS1, 0, "FIELDS"),
+    ("two separators as bytes", b"10a\x1D\x1D17", BYTES_ONLY, GS1, 0, "FIELDS"),
+    ("two separators as UTF-8", b"\x1D\x1D", AUTO, ECI_UTF8, 0, "DONE"),
+    ("two fields", b"10a%\x1D17261231", AUTO, GS1, 0, "DONE"),
+]
+
+# ---- a series
+
+# In byte mode at version 1 and level H, the first of two symbols contains five of these eight letters.
+PARTED = b"ABCDEFGH", 1, H, BYTES_ONLY
+
+
+def series(library):
+    """Returns what the struct says, the first modules of both symbols, and how many bytes were written."""
+    it = encode_series(library, *PARTED, room=884)
+    return it.status, fields(it.told, "count", "side"), it.written[:8], it.written[441:449], len(it.written)
+
+
+EDGE = bytes([1, 1, 1, 1, 1, 1, 1, 0])  # of a finder pattern and its separator
+SERIES = [("eight letters at 1-H", ("DONE", (2, 21), EDGE, EDGE, 882))]
+
+
+def series_verdict(library, *given):
+    return verdict(encode_series(library, *given))
+
+
+REFUSED_SERIES = [
+    ("no byte", b"", 1, H, BYTES_ONLY, 882, "EMPTY"),
+    ("81 letters", LETTERS, 1, H, BYTES_ONLY, 882, "TOO_MANY"),
+    ("version 0", LETTERS[:8], 0, H, BYTES_ONLY, 882, "SETTINGS"),
+    ("version 41", LETTERS[:8], 41, H, BYTES_ONLY, 882, "SETTINGS"),
+    ("version 257", LETTERS[:8], 257, H, BYTES_ONLY, 882, "SETTINGS"),
+    ("level 4", LETTERS[:8], 1, 4, BYTES_ONLY, 882, "SETTINGS"),
+    ("rule 3", LETTERS[:8], 1, H, 3, 882, "SETTINGS"),
+    ("881 bytes", LETTERS[:8], 1, H, BYTES_ONLY, 881, "ROOM"),
+]
+
+# ---- how much fits
+
+# `EDGES_OF_ROOM` of libraries.py has the rows with numbers that are out of range.
+ROOMS = [
+    # Table 7
+    ("digits at 1-L", 1, L, NUMERIC, DEFAULT, 0, 41),
+    ("digits at 40-L", 40, L, NUMERIC, DEFAULT, 0, 7089),
+    ("characters of alphanumeric mode at 1-L", 1, L, ALPHANUMERIC, DEFAULT, 0, 25),
+    ("characters of alphanumeric mode at 40-L", 40, L, ALPHANUMERIC, DEFAULT, 0, 4296),
+    ("bytes at 1-L", 1, L, BYTE, DEFAULT, 0, 17),
+    ("bytes at 40-L", 40, L, BYTE, DEFAULT, 0, 2953),
+    ("kanji at 1-L", 1, L, KANJI, DEFAULT, 0, 10),
+    ("kanji at 40-L", 40, L, KANJI, DEFAULT, 0, 1817),
+    # What comes before the segment takes 12, 20 or 28 bits for an ECI header, 4 for FNC1, and 20 for a structured append header. These
+    # counts were worked out by hand from 152 bits at 1-L and 72 bits at 1-H.
+    ("ECI 26", 1, L, BYTE, 26, 0, 16),
+    ("ECI 127", 1, L, BYTE, 127, 0, 16),
+    ("ECI 128", 1, L, BYTE, 128, 0, 15),
+    ("ECI 16,383", 1, L, BYTE, 16_383, 0, 15),
+    ("ECI 16,384", 1, L, BYTE, 16_384, 0, 14),
+    ("GS1 data", 1, L, NUMERIC, GS1, 0, 40),
+    ("a symbol of a series", 1, L, BYTE, DEFAULT, 1, 15),
+    ("an ECI header in a series", 1, L, ALPHANUMERIC, 999_999, 1, 16),
+    ("kanji in Shift JIS", 1, L, KANJI, 20, 0, 9),
+    ("GS1 data of a series at 1-H", 1, H, KANJI, GS1, 1, 2),
+]
+
+# ---- symbols that are read
+
+# (If the library does not write a symbol, the two functions below return light modules, so that the rows fail.)
+
+def eight_digits(library):
+    """Returns the symbol of the digits 01234567 at version 1 and level M (1-M)."""
+    return encode(library, b"01234567", 1, M, AUTO).written.ljust(441, b"\0")
+
+
+def part_of_series(library, position):
+    """Returns one of the two symbols of `PARTED`."""
+    return encode_series(library, *PARTED, room=882).written.ljust(882, b"\0")[441 * position:441 * (position + 1)]
+
+
+# A symbol at 1-M whose data codewords begin with the bits 0110, which are no mode indicator.
+ANOTHER_MODE = square_of(1, "M", 0, interleaved(1, "M", b"\x60" * 16))
+
+
+def places(*pairs):
+    """Returns the modules in these rows and columns of a symbol of version 1."""
+    return [21 * row + column for row, column in pairs]
+
+
+def with_wrong(*pairs):
+    """Returns what inverts these modules of a symbol of version 1."""
+    return partial(inverted, places=places(*pairs))
+
+
+def whole(modules):
+    return modules
+
+
+def without_last(modules):
+    return modules[:-1]
+
+
+def another_mode(_):
+    return ANOTHER_MODE
+
+
+HEADER = "has_header", "position", "last", "parity"
+
+
+def content(library, modules, room):
+    it = read(library, modules, 21, room)
+    return it.status, it.written, fields(it.told, "len", "version", *HEADER)
+
+
+def read_digits(library, dark):
+    """Reads eight digits with this byte for each dark module. There is room for two bytes more."""
+    return content(library, eight_digits(library).replace(b"\1", bytes([dark])), 10)
+
+
+# Each byte but 0 stands for a dark module, so 200 means the same as 1.
+READ_DIGITS = [("eight digits whose dark modules are 200", 200, ("DONE", b"01234567", (8, 1, 0, 0, 0, 0)))]
+
+
+def read_part(library, position):
+    return content(library, part_of_series(library, position), 5)
+
+
+READ_PARTS = [
+    ("the first symbol of a series", 0, ("DONE", b"ABCDE", (5, 1, 1, 0, 1, 0x08))),
+    ("the second symbol of a series", 1, ("DONE", b"FGH", (3, 1, 1, 1, 1, 0x08))),
+]
+
+
+def reading_verdict(library, change, side, room):
+    return verdict(read(library, change(eight_digits(library)), side, room))
+
+
+UNREAD = [
+    ("no side", whole, 0, 8, "SIDE"),
+    ("side 20", whole, 20, 8, "SIDE"),
+    ("side 22", whole, 22, 8, "SIDE"),
+    ("side 181", whole, 181, 8, "SIDE"),
+    ("side 277", whole, 277, 8, "SIDE"),
+    ("440 modules", without_last, 21, 8, "ROOM"),
+    ("room for 7 bytes", whole, 21, 7, "ROOM"),
+    ("another format information", with_wrong((0, 8)), 21, 8, "FORMAT"),
+    ("another codeword", with_wrong((20, 20)), 21, 8, "CHECK"),
+    ("another mode", another_mode, 21, 8, "SEGMENTS"),
+]
+
+# ---- symbols that are mended
+
+# Five modules of a symbol at 1-M, each in a different codeword.
+CODEWORDS = (20, 20), (16, 20), (12, 20), (9, 18), (13, 18)
+# Four modules of the first copy of the format information, then four of the second.
+FORMATS = (0, 8), (1, 8), (2, 8), (3, 8), (8, 20), (8, 19), (8, 18), (8, 17)
+DAMAGE = "wrong_modules", "wrong_format_modules", "wrong_format_least", "changed_most", "spent_most", "worst_misread", "worst_unknown"
+
+
+def mended_digits(library, wrong):
+    """Mends eight digits with these modules wrong. There is room for two bytes more."""
+    it = mend(library, inverted(eight_digits(library), places(*wrong)), 21, 10)
+    others = fields(it.told, "len", "version", "level", "changed_allowed", "has_kanji", *HEADER)
+    return it.status, it.written, others, it.told.mask < 8, dict(zip(DAMAGE, fields(it.told, *DAMAGE)))
+
+
+def mended_as(wrong_modules, wrong_format_modules, wrong_format_least, changed_most, spent_most):
+    """Returns what mending eight digits has to return. At 1-M up to four misread codewords of the 26 can be corrected."""
+    damage = wrong_modules, wrong_format_modules, wrong_format_least, changed_most, spent_most, changed_most, 0
+    return "DONE", b"01234567", (8, 1, M, 4, 0, 0, 0, 0, 0), True, dict(zip(DAMAGE, damage))
+
+
+MENDED_DIGITS = [
+    ("as drawn", (), mended_as(0, 0, 0, 0, 0)),
+    ("a module of the timing pattern", [(6, 9)], mended_as(1, 0, 0, 0, 0)),
+    ("one of the format information", FORMATS[:1], mended_as(1, 1, 0, 0, 0)),
+    ("seven of the format information", FORMATS[:7], mended_as(7, 7, 3, 0, 0)),
+    ("a codeword", CODEWORDS[:1], mended_as(1, 0, 0, 1, 2)),
+    ("four codewords", CODEWORDS[:4], mended_as(4, 0, 0, 4, 8)),
+]
+
+
+def mended_unknown(library, wrong):
+    """Mends eight digits with a module of five codewords not known, and these modules wrong."""
+    it = mend(library, unread(inverted(eight_digits(library), places(*wrong)), places(*CODEWORDS)), 21, 8)
+    return told_by(it, "wrong_modules", "wrong_format_modules", "changed_most", "spent_most", "worst_misread", "worst_unknown")
+
+
+# At 1-M eight of the ten error correction codewords correct errors, and two only detect them. A codeword with a module that is not
+# known uses up one of the eight, and a misread codeword uses up two.
+MENDED_UNKNOWN = [
+    ("five codewords with a module that is not known", (), (5, 0, 0, 5, 0, 5)),
+    ("five, and one misread", [(20, 16)], (6, 0, 1, 7, 1, 5)),
+    ("five, and two misread", [(20, 16), (16, 16)], "CHECK"),
+    ("five, and a module of the format information", FORMATS[:1], (6, 1, 0, 5, 0, 5)),
+]
+
+
+def mended_part(library):
+    """Mends the second symbol of a series. The wrong module is a bit of its first codeword."""
+    it = mend(library, with_wrong((20, 20))(part_of_series(library, 1)), 21, 3)
+    damage = fields(it.told, "wrong_modules", "wrong_format_modules", "changed_most", "changed_allowed")
+    return it.status, it.written, fields(it.told, "len", "version", "level", *HEADER), damage
+
+
+MENDED_PARTS = [("the second symbol of a series", ("DONE", b"FGH", (3, 1, H, 1, 1, 1, 0x08), (1, 0, 1, 8)))]
+
+
+def mending_verdict(library, change, side, room):
+    return verdict(mend(library, change(eight_digits(library)), side, room))
+
+
+UNMENDED = [
+    ("no side", whole, 0, 8, "SIDE"),
+    ("side 22", whole, 22, 8, "SIDE"),
+    ("side 181", whole, 181, 8, "SIDE"),
+    ("side 277", whole, 277, 8, "SIDE"),
+    ("440 modules", without_last, 21, 8, "ROOM"),
+    ("room for 7 bytes", whole, 21, 7, "ROOM"),
+    ("a byte of no module", lambda modules: without_last(modules) + b"\3", 21, 8, "SETTINGS"),
+    ("four wrong modules of each copy", with_wrong(*FORMATS), 21, 8, "FORMAT"),
+    ("five codewords", with_wrong(*CODEWORDS), 21, 8, "CHECK"),
+    ("another mode", another_mode, 21, 8, "SEGMENTS"),
+]
+
+# ---- drawings
+
+# A square of two rows, and after it the same square with the colours exchanged.
+SQUARES = bytes([1, 0, 0, 200, 0, 1, 1, 0])
+DRAWN = b"##  \n  ##\n  ##\n##  \n"
+TEXTS = [
+    ("two squares as ASCII", 2, 2, ASCII, 0, 80, done(DRAWN)),
+    ("two squares as ASCIIi", 2, 2, ASCII_INVERSE, 0, 80, done(b"  ##\n##  \n##  \n  ##\n")),
+    ("two squares as half blocks", 2, 2, UTF8, 0, 80, done("▄▀\n▀▄\n".encode())),
+    ("two squares with a margin", 2, 2, ASCII, 1, 80,
+     done(b"        \n  ##    \n    ##  \n        \n        \n    ##  \n  ##    \n        \n")),
+]
+REFUSED_TEXTS = [
+    ("side 0", 0, 1, ASCII, 0, 8, SETTINGS),
+    ("side 178", 178, 1, ASCII, 0, 8, SETTINGS),
+    ("side 258", 258, 1, ASCII, 0, 8, SETTINGS),
+    ("no square", 2, 0, ASCII, 0, 8, SETTINGS),
+    ("17 squares", 1, 17, ASCII, 0, 8, SETTINGS),
+    ("drawing 4", 2, 1, 4, 0, 8, SETTINGS),
+    ("margin 101", 2, 1, ASCII, 101, 8, SETTINGS),
+    ("three squares", 2, 3, ASCII, 0, 8, NO_SQUARES),
+    ("no room", 2, 1, ASCII, 0, 0, too_short(DRAWN[:10])),
+    ("one byte too few", 2, 1, ASCII, 0, 9, too_short(DRAWN[:10])),
+]
+
+# Three rows of three modules: `#.#`, `.##` and `..#`. The nine bits are 101011001, and the second byte has seven bits that have no
+# meaning.
+BITS = bytes([0b10101100, 0b11111111])
+LINE = b"##  ##\n"
+BLOCKS = "▄▀ \n".encode()
+LINES = [
+    ("line 0", 3, ASCII, 0, 0, 20, done(LINE)),
+    ("line 1", 3, ASCII, 0, 1, 20, done(b"  ####\n")),
+    ("line 2", 3, ASCII, 0, 2, 20, done(b"    ##\n")),
+    ("line 0 with a margin", 3, ASCII, 1, 0, 20, done(b"          \n")),
+    ("line 2 with a margin", 3, ASCII, 1, 2, 20, done(b"    ####  \n")),
+    ("line 4 with a margin", 3, ASCII, 1, 4, 20, done(b"          \n")),
+    ("line 0 as ASCIIi", 3, ASCII_INVERSE, 0, 0, 20, done(b"  ##  \n")),
+    ("line 0 as half blocks", 3, UTF8, 0, 0, 20, done(BLOCKS)),
+    ("line 1 as half blocks", 3, UTF8, 0, 1, 20, done("██▄\n".encode())),
+]
+REFUSED_LINES = [
+    ("side 0", 0, ASCII, 0, 0, 7, SETTINGS),
+    ("side 178", 178, ASCII, 0, 0, 7, SETTINGS),
+    ("side 259", 259, ASCII, 0, 0, 7, SETTINGS),
+    ("drawing 3", 3, SVG, 0, 0, 7, SETTINGS),
+    ("margin 101", 3, ASCII, 101, 0, 7, SETTINGS),
+    ("line 3", 3, ASCII, 0, 3, 7, SETTINGS),
+    ("line 65,536", 3, ASCII, 0, 65_536, 7, SETTINGS),
+    ("line 2 of half blocks", 3, UTF8, 0, 2, 7, SETTINGS),
+    ("three bytes of bits", 5, ASCII, 0, 0, 7, NO_SQUARES),
+    ("no room", 3, ASCII, 0, 0, 0, too_short(LINE)),
+    ("one byte too few", 3, ASCII, 0, 0, 6, too_short(LINE)),
+    ("one byte too few for half blocks", 3, UTF8, 0, 0, 7, too_short(BLOCKS)),
+]
+
+# ---- documents
+
+# Documents of `SQUARES`. A module is an inch wide, which is 25,400 micrometres, and 72 points.
+SQUARES_AS_SVG = b"""\
+<?xml version="1.0" encoding="UTF-8"?>
+<svg xmlns="http://www.w3.org/2000/svg" version="1.1" width="50.800mm" height="101.600mm" viewBox="0 0 2 4" shape-rendering="crispEdges">
+<rect x="0" y="0" width="2" height="4" fill="#ffffff"/>
+<path fill="#000000" d="M0 0h1v1h-1zM1 1h1v1h-1zM1 2h1v1h-1zM0 3h1v1h-1z"/>
+</svg>
+"""
+SQUARES_AS_EPS = b"""\
+%!PS-Adobe-3.0 EPSF-3.0
+%%BoundingBox: 0 0 144 288
+%%HiResBoundingBox: 0 0 144.000000 288.000000
+%%LanguageLevel: 2
+%%EndComments
+gsave
+72.000000 dup scale
+1 setgray 0 0 2 4 rectfill
+0 setgray
+/b { 1 rectfill } bind def
+0 3 1 b
+1 2 1 b
+1 1 1 b
+0 0 1 b
+grestore
+%%EOF
+"""
+# (each line of the table of objects ends with a space)
+SQUARES_AS_PDF = b"""\
+%PDF-1.4
+1 0 obj
+<</Type/Catalog/Pages 2 0 R>>
+endobj
+2 0 obj
+<</Type/Pages/Kids[3 0 R 5 0 R]/Count 2>>
+endobj
+3 0 obj
+<</Type/Page/Parent 2 0 R/MediaBox[0 0 144.000000 144.000000]/Resources<<>>/Contents 4 0 R>>
+endobj
+4 0 obj
+<</Length 76>>
+stream
+72.000000 0 0 72.000000 0 0 cm
+1 g 0 0 2 2 re f
+0 g
+0 1 1 1 re
+1 0 1 1 re
+f
+endstream
+endobj
+5 0 obj
+<</Type/Page/Parent 2 0 R/MediaBox[0 0 144.000000 144.000000]/Resources<<>>/Contents 6 0 R>>
+endobj
+6 0 obj
+<</Length 76>>
+stream
+72.000000 0 0 72.000000 0 0 cm
+1 g 0 0 2 2 re f
+0 g
+1 1 1 1 re
+0 0 1 1 re
+f
+endstream
+endobj
+xref
+0 7
+0000000000 65535 f\x20
+0000000009 00000 n\x20
+0000000054 00000 n\x20
+0000000111 00000 n\x20
+0000000219 00000 n\x20
+0000000342 00000 n\x20
+0000000450 00000 n\x20
+trailer
+<</Size 7/Root 1 0 R>>
+startxref
+573
+%%EOF
+"""
+DOCUMENTS = [
+    ("two squares as SVG", 2, 2, SVG_MM, 0, 25_400, 900, done(SQUARES_AS_SVG)),
+    ("two squares as EPS", 2, 2, EPS, 0, 25_400, 900, done(SQUARES_AS_EPS)),
+    ("two squares as PDF", 2, 2, PDF, 0, 25_400, 900, done(SQUARES_AS_PDF)),
+]
+REFUSED_DOCUMENTS = [
+    ("side 0", 0, 1, SVG_MM, 0, 1, 8, SETTINGS),
+    ("side 178", 178, 1, SVG_MM, 0, 1, 8, SETTINGS),
+    ("no square", 2, 0, SVG_MM, 0, 1, 8, SETTINGS),
+    ("17 squares", 1, 17, SVG_MM, 0, 1, 8, SETTINGS),
+    ("format 3", 2, 1, 3, 0, 1, 8, SETTINGS),
+    ("margin 101", 2, 1, SVG_MM, 101, 1, 8, SETTINGS),
+    ("no width", 2, 1, SVG_MM, 0, 0, 8, SETTINGS),
+    ("a metre and more", 2, 1, SVG_MM, 0, 1_000_001, 8, SETTINGS),
+    ("three squares", 2, 3, SVG_MM, 0, 1, 8, NO_SQUARES),
+    ("no room", 2, 2, EPS, 0, 25_400, 0, too_short(SQUARES_AS_EPS)),
+    ("too little room", 2, 2, PDF, 0, 25_400, 9, too_short(SQUARES_AS_PDF)),
+]
+
+# ---- labels
+
+# Three squares of two rows.
+LABELS = SQUARES + bytes([1, 1, 0, 0])
+# Paper of 6 by 5.5 inches, with two columns and two rows of places. The first row of the first sheet stays free.
+SHEET = {"width": 152_400, "height": 139_700, "left": 12_700, "top": 6_350, "across": 63_500, "down": 57_150, "columns": 2, "rows": 2, "first": 2}
+# The squares on this paper. A module is an inch wide. The first two squares are in the second row of the first page, and the third square
+# is in the first place of the second page.
+LABELS_AS_PDF = b"""\
+%PDF-1.4
+1 0 obj
+<</Type/Catalog/Pages 2 0 R>>
+endobj
+2 0 obj
+<</Type/Pages/Kids[3 0 R 5 0 R]/Count 2>>
+endobj
+3 0 obj
+<</Type/Page/Parent 2 0 R/MediaBox[0 0 432.000000 396.000000]/Resources<<>>/Contents 4 0 R>>
+endobj
+4 0 obj
+<</Length 193>>
+stream
+q 72.000000 0 0 72.000000 36.000000 72.000000 cm
+1 g 0 0 2 2 re f
+0 g
+0 1 1 1 re
+1 0 1 1 re
+f
+Q
+q 72.000000 0 0 72.000000 216.000000 72.000000 cm
+1 g 0 0 2 2 re f
+0 g
+1 1 1 1 re
+0 0 1 1 re
+f
+Q
+endstream
+endobj
+5 0 obj
+<</Type/Page/Parent 2 0 R/MediaBox[0 0 432.000000 396.000000]/Resources<<>>/Contents 6 0 R>>
+endobj
+6 0 obj
+<</Length 86>>
+stream
+q 72.000000 0 0 72.000000 36.000000 234.000000 cm
+1 g 0 0 2 2 re f
+0 g
+0 1 2 1 re
+f
+Q
+endstream
+endobj
+xref
+0 7
+0000000000 65535 f\x20
+0000000009 00000 n\x20
+0000000054 00000 n\x20
+0000000111 00000 n\x20
+0000000219 00000 n\x20
+0000000460 00000 n\x20
+0000000568 00000 n\x20
+trailer
+<</Size 7/Root 1 0 R>>
+startxref
+701
+%%EOF
+"""
+SHEETS = [("three squares", 2, 3, 0, 25_400, 1000, done(LABELS_AS_PDF))]
+REFUSED_SHEETS = [
+    ("side 0", 0, 3, 0, 25_400, 12, SETTINGS),
+    ("side 178", 178, 3, 0, 1, 12, SETTINGS),
+    ("no square", 2, 0, 0, 25_400, 12, SETTINGS),
+    ("10,001 squares", 2, 10_001, 0, 25_400, 12, SETTINGS),
+    ("margin 101", 2, 3, 101, 1, 12, SETTINGS),
+    ("no width", 2, 3, 0, 0, 12, SETTINGS),
+    ("squares on one another", 2, 3, 0, 31_751, 12, SETTINGS),
+    ("four squares", 2, 4, 0, 25_400, 12, NO_SQUARES),
+    ("no room", 2, 3, 0, 25_400, 0, too_short(LABELS_AS_PDF)),
+    ("too little room", 2, 3, 0, 25_400, 9, too_short(LABELS_AS_PDF)),
+]
+
+
+def on_paper(library, name, number):
+    """Draws the three squares on paper of which one number is another one."""
+    return sheets(library, 2, 3, 0, 25_400, 1000, **{name: number})
+
+
+REFUSED_PAPER = [
+    ("paper too wide", "width", 2_000_001, SETTINGS),
+    ("paper too high", "height", 2_000_001, SETTINGS),
+    ("a label over the right edge", "width", 126_999, SETTINGS),
+    ("a label over the lower edge", "height", 114_299, SETTINGS),
+    ("labels on one another in a row", "across", 50_799, SETTINGS),
+    ("labels on one another in a column", "down", 50_799, SETTINGS),
+    ("no column", "columns", 0, SETTINGS),
+    ("101 columns", "columns", 101, SETTINGS),
+    ("no row", "rows", 0, SETTINGS),
+    ("101 rows", "rows", 101, SETTINGS),
+    ("all places free", "first", 4, SETTINGS),
+]
+
+# ---- images
+
+SQUARE = SQUARES[:4]
+# Two lines of six pixels: three for each module.
+BITMAP = b"P4\n6 6\n\xE0\xE0\xE0\x1C\x1C\x1C"
+IMAGES = [("a bitmap", 2, PBM, 3, 0, 0, 15, done(BITMAP))]
+REFUSED_IMAGES = [
+    ("side 0", 0, PBM, 3, 0, 0, 13, SETTINGS),
+    ("side 178", 178, PBM, 3, 0, 0, 13, SETTINGS),
+    ("format 5", 2, 5, 3, 0, 0, 13, SETTINGS),
+    ("scale 0", 2, PBM, 0, 0, 0, 13, SETTINGS),
+    ("scale 101", 2, PBM, 101, 0, 0, 13, SETTINGS),
+    ("margin 101", 2, PBM, 3, 101, 0, 13, SETTINGS),
+    ("2^31 pixels a metre", 2, PBM, 3, 0, 1 << 31, 13, SETTINGS),
+    ("three rows", 3, PBM, 3, 0, 0, 13, NO_SQUARES),
+    ("one byte too few", 2, PBM, 3, 0, 0, 12, too_short(BITMAP)),
+]
+
+# ---- drawings that are parsed
+
+# A square of eight rows that begins as symbols do, typed by hand: its modules, and its drawing in ASCII.
+TYPED = bytes([
+    1, 1, 1, 1, 1, 1, 1, 0,
+    1, 0, 0, 0, 0, 0, 1, 0,
+    1, 0, 1, 1, 1, 0, 1, 0,
+    1, 0, 1, 1, 1, 0, 1, 1,
+    1, 0, 1, 1, 1, 0, 1, 0,
+    1, 0, 0, 0, 0, 0, 1, 1,
+    1, 1, 1, 1, 1, 1, 1, 0,
+    0, 0, 0, 0, 0, 0, 0, 0,
+])
+TYPED_AS_ASCII = (b"##############  \n##          ##  \n##  ######  ##  \n##  ######  ####\n"
+                  b"##  ######  ##  \n##          ####\n##############  \n                \n")
+TWO_TYPED = TYPED + TYPED[:-1] + b"\1"
+
+
+def parsed(library, text, room):
+    it = parse_drawing(library, text, room)
+    return it.status, fields(it.told, "drawing", "margin", "count", "side"), it.written
+
+
+PARSED = [("a square typed by hand", TYPED_AS_ASCII, 66, ("DONE", (ASCII, 0, 1, 8), TYPED))]
+
+
+def parsed_again(library, drawing, margin):
+    """Draws two squares, and parses the drawing."""
+    text = library.drawing([TWO_TYPED[:64], TWO_TYPED[64:]], 8, drawing, margin)
+    return text if isinstance(text, str) else parsed(library, text, 128)
+
+
+PARSED_AGAIN = [(f"two squares, drawing {drawing}, margin {margin}", drawing, margin, ("DONE", (drawing, margin, 2, 8), TWO_TYPED))
+                for drawing in range(4) for margin in (0, 1, 100)]
+
+
+def parsing_verdict(library, text, room):
+    return verdict(parse_drawing(library, text, room))
+
+
+UNPARSED = [
+    ("no text", b"", 64, "NO_DRAWING"),
+    ("a line too few", TYPED_AS_ASCII[:119], 64, "NO_DRAWING"),
+    ("no room", TYPED_AS_ASCII, 0, "ROOM"),
+    ("a byte too few", TYPED_AS_ASCII, 63, "ROOM"),
+]
+
+# ---- symbols that are found
+
+LIGHT = bytes([200] * 100)
+
+
+def find(library, width, height, stride, unread):
+    """Searches a light picture of a hundred pixels, which shows no symbol. Returns the status and the number of squares."""
+    count = ctypes.c_size_t(UNCHANGED)
+    status = library.library.qrproved_find(LIGHT, len(LIGHT), width, height, stride, unread, None, 0, None, 0, ctypes.byref(count))
+    return STATUSES[status], count.value
+
+
+NOT_SEARCHED = "SETTINGS", UNCHANGED
+SEARCHES = [
+    ("ten rows", 10, 10, 10, 0, ("DONE", 0)),
+    ("with squares that are not read", 10, 10, 10, 1, ("DONE", 0)),
+    ("no width", 0, 10, 10, 0, NOT_SEARCHED),
+    ("no height", 10, 0, 10, 0, NOT_SEARCHED),
+    ("rows that overlap", 10, 10, 9, 0, NOT_SEARCHED),
+    ("unread 2", 10, 10, 10, 2, NOT_SEARCHED),
+    ("eleven rows", 10, 11, 10, 0, ("ROOM", UNCHANGED)),
+]
+
+# A symbol of the standard's own example, 1-M, and what is left of it if no module of its lower right quarter is right.
+SOUND = square_of(1, "M", 2, interleaved(1, "M", bytes([0x10, 0x20, 0x0C, 0x56, 0x61, 0x80, *[0xEC, 0x11] * 5])))
+SPOILT = bytes(1 - it if k // 21 > 8 and k % 21 > 8 else it for k, it in enumerate(SOUND))
+SCALE, QUIET = 4, 5  # pixels of a module, and modules around a symbol
+
+
+def found_side_by_side(library, *squares):
+    """Draws two squares of 21 modules beside each other, and searches them, also for squares that cannot be mended. Returns of each square
+    that is found whether it is read, and which of the two it is, counted from the left."""
+    rows, columns = 21 + 2 * QUIET, len(squares) * (21 + QUIET) + QUIET
+    dark = {(QUIET + k // 21, QUIET + n * (21 + QUIET) + k % 21) for n, it in enumerate(squares) for k, module in enumerate(it) if module}
+    pixels = bytes(0 if (y // SCALE, x // SCALE) in dark else 255 for y in range(rows * SCALE) for x in range(columns * SCALE))
+    modules, found, count = (ctypes.c_uint8 * (4 * 31_329))(), (Found * 4)(), ctypes.c_size_t()
+    status = library.library.qrproved_find(pixels, len(pixels), columns * SCALE, rows * SCALE, columns * SCALE, 1, modules, len(modules), found, 4,
+                                           ctypes.byref(count))
+    return STATUSES[status], [(it.is_read, it.x0 // (16 * SCALE * (21 + QUIET))) for it in found[:count.value]]
+
+
+BESIDE = [
+    ("both can be mended", SOUND, SOUND, ("DONE", [(1, 0), (1, 1)])),
+    ("the left one cannot be mended, and comes last", SPOILT, SOUND, ("DONE", [(1, 1), (0, 0)])),
+    ("the right one cannot be mended", SOUND, SPOILT, ("DONE", [(1, 0), (0, 1)])),
+]
+
+# ---- all of them
+
+# What makes the calls, and its rows: a name, what it is given after the library, and at the end what it has to return.
+TABLES = {
+    "encoded": (symbol, SYMBOLS),
+    "bits": (beginning_of_bits, BEGINNINGS),
+    "version and mask": (version_and_mask, MASKS),
+    "least version": (least_version, LEAST_VERSIONS),
+    "boosted": (boosted, BOOSTED),
+    "not encoded": (encoding_verdict, REFUSED_SYMBOLS),
+    "interpretation": (interpretation_verdict, INTERPRETATIONS),
+    "series": (series, SERIES),
+    "no series": (series_verdict, REFUSED_SERIES),
+    "room": (Library.room, ROOMS),
+    "read": (read_digits, READ_DIGITS),
+    "read in a series": (read_part, READ_PARTS),
+    "not read": (reading_verdict, UNREAD),
+    "mended": (mended_digits, MENDED_DIGITS),
+    "mended with modules not known": (mended_unknown, MENDED_UNKNOWN),
+    "mended in a series": (mended_part, MENDED_PARTS),
+    "not mended": (mending_verdict, UNMENDED),
+    "drawn": (draw, TEXTS),
+    "not drawn": (draw, REFUSED_TEXTS),
+    "drawn line": (draw_row, LINES),
+    "no line": (draw_row, REFUSED_LINES),
+    "document": (document, DOCUMENTS),
+    "no document": (document, REFUSED_DOCUMENTS),
+    "sheets": (sheets, SHEETS),
+    "no sheets": (sheets, REFUSED_SHEETS),
+    "no sheets of this paper": (on_paper, REFUSED_PAPER),
+    "image": (image, IMAGES),
+    "no image": (image, REFUSED_IMAGES),
+    "parsed": (parsed, PARSED),
+    "drawn and parsed": (parsed_again, PARSED_AGAIN),
+    "not parsed": (parsing_verdict, UNPARSED),
+    "found": (find, SEARCHES),
+    "found beside each other": (found_side_by_side, BESIDE),
+}
+ROWS = sum(len(rows) for _, rows in TABLES.values())
+
+
+def of_rows(name, library):
+    for kind, (made, rows) in TABLES.items():
+        for words, *given, wanted in rows:
+            check(f"{name}: {kind}: {words}", made(library, *given), wanted)
