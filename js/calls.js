@@ -1,87 +1,20 @@
 /**
- * The calls of the module, as include/qrproved.h states them. A pointer, a length and a size is a BigInt there, and a struct lies
- * in memory as in C. Before each call the heap is given back, so no block of an earlier call may be used.
+ * The calls of the whole module, as include/qrproved.h states them. Those that each module has are in engine.js.
  */
-import { DOCUMENTS, FORMATS, INTERPRETATIONS, LIMITS, MODES, MODES_OF_RULES } from './common.js';
-import { OutOfMemoryError, nameOf, throwFor, tooLong, tooMany } from './errors.js';
+import { DOCUMENTS, FORMATS, LIMITS } from './common.js';
+import { MODULE_LIKELY, engineOf } from './engine.js';
+import { nameOf, throwFor, tooMany } from './errors.js';
 import { base64 } from './module.js';
 
 // The fields of the struct for label paper, of 4 bytes each.
 const SHEET_FIELDS = ['width', 'height', 'left', 'top', 'across', 'down', 'columns', 'rows', 'first'];
 
-let library; // what the module exports, from the first call on
-const UTF8 = new TextDecoder();
-
-function code() {
-  return Uint8Array.from(atob(base64), (character) => character.charCodeAt(0));
-}
-
-/** Returns the error of a module that the engine does not compile, with what helps: browsers name the policy each in other words. */
-function refused(cause) {
-  const help = "a page with a content security policy has to allow it by script-src 'wasm-unsafe-eval', and an older browser needs await load()";
-  return new Error(`the engine does not compile the WebAssembly module (${cause.message}): ${help}`, { cause });
-}
+const engine = engineOf(() => Uint8Array.from(atob(base64), (character) => character.charCodeAt(0))), { bytesAt, call, copied, put, run, struct, take, written } = engine;
 
 /** Compiles the module before the first call, without blocking: older browsers refuse to compile it in a call. */
-export async function load() {
-  try {
-    library ??= (await WebAssembly.instantiate(code(), {})).instance.exports;
-  } catch (error) {
-    throw refused(error);
-  }
-}
-
-/** Compiles the module at once. */
-function loaded() {
-  try {
-    return new WebAssembly.Instance(new WebAssembly.Module(code()), {}).exports;
-  } catch (error) {
-    throw refused(error);
-  }
-}
-
-/** Returns the address of a new buffer. */
-function take(length) {
-  const address = Number(library.heap_take(BigInt(length)));
-  if (address === 0) throw new OutOfMemoryError();
-  return address;
-}
-
-/** Returns bytes of the memory, which may have grown and so have another buffer than before. */
-function bytesAt(address, length) {
-  return new Uint8Array(library.memory.buffer, address, length);
-}
-
-/** Returns the address of a copy of some bytes. */
-function put(bytes) {
-  const address = take(bytes.length);
-  bytesAt(address, bytes.length).set(bytes);
-  return address;
-}
-
-function copied(address, length) {
-  return bytesAt(address, length).slice();
-}
-
-function struct(address, length) {
-  return new DataView(library.memory.buffer, address, length);
-}
-
-function call(name, ...words) {
-  return library[name](...words) & 255;
-}
-
-/** Runs a function that takes buffers and calls the module. After an error other than a refusal no part of the module is kept. */
-function run(calls) {
-  library ??= loaded();
-  library.heap_reset();
-  try {
-    return calls();
-  } catch (error) {
-    if (error.status === undefined) library = undefined;
-    throw error;
-  }
-}
+export const { load } = engine;
+/** Whether kanji mode is allowed beside an ECI; encodes an input, of bytes and their interpretation; and draws squares as a text. */
+export const { mayHaveKanji, encoded, drawn } = engine;
 
 const ECI_SIZE = 16;
 const FNC1_FIRST = 1, FNC1_SECOND = 2;
@@ -89,37 +22,7 @@ const FNC1_FIRST = 1, FNC1_SECOND = 2;
 const COUNTS = ['level', 'mask', 'wrongFormatModules', 'wrongFormatLeast', 'changedMost', 'changedAllowed', 'spentMost', 'worstMisread', 'worstUnknown',
   'worstUnknownWrong'];
 const COUNTS_AT = 28;
-const MODULE_LIKELY = 8; // more bytes than most drawings have for each module
-const IMAGE_LIKELY = 4096; // bytes, and 3 for each module: room for every PNG file up to scale 8, which is then written in one run
-
-/** Asks how many characters of a mode fit a symbol of version 40; returns the status and the number. */
-function room(level, mode, interpretation) {
-  return run(() => {
-    const told = take(4), status = call('qrproved_room', LIMITS.VERSION_MAX, level, mode, interpretation, 0, BigInt(told));
-    return [status, struct(told, 4).getUint32(0, true)];
-  });
-}
-
-/** Returns whether kanji mode is allowed beside an ECI. */
-export function mayHaveKanji(eci) {
-  return nameOf(room(0, MODES.kanji, eci)[0]) !== 'SETTINGS';
-}
-
-/** Encodes an input, of bytes and their interpretation. */
-export function encoded({ data, interpretation }, version, level, rule, boost) {
-  return run(() => {
-    const from = put(data), to = take(LIMITS.SYMBOL_MAX), told = take(4);
-    const status = call('qrproved_encode', BigInt(from), BigInt(data.length), version, level, rule, interpretation, boost ? 1 : 0, BigInt(to),
-      BigInt(LIMITS.SYMBOL_MAX), BigInt(told));
-    if (nameOf(status) === 'TOO_LONG') {
-      const modes = Object.entries(MODES).slice(0, MODES_OF_RULES[rule]);
-      throw tooLong(data.length, level, modes.map(([name, mode]) => [name, room(level, mode, interpretation)[1]]));
-    }
-    throwFor(status);
-    const [chosen, side, used, mask] = bytesAt(told, 4);
-    return { version: chosen, side, level: used, mask, modules: copied(to, side * side) };
-  });
-}
+const IMAGE_LIKELY = 4096; // bytes, and for PNG 3 for each module: room for every PNG file up to scale 8, which is then written in one run
 
 export function encodedSeries({ data, interpretation }, version, level, rule) {
   return run(() => {
@@ -189,26 +92,6 @@ export function parsedOf(text) {
   });
 }
 
-/** Calls `write` with a buffer, and once more if it says that it needs a longer one; returns the address of the text and its length. */
-function written(likely, write) {
-  const told = take(8), length = () => Number(struct(told, 8).getBigUint64(0, true));
-  let room = likely, text = take(room), status = write(BigInt(text), BigInt(room), BigInt(told));
-  if (nameOf(status) === 'ROOM') {
-    room = length();
-    text = take(room);
-    status = write(BigInt(text), BigInt(room), BigInt(told));
-  }
-  throwFor(status);
-  return [text, length()];
-}
-
-export function drawn(modules, side, count, drawing, margin) {
-  return run(() => {
-    const given = [BigInt(put(modules)), BigInt(modules.length), side, count, drawing, margin];
-    return UTF8.decode(bytesAt(...written(MODULE_LIKELY * modules.length, (...buffer) => call('qrproved_draw', ...given, ...buffer))));
-  });
-}
-
 /** Returns a document for print, as bytes. `kind` is a name in DOCUMENTS, and a module is so many micrometres wide. */
 export function printed(modules, side, count, kind, margin, micrometres) {
   return run(() => {
@@ -227,10 +110,18 @@ export function sheetsBy(modules, side, count, margin, micrometres, sheet) {
   });
 }
 
+/** Returns in how many bytes there is room for most images, so that one call is enough: in formats other than PNG for all. */
+function imageLikely(modules, side, format, scale, margin) {
+  if (format === 'png') return IMAGE_LIKELY + 3 * modules.length;
+  const rows = side + 2 * margin, pixels = rows * scale, line = Math.ceil(pixels / 8);
+  return IMAGE_LIKELY + (format === 'zpl' ? rows * (2 * line + scale) : (pixels + 254) * (line + 1));
+}
+
 /** Returns the file of an image, as bytes. `format` is a name in FORMATS. */
 export function imageOf(modules, side, format, scale, margin, pixelsAMetre, left, top) {
   return run(() => {
     const given = [BigInt(put(modules)), BigInt(modules.length), side, FORMATS[format], scale, margin, pixelsAMetre, left, top];
-    return copied(...written(IMAGE_LIKELY + 3 * modules.length, (...buffer) => call('qrproved_image', ...given, ...buffer)));
+    const likely = imageLikely(modules, side, format, scale, margin);
+    return copied(...written(likely, (...buffer) => call('qrproved_image', ...given, ...buffer)));
   });
 }

@@ -149,7 +149,7 @@ function tableOf(number) {
 }
 
 /** Returns a character as it is shown in a message: as it is if it can be seen, and else as Python shows it. */
-function shown(character) {
+export function shown(character) {
   return character !== ' ' && /[\p{C}\p{Z}'\\]/u.test(character) ? quoted(character) : `'${character}'`;
 }
 

@@ -317,6 +317,10 @@ export interface Sheet {
   across?: number;
   /** How far the upper edges of places one below the other are. */
   down?: number;
+  /** How wide a label is. Without it a label goes on to the next one, or to the edge of the paper. */
+  labelWidth?: number;
+  /** How high a label is. */
+  labelHeight?: number;
   /** How many places of the first sheet stay free, as labels that are used up; 0 unless given. */
   first?: number;
 }
@@ -325,8 +329,21 @@ export interface Sheet {
  * Returns a PDF with 1 to 10,000 symbols of one side on sheets of label paper, as many as they need. They follow one another in rows, from
  * the upper left place on. `mm` is the width of a symbol with its margin; unless given, symbols are as large as fits their places. Throws
  * SettingsError if symbols are larger than their places, or if a place is not on the paper.
+ *
+ * `captions` are a text for each symbol, which may be empty. A symbol is then in the middle of its label, with the lines of its caption below;
+ * 2 mm of a label on its left and right and 1 mm above and below stay free. Without captions a symbol is in the upper left corner of its
+ * place. Throws SettingsError for a character that the font Helvetica does not have.
  */
-export function sheetsOf(symbols: QRSymbol | QRSymbol[], sheet: Sheet, options?: { margin?: number; mm?: number; quiet?: boolean }): Uint8Array;
+export function sheetsOf(symbols: QRSymbol | QRSymbol[], sheet: Sheet, options?: { margin?: number; mm?: number; quiet?: boolean; captions?: string[] }): Uint8Array;
+
+/** The names of label paper. */
+export const PAPERS: readonly string[];
+
+/**
+ * Returns the label paper of a name, such as 'Avery L7160' or 'l7160'; PAPERS has all names. `first` places of the first sheet stay free: 0
+ * unless given. Throws SettingsError for another name.
+ */
+export function paper(name: string, options?: { first?: number }): Required<Sheet>;
 
 /**
  * Returns a file for a printer with a label for each symbol, one after the other. There may be any number of them, of different sides.

@@ -3,170 +3,42 @@
  * their contracts. README.md shows the calls; qrproved.d.ts describes each.
  */
 import { drawn, encoded, encodedSeries, imageOf, mayHaveKanji, mendedOf, parsedOf, printed, readOf, sheetsBy } from './calls.js';
-import { DARK, LIGHT, captioned, coloured, coloursOf } from './colours.js';
-import { DOCUMENTS, GRADES, INTERPRETATIONS, LABELS, LIMITS } from './common.js';
+import { DOCUMENTS, GRADES, LABELS, LIMITS } from './common.js';
 import { Gs1Error, NoDrawingError, SettingsError, SideError } from './errors.js';
 import { dataOf, fieldsOf } from './gs1.js';
-import { SHIFT_JIS, UTF_8, decodedText, encodedText } from './interpretation.js';
+import { LEVELS, OF_SERIES, inputAsked, symbolAsked } from './inputs.js';
+import { SHIFT_JIS, decodedText, encodedText } from './interpretation.js';
+import { chosen, length, named, warn, whole } from './options.js';
+import { FREE_ACROSS, LINE, checkCaption, linesOf, paperOf, roomOf, roomOfLabel, withCaptions } from './papers.js';
 import { undone } from './pasted.js';
 import { squaresIn } from './pictures.js';
+import { DRAWINGS, OF_SVG, PIXELS, PlainSymbol, dressed } from './symbol.js';
 
 export { load } from './calls.js';
+export { PAPERS } from './papers.js';
 export {
   CheckError, EciError, EmptyError, FieldsError, FormatError, Gs1Error, NoDrawingError, OutOfMemoryError, PictureError, QRError, RoomError, SegmentsError,
   SettingsError, SideError, TooLongError, TooManyError,
 } from './errors.js';
 
-const LEVELS = ['L', 'M', 'Q', 'H'];
-const RULES = ['auto', 'bytes_only', 'with_kanji'];
-const DRAWINGS = ['ASCII', 'ASCIIi', 'UTF8', 'SVG'];
-const { MARGIN_WANTED, MODULE_MIN } = LIMITS; // modules, and millimetres
 const MM_OF_INCH = 25.4;
-const PIXELS = 8; // of a module of an image, if nothing else is said
 const DENSITY_MAX = 2 ** 31 - 1; // pixels a metre: a number in a PNG image has 31 bits
 
-/** Returns each option as it is given, or its default. An option of another name would do nothing, and so is refused. */
-function chosen(given, defaults) {
-  if (given === null || typeof given !== 'object') throw new TypeError(`options are an object, as in { ${Object.keys(defaults)[0]}: … }`);
-  const options = { ...defaults };
-  for (const name of Object.keys(given)) {
-    if (!Object.hasOwn(defaults, name)) throw new TypeError(`there is no option ${name}; there are ${Object.keys(defaults).join(', ')}`);
-    if (given[name] !== undefined) options[name] = given[name];
-  }
-  return options;
-}
-
-function whole(name, value, least, most) {
-  if (typeof value !== 'number') throw new TypeError(`${name} is a number, and not of type ${typeof value}`);
-  if (!Number.isInteger(value) || value < least || value > most) {
-    throw new SettingsError(`${name} is a whole number from ${least} to ${most}, and not ${value}`);
-  }
-  return value;
-}
-
-/** Returns a length or a resolution. */
-function length(name, value) {
-  if (typeof value !== 'number') throw new TypeError(`${name} is a number, and not of type ${typeof value}`);
-  if (!(value > 0 && value <= LIMITS.SIZE_MAX)) throw new SettingsError(`${name} is more than 0 and at most ${LIMITS.SIZE_MAX}, and not ${value}`);
-  return value;
-}
-
-const warned = new Set(); // each is said once
-
-/** Warns of what scanners may not read: a margin, and the width of a module in millimetres. */
-function warn(quiet, margin, module) {
-  if (quiet) return;
-  const faults = [
-    ...(margin < MARGIN_WANTED ? [`a margin of ${margin} ${margin === 1 ? 'module' : 'modules'}: scanners need ${MARGIN_WANTED}`] : []),
-    ...(module < MODULE_MIN ? [`modules of ${module.toPrecision(3)} mm: under ${MODULE_MIN} mm few scanners read them`] : []),
-  ];
-  for (const fault of faults.filter((it) => !warned.has(it))) {
-    warned.add(fault);
-    console.warn(`qrproved: ${fault} (quiet: true switches this off)`);
-  }
-}
-
-/** Returns the place of a name in a list, in capitals or small letters. */
-function named(name, value, list) {
-  if (typeof value !== 'string') throw new TypeError(`${name} is a string: ${list.join(', ')}`);
-  const place = list.findIndex((it) => it.toLowerCase() === value.toLowerCase());
-  if (place < 0) throw new SettingsError(`${name} is ${list.join(', ')}, and not ${value}`);
-  return place;
-}
-
-/** Returns a string or bytes. */
-function checked(input) {
-  if (input instanceof Uint8Array) return input;
-  if (typeof input !== 'string') throw new TypeError('the input is a string, a Uint8Array, or { gs1: … } with one of these');
-  if (/\p{Surrogate}/u.test(input)) throw new TypeError('the string has half a surrogate pair, which is no character');
-  return input;
-}
-
-/** Returns the bytes of an input, and their interpretation. */
-function inputOf(input, eci, rule) {
-  const isKanji = RULES[rule] === 'with_kanji', number = eci === undefined || eci === false ? null : whole('eci', eci, 0, LIMITS.ECI_MAX);
-  if (input !== null && typeof input === 'object' && Object.hasOwn(input, 'gs1')) {
-    if (number !== null) throw new TypeError('GS1 data have no ECI header');
-    const data = checked(input.gs1);
-    return { data: typeof data === 'string' ? dataOf(data) : data, interpretation: INTERPRETATIONS.GS1 };
-  }
-  if (isKanji && number !== null && !mayHaveKanji(number)) {
-    throw new SettingsError(`kanji mode is for Shift JIS: beside the rule 'with_kanji' eci is ${SHIFT_JIS} or false, and not ${number}`);
-  }
-  const data = checked(input);
-  if (typeof data !== 'string') return { data, interpretation: number ?? INTERPRETATIONS.DEFAULT };
-  const isMarked = eci === undefined && !isKanji && /[^\0-\x7f]/.test(data);
-  return { data: encodedText(data, number ?? (isKanji ? SHIFT_JIS : UTF_8)), interpretation: number ?? (isMarked ? UTF_8 : INTERPRETATIONS.DEFAULT) };
-}
-
-// The options of a series and of a symbol, with their defaults.
-const OF_SERIES = { level: 'L', version: undefined, rule: undefined, eci: undefined };
-const OF_SYMBOL = { ...OF_SERIES, version: 1, boost: true };
 // The options of a document for print.
 const OF_DOCUMENT = { margin: 4, mm: undefined, quiet: false };
-const COLOURS_OF_DRAWING = { dark: DARK, light: LIGHT, inverse: false };
-const OF_SVG = { margin: 4, mm: undefined, quiet: false, inline: false, title: undefined, className: undefined, caption: undefined, ...COLOURS_OF_DRAWING };
 // Label paper.
-const SHEET = { width: undefined, height: undefined, columns: undefined, rows: undefined, left: 0, top: 0, across: 0, down: 0, first: 0 };
+const SHEET = {
+  width: undefined, height: undefined, columns: undefined, rows: undefined, left: 0, top: 0, across: 0, down: 0, first: 0, labelWidth: 0, labelHeight: 0,
+};
 // The options of an image for a receipt printer, and for a label printer.
 const OF_RECEIPT = { scale: undefined, margin: 4, mm: undefined, dpi: LIMITS.DPI, fitMm: undefined, quiet: false };
 const OF_LABEL = { ...OF_RECEIPT, x: 0, y: 0 };
 
-function settings({ level, version, rule = 'auto' }) {
-  return [whole('version', version, 1, LIMITS.VERSION_MAX), named('level', level, LEVELS), named('rule', rule, RULES)];
-}
-
-/**
- * Returns an input with its version, level and rule, as the module takes them. In GS1 data alphanumeric mode writes a % as %%, after which
- * zxing-cpp 1.4 loses bytes. So byte mode is their rule unless one is given.
- */
-function inputAsked(input, asked) {
-  const [version, level, rule] = settings(asked), { data, interpretation } = inputOf(input, asked.eci, rule);
-  const isBytes = asked.rule === undefined && interpretation === INTERPRETATIONS.GS1 && data.includes('%'.charCodeAt(0));
-  return [{ data, interpretation }, version, level, isBytes ? RULES.indexOf('bytes_only') : rule];
-}
-
-export class QRSymbol {
-  constructor({ version, side, mask, level, modules }) {
-    this.version = version;
-    this.side = side;
-    this.mask = mask;
-    this.level = level;
-    this.modules = modules;
-  }
-
-  dark(row, column) {
-    whole('row', row, 0, this.side - 1);
-    whole('column', column, 0, this.side - 1);
-    return this.modules[row * this.side + column] !== 0;
-  }
-
+export class QRSymbol extends PlainSymbol {
   svg(options = {}) {
-    const { margin, mm, quiet, inline, title, className, caption, ...others } = chosen(options, OF_SVG), colours = coloursOf(others);
-    if (typeof inline !== 'boolean') throw new TypeError(`inline is true or false, and not of type ${typeof inline}`);
+    const { mm, ...others } = chosen(options, { margin: 4, mm: undefined, ...OF_SVG }), { margin, quiet } = others;
     const drawing = mm === undefined ? draw(this, { margin, type: 'SVG' }) : new TextDecoder().decode(documentFor([this], 'svg', { margin, mm, quiet }));
-    if (mm === undefined) warn(quiet, margin, Infinity);
-    const plain = coloured(drawing, colours, title, className);
-    const document = caption === undefined ? plain : captioned(plain, this.side + 2 * margin, caption, colours.dark);
-    return inline ? document.replace(/^<\?xml[^>]*>\n/, '') : document;
-  }
-
-  toCanvas(canvas, options = {}) {
-    const { scale, margin, quiet, ...others } = chosen(options, { scale: PIXELS, margin: 4, quiet: false, ...COLOURS_OF_DRAWING }), colours = coloursOf(others);
-    const side = this.side + 2 * whole('margin', margin, 0, LIMITS.MARGIN_MAX), pixels = side * whole('scale', scale, 1, LIMITS.SCALE_MAX);
-    if (typeof canvas?.getContext !== 'function') throw new TypeError('toCanvas draws on a canvas: toCanvas(document.querySelector(\'canvas\'))');
-    warn(quiet, margin, Infinity);
-    Object.assign(canvas, { width: pixels, height: pixels }); // which also makes it transparent
-    const context = canvas.getContext('2d');
-    if (colours.light !== null) {
-      context.fillStyle = colours.light;
-      context.fillRect(0, 0, pixels, pixels);
-    }
-    context.fillStyle = colours.dark;
-    this.modules.forEach((module, k) => {
-      if (module) context.fillRect(scale * (margin + k % this.side), scale * (margin + Math.floor(k / this.side)), scale, scale);
-    });
-    return canvas;
+    return dressed(this, drawing, others, mm !== undefined);
   }
 
   text(options = {}) {
@@ -239,11 +111,6 @@ export class QRSymbol {
     return this.text();
   }
 
-  toJSON() {
-    const { version, side, mask, level, modules } = this;
-    const rows = Array.from({ length: side }, (_, row) => modules.subarray(row * side, (row + 1) * side).join(''));
-    return { version, side, mask, level, rows };
-  }
 }
 
 export class Content {
@@ -315,17 +182,16 @@ export class Mended {
   }
 }
 
+const CALLS = { encoded, mayHaveKanji, dataOf, encodedText };
+
 export function encode(input, options = {}) {
-  const asked = chosen(options, OF_SYMBOL);
-  if (typeof asked.boost !== 'boolean') throw new TypeError(`boost is true or false, and not of type ${typeof asked.boost}`);
-  const symbol = encoded(...inputAsked(input, asked), asked.boost), used = symbol.level;
-  return new QRSymbol({ ...symbol, level: LEVELS[used] });
+  return new QRSymbol(symbolAsked(input, options, CALLS));
 }
 
 export function encodeSeries(input, options = {}) {
   const asked = chosen(options, OF_SERIES);
   if (asked.version === undefined) throw new TypeError('a series needs the version of its symbols, as in { version: 5 }');
-  const [given, version, level, rule] = inputAsked(input, asked), { side, squares } = encodedSeries(given, version, level, rule);
+  const [given, version, level, rule] = inputAsked(input, asked, CALLS), { side, squares } = encodedSeries(given, version, level, rule);
   return squares.map((modules) => new QRSymbol({ version, side, mask: null, level: LEVELS[level], modules }));
 }
 
@@ -414,17 +280,21 @@ export function documentOf(symbols, options = {}) {
   return documentFor(symbolsOf(symbols), names[named('type', type, names)], others);
 }
 
-/**
- * Returns how long a place may be, of so many that begin `before` behind the edge and `step` behind one another: up to the next one, and
- * up to the other edge.
- */
-function roomOf(paper, before, count, step) {
-  const last = paper - before - (count - 1) * step;
-  return count === 1 ? last : Math.min(step, last);
+export function paper(name, options = {}) {
+  const { first } = chosen(options, { first: 0 }), found = paperOf(name);
+  return { ...found, first: whole('first', first, 0, found.columns * found.rows - 1) };
+}
+
+/** Returns the captions of so many symbols. */
+function captionsOf(captions, count) {
+  if (!Array.isArray(captions)) throw new TypeError('captions are an array of strings, one for each symbol');
+  for (const it of captions) checkCaption(it);
+  if (captions.length !== count) throw new SettingsError(`each symbol has a caption, which may be empty: there are ${count} and ${captions.length}`);
+  return captions;
 }
 
 export function sheetsOf(symbols, sheet, options = {}) {
-  const { margin, mm, quiet } = chosen(options, OF_DOCUMENT), list = symbolsOf(symbols);
+  const { margin, mm, quiet, captions } = chosen(options, { ...OF_DOCUMENT, captions: undefined }), list = symbolsOf(symbols);
   whole('margin', margin, 0, LIMITS.MARGIN_MAX);
   const modules = joined(list, LIMITS.LABELS_MAX);
   const { columns, rows, first, ...given } = chosen(sheet, SHEET);
@@ -433,15 +303,31 @@ export function sheetsOf(symbols, sheet, options = {}) {
   whole('first', first, 0, columns * rows - 1);
   const lengths = Object.fromEntries(Object.entries(given).map(([name, it]) => [name, it === 0 ? 0 : Math.round(1000 * length(name, it))]));
   if (Math.max(lengths.width, lengths.height) > LIMITS.PAPER_MAX) throw new SettingsError(`paper is at most ${LIMITS.PAPER_MAX / 1000} mm wide and high`);
-  const wide = roomOf(lengths.width, lengths.left, columns, lengths.across), high = roomOf(lengths.height, lengths.top, rows, lengths.down);
-  const width = list[0].side + 2 * margin, least = Math.min(wide, high);
+  const wide = roomOf(lengths.width, lengths.left, columns, lengths.across, lengths.labelWidth);
+  const high = roomOf(lengths.height, lengths.top, rows, lengths.down, lengths.labelHeight);
+  const lines = captions === undefined ? [] : captionsOf(captions, list.length).map((it) => linesOf(it, wide - 2 * FREE_ACROSS));
+  const most = lines.reduce((greatest, it) => Math.max(greatest, it.length), 0);
+  const width = list[0].side + 2 * margin, least = captions === undefined ? Math.min(wide, high) : roomOfLabel(wide, high, most);
   const micrometres = mm === undefined ? Math.floor(Math.min(least, LIMITS.MICROMETRES_MAX * width) / width) : micrometresOf(mm, width);
   if (micrometres < 1 || micrometres * width > least) {
     const asked = mm === undefined ? `${width} modules` : `a symbol ${(micrometres * width / 1000).toFixed(3)} mm wide with its margin`;
-    throw new SettingsError(`a place of the sheet is ${(Math.max(0, wide) / 1000).toFixed(3)} mm wide and ${(Math.max(0, high) / 1000).toFixed(3)} mm high, and has no room for ${asked}`);
+    const caption = most ? ` and ${most} ${most > 1 ? 'lines' : 'line'} of a caption` : '';
+    throw new SettingsError(`a place of the sheet is ${(Math.max(0, wide) / 1000).toFixed(3)} mm wide and ${(Math.max(0, high) / 1000).toFixed(3)} mm high, and has no room for ${asked}${caption}`);
   }
   warn(quiet, margin, micrometres / 1000);
-  return sheetsBy(modules, list[0].side, list.length, margin, micrometres, { ...lengths, columns, rows, first });
+  const size = micrometres * width, { left } = lengths;
+  if (captions !== undefined) {
+    lengths.left += Math.floor((wide - size) / 2);
+    lengths.top += Math.floor((high - size - most * LINE) / 2);
+  }
+  const document = sheetsBy(modules, list[0].side, list.length, margin, micrometres, { ...lengths, columns, rows, first });
+  if (most === 0) return document;
+  const places = columns * rows, texts = lines.map((its, k) => {
+    const place = (first + k) % places, middle = left + place % columns * lengths.across + Math.floor(wide / 2);
+    const below = lengths.height - lengths.top - Math.floor(place / columns) * lengths.down - size;
+    return { page: Math.floor((first + k) / places), middle, below, lines: its };
+  });
+  return withCaptions(document, texts);
 }
 
 /** Returns the most dots that a module can have if the symbol is at most so many millimetres wide, and how wide it then is. */

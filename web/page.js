@@ -1,8 +1,11 @@
 /** The page: draws each symbol as its text is typed, a sheet of labels, and what a drawing contains. */
 import {
   CheckError, EciError, FormatError, Gs1Error, NoDrawingError, PictureError, QRError, SideError, TooLongError, TooManyError, documentOf, draw,
-  encode, encodeSeries, labels, mend, parseDrawing, parsePicture, read,
+  PAPERS, encode, encodeSeries, labels, mend, paper, parseDrawing, parsePicture, read, sheetsOf,
 } from '../out/npm/package/qrproved.js';
+import { LIMITS } from '../out/npm/package/common.js';
+import { PAPER_DATA } from '../out/npm/package/paper_data.js';
+import { FREE_ACROSS, LINE, SYMBOL_MIN, checkCaption, linesOf, roomOf, roomOfLabel } from '../out/npm/package/papers.js';
 import { ContentError, KINDS, PAYMENT, contentText } from '../out/npm/package/contents.js';
 import { squaresInText } from './drawings.js';
 import { zipOf } from './zip.js';
@@ -303,8 +306,23 @@ async function copy() {
 
 // ---- a sheet of labels
 
-let figures = new Map(); // those that are shown, by their level and line
-const symbolOfFigure = new WeakMap();
+/*
+ * A list may have thousands of lines. So only what is seen is drawn: the sheet consists of blocks, which are the sheets of label paper or some
+ * rows of labels, and a block that is far from the window is empty. Lines are encoded in slices of time, those that are seen first.
+ */
+const FEW = 200; // labels, which are always drawn, and at once
+const IN_BLOCK = 60; // labels of a block without label paper, at least
+const NEAR = 1200; // pixels above and below the window, in which blocks are drawn
+const SLICE = 25; // milliseconds, after which keys are looked at
+const MM = 1000; // micrometres of a millimetre
+
+let entries = new Map(); // what is known of each line: its text, its caption, and its symbol or the error that it has none
+let settingsOfEntries = ''; // the settings by which they were encoded
+let texts = []; // the lines as they are in the field, and the entry of each, or null for an empty line
+let entriesOfTexts = [];
+let lines = []; // those that are not empty, each with its number and its entry
+let blocks = []; // each is an element with its labels, and is drawn or empty
+let waiting = null; // the timer of the next slice
 
 /** Returns the text of a line, and its caption: what stands after a tab, or the text. */
 function partsOf(line) {
@@ -313,73 +331,234 @@ function partsOf(line) {
 }
 
 /** Returns the symbol of a line's text, as the fields of the sheet ask for it. */
-function symbolOf(text) {
+function symbolOf(text, version = 1) {
   const [input, rule] = askedOf(text, on('sheet-kind').value);
-  return encode(input, { level: on('sheet-level').value, boost: on('sheet-boost').checked, ...rule });
+  return encode(input, { version, level: on('sheet-level').value, boost: on('sheet-boost').checked, ...rule });
 }
 
-/** Returns whether a line has no label: it is empty, or has nothing before its tab. */
-function isWithoutText(line) {
-  return partsOf(line)[0].trim() === '';
+/** Encodes the line of an entry, unless that was done. */
+function encodeLine(entry) {
+  if (entry.symbol || entry.error) return;
+  try {
+    if (entry.text.trim() === '') throw new TypeError('it has no text before its tab');
+    entry.symbol = symbolOf(entry.text);
+  } catch (error) {
+    if (!isRefusal(error)) throw error;
+    entry.error = error;
+  }
 }
 
-/** Returns the figure of a line: one that was shown before, if there is one. */
-function labelOf(line, before) {
-  const settings = ['sheet-level', 'sheet-kind'].map((id) => on(id).value), [text, caption] = partsOf(line);
-  const key = [...settings, on('sheet-boost').checked, line].join(' ');
-  const figure = before.get(key)?.pop() ?? newLabelOf(text, caption);
-  if (!figures.has(key)) figures.set(key, []);
-  figures.get(key).push(figure);
-  return figure;
+/** Returns what is known of a line, or null for an empty one. */
+function entryOfLine(line) {
+  if (line.trim() === '') return null;
+  if (!entries.has(line)) {
+    const [text, caption] = partsOf(line);
+    entries.set(line, { text, caption: on('captions').checked ? caption : '' });
+  }
+  return entries.get(line);
 }
 
-/** Returns a new figure of a text, whose symbol is kept. */
-function newLabelOf(text, caption) {
-  const symbol = symbolOf(text), figure = figureOf(symbol.svg({ inline: true }), text, caption);
-  symbolOfFigure.set(figure, symbol);
-  return figure;
+/** Reads the lines. What is known of a line that was there before stays known, and only lines between the first and the last change are looked up. */
+function readLines() {
+  const settings = ['sheet-level', 'sheet-kind'].map((id) => on(id).value).concat(on('sheet-boost').checked, on('captions').checked).join(' ');
+  const now = on('lines').value.split('\n'), most = Math.min(now.length, texts.length);
+  if (settings !== settingsOfEntries || entries.size > 2 * now.length + FEW) {
+    const before = settings === settingsOfEntries ? entries : new Map();
+    entries = new Map(now.filter((it) => before.has(it)).map((it) => [it, before.get(it)]));
+    [settingsOfEntries, texts, entriesOfTexts] = [settings, [], []];
+    return readLines();
+  }
+  let first = 0, last = 0;
+  while (first < most && now[first] === texts[first]) first += 1;
+  while (last < most - first && now[now.length - 1 - last] === texts[texts.length - 1 - last]) last += 1;
+  const changed = now.slice(first, now.length - last).map(entryOfLine);
+  entriesOfTexts = [...entriesOfTexts.slice(0, first), ...changed, ...entriesOfTexts.slice(texts.length - last)];
+  [texts, lines] = [now, []];
+  entriesOfTexts.forEach((entry, k) => {
+    if (entry) lines.push({ line: k + 1, entry });
+  });
+}
+
+/** Returns the lines that are not encoded. */
+function unknownLines() {
+  return lines.filter(({ entry }) => !entry.symbol && !entry.error);
 }
 
 const SIZES = ['columns', 'rows', 'across', 'down', 'left', 'top']; // of label paper
+const OPTIONAL_SIZES = { 'label-width': 'labelWidth', 'label-height': 'labelHeight' };
 
-/** Returns sheets of label paper with figures; or null if a size of the paper is out of range. */
-function papersOf(figures) {
-  const [columns, rows, ...lengths] = SIZES.map(numberIn);
-  if ([columns, rows, ...lengths].includes(null)) return null;
-  const papers = [];
-  for (let k = 0; k < figures.length; k += columns * rows) {
-    const paper = made('div', ...figures.slice(k, k + columns * rows));
-    paper.className = 'paper';
-    paper.style.setProperty('--columns', columns);
-    SIZES.slice(2).forEach((name, at) => paper.style.setProperty(`--${name}`, `${lengths[at]}mm`));
-    papers.push(paper);
+/** Returns the label paper that the fields describe, as sheetsOf takes it, or null if a size is out of range. */
+function paperOfFields() {
+  const sheet = Object.fromEntries(SIZES.map((id) => [id, numberIn(id)])), place = numberIn('place');
+  const isWrong = Object.keys(OPTIONAL_SIZES).some((id) => !on(id).validity.valid);
+  if (Object.values(sheet).includes(null) || isWrong || place === null || place > sheet.columns * sheet.rows) return null;
+  for (const [id, name] of Object.entries(OPTIONAL_SIZES)) sheet[name] = numberIn(id) ?? 0;
+  const [width, height] = PAPER_DATA.sizes[on('paper-size').value];
+  return { width, height, ...sheet, first: place - 1 };
+}
+
+/** Returns how wide and high a label is, in micrometres. */
+function labelOf(sheet) {
+  const whole = (mm) => Math.round(MM * mm);
+  return {
+    wide: roomOf(whole(sheet.width), whole(sheet.left), sheet.columns, whole(sheet.across), whole(sheet.labelWidth)),
+    high: roomOf(whole(sheet.height), whole(sheet.top), sheet.rows, whole(sheet.down), whole(sheet.labelHeight)),
+  };
+}
+
+const WIDTH_LEAST = SYMBOL_MIN / MM; // mm of a symbol on a sheet
+
+/** Returns the lines of the caption of an entry on labels that are so wide. */
+function linesOnLabel(entry, wide) {
+  if (entry.wide !== wide) [entry.wide, entry.lines] = [wide, linesOf(entry.caption, wide - 2 * FREE_ACROSS)];
+  return entry.lines;
+}
+
+/** Returns how labels are laid out on label paper, as sheetsOf does it: how wide symbols are, in micrometres, and which labels have no room. */
+function layoutOf(sheet, list, wanted) {
+  const { wide, high } = labelOf(sheet), shown = [], crowded = [];
+  let most = 0, narrow = 0;
+  for (const it of list) {
+    const { length } = linesOnLabel(it.entry, wide), room = roomOfLabel(wide, high, length);
+    if (room < (length ? SYMBOL_MIN : MM)) crowded.push(it);
+    else {
+      shown.push(it);
+      most = Math.max(most, length);
+      narrow += Number(room < wanted);
+    }
   }
-  return papers;
-}
-
-const WIDTH_LEAST = 10; // mm of a symbol on a sheet
-const PIXELS = 96 / 25.4; // of a millimetre, in a style sheet
-
-/** Returns how wide a figure draws its symbol, in millimetres. */
-function symbolWidthOf(figure) {
-  const { width, height } = figure.firstElementChild.getBoundingClientRect();
-  return Math.min(width, height) / PIXELS;
-}
-
-/** Returns what is to be said of the narrowest modules of figures, whose symbols have these widths. */
-function smallestOf(figures, widths) {
-  const modules = figures.map((figure, k) => widths[k] / figure.firstElementChild.viewBox.baseVal.width);
-  return smallOf(modules.reduce((least, it) => Math.min(least, it), Infinity));
+  return { sheet, wide, high, shown, crowded, narrow, most, size: Math.min(wanted, roomOfLabel(wide, high, most)) };
 }
 
 /** Returns what is to be said of symbols for which label paper has not as much room as is wanted. */
-function narrowOf(widths, wanted) {
+function narrowOf({ narrow, size }, wanted) {
+  if (narrow === 0) return [];
+  const which = narrow === 1 ? '1 symbol with its caption does' : `${narrow} symbols with their captions do`;
   // rounded down, so that the width that is named fits
-  const narrow = widths.filter((it) => it < wanted - 0.05).map((it) => Math.floor(10 * it) / 10);
-  const [least, most] = [Math.min, Math.max].map((one) => narrow.reduce((it, other) => one(it, other), narrow[0]));
-  if (narrow.length === 0) return [];
-  const which = narrow.length === 1 ? '1 symbol with its caption does' : `${narrow.length} symbols with their captions do`;
-  return [`${which} not fit a label at ${wanted} mm, and ${narrow.length === 1 ? 'is' : 'are'} drawn as wide as fits: ${least === most ? '' : `${least} to `}${most} mm.`];
+  return [`${which} not fit a label at ${wanted / MM} mm, so all are drawn ${Math.floor(size / 100) / 10} mm wide.`];
+}
+
+/** Returns a figure of a label. On label paper all of its lengths are those of the layout. */
+function figureOfLabel(entry, layout) {
+  const figure = figureOf(entry.symbol.svg({ inline: true }), entry.text, layout ? entry.lines.join('\n') : entry.caption);
+  if (!layout) return figure;
+  const { wide, high, size, most } = layout, top = (high - size - most * LINE) / 2, [svg, caption] = figure.children, mm = (length) => `${length / MM}mm`;
+  Object.assign(figure.style, { width: mm(wide), height: mm(high) });
+  Object.assign(svg.style, { left: mm((wide - size) / 2), top: mm(top), width: mm(size), height: mm(size) });
+  if (caption) Object.assign(caption.style, { left: mm(FREE_ACROSS), top: mm(top + size), width: mm(wide - 2 * FREE_ACROSS) });
+  return figure;
+}
+
+/** Draws the labels of a block. A figure that a block had before is taken anew. */
+function drawBlock(block, before = new Map()) {
+  if (block.isDrawn) return;
+  block.isDrawn = true;
+  if (!block.layout) block.element.style.minHeight = '';
+  const { columns, rows, first } = block.layout?.sheet ?? {};
+  block.list.forEach(({ entry }) => encodeLine(entry));
+  block.figures = block.list.filter(({ entry }) => entry.symbol).map(({ entry }, k) => {
+    const figure = before.get(entry)?.pop() ?? figureOfLabel(entry, block.layout), place = (block.at + k + first) % (columns * rows);
+    if (block.layout) figure.style.gridArea = `${Math.floor(place / columns) + 1} / ${place % columns + 1}`;
+    return [entry, figure];
+  });
+  block.element.replaceChildren(...block.figures.map(([, figure]) => figure));
+}
+
+/** Empties a block, which stays as high as it is. */
+function emptyBlock(block) {
+  if (!block.isDrawn) return;
+  if (!block.layout) block.element.style.minHeight = `${block.element.offsetHeight}px`;
+  [block.isDrawn, block.figures] = [false, []];
+  block.element.replaceChildren();
+}
+
+const seen = new IntersectionObserver((changes) => {
+  for (const { target, isIntersecting } of changes) {
+    const block = blocks.find(({ element }) => element === target);
+    if (block) (isIntersecting || lines.length <= FEW ? drawBlock : emptyBlock)(block);
+  }
+}, { rootMargin: `${NEAR}px 0px` });
+
+/** Draws the blocks that are near the window, and all of a short list. */
+function drawSeen(before) {
+  if (on('labels').hidden) return;
+  for (const block of blocks) {
+    const { top, bottom } = lines.length <= FEW ? { top: 0, bottom: 0 } : block.element.getBoundingClientRect();
+    if (top > innerHeight + NEAR) break;
+    if (bottom >= -NEAR) drawBlock(block, before);
+  }
+}
+
+const GAP = 4; // mm between labels without label paper
+const BELOW = 5; // mm that a caption is high, as is guessed before it is drawn
+
+/** Returns how many labels a block has, and how high it is in millimetres before it is drawn. Without label paper it has whole rows. */
+function formOfBlocks(layout) {
+  if (layout) return { length: layout.sheet.columns * layout.sheet.rows, heightOf: () => 0 };
+  if (lines.length <= FEW) return { length: FEW, heightOf: () => 0 };
+  const width = numberIn('width') ?? WIDTH_LEAST, inside = on('sheet').clientWidth * 25.4 / 96 - 10, columns = Math.max(1, Math.floor((inside + GAP) / (width + GAP)));
+  return { length: columns * Math.ceil(IN_BLOCK / columns), heightOf: (count) => Math.ceil(count / columns) * (width + BELOW + GAP) - GAP };
+}
+
+/** Shows labels in blocks. A block whose labels and layout stay stays as it is drawn. */
+function layOut(list, layout) {
+  const { length, heightOf } = formOfBlocks(layout), form = layout ? JSON.stringify([layout.sheet, layout.size, layout.most]) : `${length} ${numberIn('width')}`;
+  const before = blocks, starts = [], firstLength = layout ? length - layout.sheet.first : length, figures = new Map();
+  for (let at = 0; at < list.length; at += at === 0 ? firstLength : length) starts.push(at);
+  blocks = starts.map((at, k) => {
+    const its = list.slice(at, starts[k + 1]), old = before[k];
+    if (old && old.form === form && old.list.length === its.length && old.list.every(({ entry }, place) => entry === its[place].entry)) {
+      old.list = its;
+      return old;
+    }
+    const element = old?.element ?? document.createElement('div');
+    for (const [entry, figure] of old?.form === form ? old.figures : []) figures.set(entry, [...figures.get(entry) ?? [], figure]);
+    element.className = layout ? 'paper' : 'block';
+    element.style.minHeight = `${heightOf(its.length)}mm`;
+    if (layout) for (const name of SIZES.slice(2)) element.style.setProperty(`--${name}`, `${layout.sheet[name]}mm`);
+    if (layout) for (const name of SIZES.slice(0, 2)) element.style.setProperty(`--${name}`, layout.sheet[name]);
+    if (old?.isDrawn) element.replaceChildren();
+    return { element, list: its, at, form, layout, isDrawn: false, figures: [] };
+  });
+  on('sheet').classList.toggle('on-paper', layout !== null);
+  if (before.length !== blocks.length || blocks.some(({ element }, k) => element !== before[k].element) || on('sheet').children.length !== blocks.length) {
+    seen.disconnect();
+    on('sheet').replaceChildren(...blocks.map(({ element }) => element));
+    if (lines.length > FEW) for (const { element } of blocks) seen.observe(element);
+  }
+  drawSeen(figures);
+}
+
+/** Encodes lines for a while, and goes on later. What is said of the sheet is said anew at the end, or after each slice. */
+function encodeSlice() {
+  waiting = null;
+  const end = performance.now() + SLICE, rest = unknownLines();
+  for (const { entry } of rest) {
+    if (performance.now() > end) break;
+    encodeLine(entry);
+  }
+  arrange();
+}
+
+/** Encodes all lines now. */
+function encodeAll() {
+  for (const { entry } of unknownLines()) encodeLine(entry);
+  arrange();
+}
+
+/** Returns the PDF documents of label paper. Each has whole sheets, but for the last one. */
+function documentsOf({ sheet, shown, size }) {
+  const version = shown.reduce((greatest, { entry }) => Math.max(greatest, entry.symbol.version), 1), places = sheet.columns * sheet.rows, files = [];
+  const most = Math.floor(LIMITS.LABELS_MAX / places) * places;
+  for (let at = 0, { first } = sheet; at < shown.length; first = 0) {
+    const list = shown.slice(at, at + most - first);
+    const symbols = list.map(({ entry }) => (entry.symbol.version === version ? entry.symbol : symbolOf(entry.text, version)));
+    // a module has whole micrometres
+    const modules = symbols[0].side + 8, mm = Math.floor(size / modules) * modules / MM;
+    files.push(sheetsOf(symbols, { ...sheet, first }, { mm, captions: list.map(({ entry }) => entry.caption), quiet: true }));
+    at += list.length;
+  }
+  return files;
 }
 
 /** Returns an image of a symbol, as bytes. */
@@ -389,34 +568,64 @@ function imageOfLabel(symbol, format, mm) {
 
 /** Saves the images of all lines that fit a symbol, each named by its line, or a file for a printer with a label for each of them. */
 function saveAll() {
+  encodeAll();
   const format = on('sheet-format').value, [, ending, kind] = FORMATS[format], mm = numberIn('width') ?? undefined;
+  if (format === 'pdf') {
+    documentsOf(layout).forEach((file, k, all) => save(all.length > 1 ? `labels-${k + 1}-of-${all.length}.pdf` : 'labels.pdf', kind, [file]));
+    return;
+  }
   if (isForPrinter('sheet-format')) {
-    const all = allLabels.map(({ figure }) => symbolOfFigure.get(figure));
+    const all = allLabels.map(({ entry }) => entry.symbol);
     save(`labels.${ending}`, kind, [labels(all, { type: format, mm, dpi: numberIn('sheet-dpi'), quiet: true })]);
     return;
   }
   const named = (line) => `${String(line).padStart(5, '0')}.${ending}`;
-  const files = allLabels.map(({ line, figure }) => ({ name: named(line), content: imageOfLabel(symbolOfFigure.get(figure), format, mm) }));
+  const files = allLabels.map(({ line, entry }) => ({ name: named(line), content: imageOfLabel(entry.symbol, format, mm) }));
   save('labels.zip', 'application/zip', zipOf(files));
+}
+
+/** Returns a symbol of each side. */
+function symbolsBySide(list) {
+  return [...new Map(list.map(({ entry }) => [entry.symbol.side, entry.symbol])).values()];
 }
 
 /** Returns sentences that say how large the symbols of all labels are on a printer, and what scanners may not read. */
 function factsOfPrinter(list, mm, dpi) {
-  const all = list.map(({ figure }) => symbolOfFigure.get(figure)), sizes = all.map((it) => printedSizeOf(it, mm, dpi, 4));
+  const all = symbolsBySide(list), sizes = all.map((it) => printedSizeOf(it, mm, dpi, 4));
   const modules = sizes.map((it, k) => it.mm / (all[k].side + 8)), narrowest = modules.reduce((least, it) => Math.min(least, it));
   const told = `Modules are ${dotsOf(sizes.map(({ scale }) => scale))} wide, and symbols with their margins ${shownLength(sizes.map((it) => it.mm))}.`;
   return [told, ...(on('sheet-warn').checked ? smallOf(narrowest) : [])].join(' ');
 }
 
-/** Shows how large the symbols of all labels are in the chosen format. */
+/** Returns why a caption cannot be in a PDF, or null. */
+function faultInPdf({ line, entry }) {
+  if (entry.faultInPdf === undefined) {
+    try {
+      checkCaption(entry.caption);
+      entry.faultInPdf = null;
+    } catch (error) {
+      if (!isRefusal(error)) throw error;
+      entry.faultInPdf = error;
+    }
+  }
+  return entry.faultInPdf && new TypeError(`Line ${line}: ${entry.faultInPdf.message}. Print the sheet instead`);
+}
+
+/** Shows how large the symbols of all labels are in the chosen format, or why there is no file. */
 function showSheetFile() {
-  const isPrinter = isForPrinter('sheet-format'), facts = on('sheet-file-facts'), width = numberIn('width'), dpi = numberIn('sheet-dpi');
+  const isPrinter = isForPrinter('sheet-format'), isPdf = on('sheet-format').value === 'pdf', facts = on('sheet-file-facts'), width = numberIn('width'), dpi = numberIn('sheet-dpi');
   on('sheet-dpi-name').hidden = !isPrinter;
-  facts.hidden = !isPrinter;
+  facts.hidden = !isPrinter && !isPdf;
   on('save-zip').disabled = allLabels.length === 0;
   try {
-    if (!isPrinter || allLabels.length === 0) say(facts, '', 'wide');
-    else if (dpi === null) throw new TypeError('A printer has from 1 to 100,000 dots an inch');
+    if (facts.hidden || allLabels.length === 0) say(facts, '', 'wide');
+    else if (isPdf) {
+      if (layout === null) throw new TypeError(on('paper').checked ? 'A size of the label paper is out of range' : 'A PDF has sheets of label paper: choose it above');
+      if (layout.shown.length === 0) throw new TypeError('No label has room for its symbol and its caption');
+      const faulty = layout.shown.map(faultInPdf).find((it) => it !== null);
+      if (faulty) throw faulty;
+      say(facts, 'Symbols are all of the version of the largest.', 'wide');
+    } else if (dpi === null) throw new TypeError('A printer has from 1 to 100,000 dots an inch');
     else say(facts, factsOfPrinter(allLabels, width, dpi), 'wide');
   } catch (error) {
     if (!isRefusal(error)) throw error;
@@ -425,64 +634,90 @@ function showSheetFile() {
   }
 }
 
+const NAMED = 20; // lines, at most, in a sentence
+
+/** Returns numbers of lines as a text. */
+function shownLines(numbers) {
+  return `${numbers.slice(0, NAMED).join(', ')}${numbers.length > NAMED ? ` and ${numbers.length - NAMED} more` : ''}`;
+}
+
 /** Returns why lines have no label, in sentences. */
 function faultsOf(refused, crowded) {
-  const long = refused.filter(({ error }) => error instanceof TooLongError).map(({ line }) => line);
-  const others = refused.filter(({ line }) => !long.includes(line)).map(({ line, error }) => `Line ${line}: ${error.message}.`);
+  const isLong = ({ entry }) => entry.error instanceof TooLongError, long = refused.filter(isLong).map(({ line }) => line), rest = refused.filter((it) => !isLong(it));
   return [
-    ...(long.length ? [`Too long at this level: line ${long.join(', ')}.`] : []),
-    ...(crowded.length ? [`No room on a label for a symbol of ${WIDTH_LEAST} mm with its caption: line ${crowded.join(', ')}.`] : []),
-    ...others,
+    ...(long.length ? [`Too long at this level: line ${shownLines(long)}.`] : []),
+    ...(crowded.length ? [`No room on a label for a symbol of ${WIDTH_LEAST} mm with its caption: line ${shownLines(crowded.map(({ line }) => line))}.`] : []),
+    ...rest.slice(0, NAMED).map(({ line, entry }) => `Line ${line}: ${entry.error.message}.`),
+    ...(rest.length > NAMED ? [`${rest.length - NAMED} more lines have no label.`] : []),
   ];
 }
 
 let allLabels = []; // the labels of all lines, also of those that label paper has no room for
+let layout = null; // that of label paper, or null without it
 
-/** Returns the labels of the lines: the figure of each with the number of its line. Lines that have none are added to `refused`. */
-function labelsOf(refused) {
-  const before = figures;
-  figures = new Map();
-  return on('lines').value.split('\n').flatMap((line, k) => {
-    if (line.trim() === '') return [];
-    try {
-      if (isWithoutText(line)) throw new TypeError('it has no text before its tab');
-      return [{ line: k + 1, figure: labelOf(line, before) }];
-    } catch (error) {
-      if (!isRefusal(error)) throw error;
-      refused.push({ line: k + 1, error });
-      return [];
-    }
-  });
+/** Returns what is to be said of the narrowest modules of symbols, which are so wide or, without label paper, as wide as is wanted. */
+function smallestOf(list, width) {
+  return smallOf(symbolsBySide(list).reduce((least, { side }) => Math.min(least, width / (side + 8)), Infinity));
 }
 
-/** Shows labels, on label paper if it is asked for. Returns whether all sizes of the paper are in their ranges. */
-function layOut(list) {
-  const shown = list.map(({ figure }) => figure), papers = on('paper').checked ? papersOf(shown) : null;
-  on('sheet').classList.toggle('on-paper', papers !== null);
-  on('sheet').replaceChildren(...papers ?? shown);
-  return papers !== null || !on('paper').checked;
-}
-
-/** Shows the sheet, without labels whose caption leaves no room for a symbol. While it is hidden, this is not known. */
-function showSheet() {
-  const width = numberIn('width'), refused = [], list = labelsOf(refused);
+/** Shows the lines that were read: their labels, and what is to be said of them. */
+function arrange() {
+  const width = numberIn('width'), isOnPaper = on('paper').checked, sheet = isOnPaper ? paperOfFields() : null, isInRange = !isOnPaper || sheet !== null;
+  // what is not encoded yet has a place, as if it will have a symbol
+  const list = lines.filter(({ entry }) => !entry.error);
+  layout = sheet === null || width === null ? null : layoutOf(sheet, list, width * MM);
   if (width !== null) on('sheet').style.setProperty('--width', `${width}mm`);
-  on('paper-sizes').hidden = !on('paper').checked;
-  const isInRange = layOut(list), isMeasured = isInRange && on('paper').checked && !on('labels').hidden;
-  const all = list.map((it) => ({ ...it, width: isMeasured ? symbolWidthOf(it.figure) : width }));
-  const crowded = isMeasured ? all.filter((it) => it.width < WIDTH_LEAST - 0.05) : [], shown = all.filter((it) => !crowded.includes(it));
-  if (crowded.length) layOut(shown);
-  const widths = shown.map((it) => it.width);
-  on('print-sheet').disabled = shown.length === 0 || !isInRange;
-  const warnings = [...narrowOf(widths, width), ...(on('sheet-warn').checked ? smallestOf(shown.map(({ figure }) => figure), widths) : [])];
-  const facts = [`${shown.length} ${shown.length === 1 ? 'label' : 'labels'}.`, ...warnings];
-  const faults = faultsOf(refused, crowded.map(({ line }) => line));
+  const shown = layout?.shown ?? list;
+  layOut(shown, layout);
+  // drawing has encoded lines, some of which may be refused
+  const unknown = unknownLines().length, refused = lines.filter(({ entry }) => entry.error);
+  if (refused.length + list.length > lines.length) return arrange();
+  const known = shown.filter(({ entry }) => entry.symbol);
+  allLabels = list.filter(({ entry }) => entry.symbol);
+  on('print-sheet').disabled = known.length === 0 || !isInRange;
+  const warnings = [...(layout ? narrowOf(layout, width * MM) : []), ...(on('sheet-warn').checked ? smallestOf(known, layout ? layout.size / MM : width) : [])];
+  const count = shown.length.toLocaleString('en'), facts = [`${count} ${shown.length === 1 ? 'label' : 'labels'}.`, ...warnings], faults = faultsOf(refused, layout?.crowded ?? []);
+  const rest = unknown ? [`${unknown.toLocaleString('en')} lines are not encoded yet.`] : [];
   if (width === null) say(on('sheet-facts'), `A symbol is from ${WIDTH_LEAST} to 180 mm wide.`, 'wide fault');
   else if (!isInRange) say(on('sheet-facts'), 'A size of the label paper is out of range.', 'wide fault');
-  else say(on('sheet-facts'), [...facts, ...faults].join(' '), faults.length ? 'wide fault' : 'wide');
-  allLabels = list;
+  else say(on('sheet-facts'), [...facts, ...rest, ...faults].join(' '), faults.length ? 'wide fault' : 'wide');
   showSheetFile();
+  clearTimeout(waiting);
+  waiting = unknown ? setTimeout(encodeSlice, 0) : null;
 }
+
+/** Shows the sheet of the lines that are in the field now. Those of a short list are encoded at once. */
+function showSheet() {
+  readLines();
+  if (lines.length <= FEW) for (const { entry } of lines) encodeLine(entry);
+  on('paper-sizes').hidden = !on('paper').checked;
+  arrange();
+}
+
+/** Puts the numbers of a label paper into the fields. */
+function fillPaper() {
+  const name = on('paper-name').value;
+  if (name === '') return;
+  const { width, ...sheet } = paper(name);
+  for (const id of SIZES) on(id).value = sheet[id];
+  on('paper-size').value = Object.keys(PAPER_DATA.sizes).find((it) => PAPER_DATA.sizes[it][0] === width);
+  // a label that goes on to the next one is as wide as the fields for the columns say
+  on('label-width').value = sheet.labelWidth === sheet.across ? '' : sheet.labelWidth;
+  on('label-height').value = sheet.labelHeight === sheet.down ? '' : sheet.labelHeight;
+  on('place').value = 1;
+}
+
+// All labels are on paper, and after it only what is seen.
+window.addEventListener('beforeprint', () => {
+  if (on('labels').hidden) return;
+  encodeAll();
+  for (const block of blocks) drawBlock(block);
+});
+window.addEventListener('afterprint', () => {
+  if (lines.length <= FEW) return;
+  blocks.forEach(emptyBlock);
+  drawSeen();
+});
 
 // ---- a drawing that is pasted
 
@@ -701,7 +936,7 @@ function choose(tab) {
     it.tabIndex = it === tab ? 0 : -1;
     on(it.getAttribute('aria-controls')).hidden = it !== tab;
   }
-  if (!on('labels').hidden && on('paper').checked) showSheet();
+  if (!on('labels').hidden) arrange();
 }
 
 for (const tab of TABS) {
@@ -743,7 +978,21 @@ on('fields').addEventListener('input', () => {
   show();
 });
 for (const id of ['text', 'kind', 'level', 'version', 'margin', 'scale', 'mm', 'boost', 'series', 'warn']) on(id).addEventListener('input', show);
-for (const id of ['lines', 'sheet-kind', 'sheet-level', 'width', 'sheet-boost', 'sheet-warn', 'paper', ...SIZES]) on(id).addEventListener('input', showSheet);
+on('paper-name').append(...PAPERS.map((name) => new Option(name, name)));
+on('paper-size').append(...Object.entries(PAPER_DATA.sizes).map(([name, [width, height]]) => new Option(`${name}, ${width} × ${height} mm`, name)));
+on('paper-name').value = 'Avery 3475';
+on('paper-name').addEventListener('input', () => {
+  fillPaper();
+  showSheet();
+});
+for (const id of ['paper-size', ...SIZES, ...Object.keys(OPTIONAL_SIZES)]) on(id).addEventListener('input', () => { on('paper-name').value = ''; });
+for (const id of ['lines', 'sheet-kind', 'sheet-level', 'width', 'sheet-boost', 'sheet-warn', 'captions', 'paper', 'place', 'paper-size', ...SIZES, ...Object.keys(OPTIONAL_SIZES)]) {
+  on(id).addEventListener('input', showSheet);
+}
+window.addEventListener('resize', () => {
+  if (lines.length > FEW && !on('paper').checked) arrange();
+  else drawSeen();
+});
 for (const form of document.forms) form.addEventListener('submit', (event) => event.preventDefault());
 on('pasted').addEventListener('input', showFound);
 on('paste-sample').addEventListener('click', pasteSample);

@@ -10,7 +10,9 @@ import { inflateSync } from 'node:zlib';
 
 const folder = process.env.QRPROVED ?? fileURLToPath(new URL('../../out/npm/package', import.meta.url));
 const at = pathToFileURL(resolve(folder, 'qrproved.js')).href;
-const { documentOf, draw, encode, encodeSeries, labels, load, mend, parseDrawing, parsePicture, read, sheetsOf, ...errors } = await import(at);
+const {
+  PAPERS, documentOf, draw, encode, encodeSeries, labels, load, mend, paper, parseDrawing, parsePicture, read, sheetsOf, ...errors
+} = await import(at);
 
 // The memory of the module, which the package keeps to itself.
 let memory;
@@ -538,6 +540,57 @@ test('sheets of label paper', () => {
   assert.throws(() => sheetsOf([], sheet), refused('SettingsError', 5, 'SETTINGS'));
   assert.throws(() => sheetsOf([few[0], encode('A')], sheet), refused('SettingsError', 5, 'SETTINGS'));
   for (const wrong of [{ width: '210' }, { left: true }, { gap: 3 }]) assert.throws(() => sheetsOf(few, { ...sheet, ...wrong }), TypeError, JSON.stringify(wrong));
+});
+
+test('label paper by its names', () => {
+  // what the maker prints, in inches: left and upper margin, and from a label to the next one
+  for (const [name, inches] of Object.entries({ 'Avery 5160': [0.1875, 0.5, 2.75, 1], 5163: [0.15625, 0.5, 4.1875, 2], 'avery-5167': [0.28125, 0.5, 2.0625, 0.5] })) {
+    const { left, top, across, down } = paper(name);
+    [left, top, across, down].forEach((it, k) => assert.ok(Math.abs(it - 25.4 * inches[k]) < 0.002, `${name} ${k}`));
+  }
+  const sheet = { width: 210, height: 297, columns: 3, rows: 7, left: 7.21, top: 15.15, across: 66.04, down: 38.1, first: 20, labelWidth: 63.5, labelHeight: 38.1 };
+  assert.deepEqual(paper('l7160', { first: 20 }), sheet);
+  assert.deepEqual(paper('HERMA 4677'), { ...sheet, first: 0 });
+  for (const name of PAPERS) {
+    const it = paper(name), right = it.width - it.left - (it.columns - 1) * it.across - it.labelWidth;
+    const below = it.height - it.top - (it.rows - 1) * it.down - it.labelHeight;
+    assert.ok(it.left >= 0 && it.top >= 0 && Math.abs(right - it.left) < 0.0021 && Math.abs(below - it.top) < 0.0021, name);
+  }
+  for (const wrong of ['L7', '', 'Avery', '4677 Herma']) assert.throws(() => paper(wrong), { name: 'SettingsError', message: /no label paper .*Avery L7160/ });
+  assert.throws(() => paper('l7160', { first: 21 }), { name: 'SettingsError' });
+  assert.throws(() => paper(7160), TypeError);
+  assert.throws(() => paper('l7160', { start: 3 }), TypeError);
+});
+
+test('captions of labels', () => {
+  const few = [0, 1, 2].map((k) => encode(`Shelf ${k}`, { version: 1 })), text = (file) => Buffer.from(file).toString('latin1');
+  const sheet = { width: 100, height: 100, columns: 2, rows: 2, across: 50, down: 50, labelWidth: 48, labelHeight: 50 };
+  const file = text(sheetsOf(few, sheet, { mm: 29, captions: ['a', '', 'é (b)'] }));
+  // 29 modules of 1 mm: 48 - 29 and 50 - 29 - 3.387 mm are left over, and what the library draws stays as it is
+  const middle = { width: 100, height: 100, columns: 2, rows: 2, left: 9.5, top: 8.806, across: 50, down: 50 }, drawing = text(sheetsOf(few, middle, { mm: 29 }));
+  assert.ok(file.startsWith(drawing));
+  // An a is 0.556 times 8 points wide, and its middle 24 mm from the left, which are 68.031 points. Its line begins 8.806 + 29 mm below the
+  // upper edge and the letter stands 2.667 mm lower, which is 59.527 mm or 168.738 points from the lower edge
+  const added = file.slice(drawing.length);
+  assert.match(added, /\n1 0 0 1 65\.807 168\.738 Tm <61> Tj\n/);
+  assert.match(added, /\n1 0 0 1 \d+\.\d{3} 27\.006 Tm <e920286229> Tj\n/);
+  const start = Number(/startxref\n(\d+)\n%%EOF\n$/.exec(added)[1]), table = file.slice(start).split('\n');
+  assert.equal(table[0], 'xref');
+  const places = [...file.slice(start).matchAll(/(\d+) 1\n(\d{10}) 00000 n \n/g)].map(([, number, place]) => file.slice(Number(place)).startsWith(`${number} 0 obj\n`));
+  assert.deepEqual(places, [true, true, true]);
+  assert.equal(text(sheetsOf(few, sheet, { mm: 29, captions: [' ', '\n', ''] })), text(sheetsOf(few, { ...middle, top: 10.5 }, { mm: 29 })));
+  const small = { ...sheet, labelWidth: 40, labelHeight: 30 };
+  assert.deepEqual(sheetsOf(few, small), sheetsOf(few, small, { mm: 29 * 1.034 }));
+  assert.throws(() => sheetsOf(few, small, { mm: 29 * 1.035 }), { name: 'SettingsError' });
+  for (const [letter, told] of Object.entries({ 点: "'点' (U+70B9)", ř: "'ř' (U+0159)", '\0': "'\\x00' (U+0000)", '\x81': "'\\x81' (U+0081)" })) {
+    const message = `${told}, character 3 of the caption, is not in Helvetica, the font of captions in a PDF`;
+    assert.throws(() => sheetsOf(few, sheet, { captions: ['a', 'b', `ab${letter}`] }), { name: 'SettingsError', message });
+  }
+  assert.throws(() => sheetsOf(few, sheet, { captions: ['a', 'b'] }), { name: 'SettingsError', message: /there are 3 and 2/ });
+  const [first, l7160] = [few.slice(0, 1), paper('l7160')];
+  assert.throws(() => sheetsOf(first, l7160, { captions: ['a\n'.repeat(11)] }), { message: /63\.500 mm wide and 38\.100 mm high, and has no room for 29 modules and 11 lines of a caption/ });
+  assert.throws(() => sheetsOf(first, l7160, { mm: 34, captions: ['a'] }), { message: /no room for a symbol 33\.988 mm wide with its margin and 1 line of a caption/ });
+  for (const wrong of ['abc', ['a', 'b', null], { 0: 'a' }]) assert.throws(() => sheetsOf(few, sheet, { captions: wrong }), TypeError, JSON.stringify(wrong));
 });
 
 test('files with several labels', () => {

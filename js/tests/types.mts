@@ -1,8 +1,12 @@
 // What the declarations allow and refuse, for the TypeScript compiler.
-import { documentOf, draw, encode, encodeSeries, labels, load, mend, parseDrawing, parsePicture, read, QRSymbol, NoDrawingError, TooLongError, FieldsError, QRError, type Eci, type Header, type Level } from 'qrproved';
+import { documentOf, draw, encode, encodeSeries, labels, load, mend, paper, parseDrawing, parsePicture, read, sheetsOf, PAPERS, QRSymbol, NoDrawingError, TooLongError, FieldsError, QRError, type Eci, type Header, type Level } from 'qrproved';
+import { encode as encodeAlone, load as loadAlone, QRSymbol as SymbolAlone } from 'qrproved/encode';
 import { ContentError, PAYMENT, contact, event, geo, gs1Of, link, mail, payment, paymentBytes, sms, tel, wifi } from 'qrproved/contents';
 
 await load();
+await loadAlone();
+const alone: SymbolAlone = encodeAlone('a', { level: 'q', boost: false });
+const drawings: string[] = [alone.svg({ inline: true, dark: 'navy', light: null }), alone.dataURL({ margin: 2 }), encodeAlone({ gs1: new Uint8Array(3) }).level];
 const symbol: QRSymbol = encode('a', { level: 'q', rule: 'with_kanji', eci: 20, boost: false });
 const fieldsOfGs1: QRSymbol = encode({ gs1: '(20)01' }, { eci: false });
 const level: Level = symbol.level;
@@ -18,9 +22,10 @@ const squares: Uint8Array[] = parsePicture({ data: new Uint8ClampedArray(4), wid
 const image: Uint8Array = symbol.png({ fitMm: 20, dpi: 300 });
 const canvas = symbol.toCanvas({ width: 0, height: 0, getContext: () => null }, { dark: 'navy', light: null }).width + symbol.svg({ title: 'a', className: 'b', inverse: false });
 const files: Uint8Array[] = [labels(series, { type: 'tspl', mm: 20, dpi: 300, x: 3 }), labels(symbol), documentOf(series, { type: 'svg', mm: 20 })];
+const sheets: Uint8Array = sheetsOf([symbol], paper(PAPERS[0], { first: 3 }), { mm: 20, captions: ['a'] });
 const text: string = read(symbol).text() + mend(symbol.modules).content.text() + symbol.toJSON().rows[0] + draw(series, { type: 'SVG' }) + symbol.dataURL({ type: 'svg' }) + symbol.svg({ inline: true }) + shares;
 try {
-  console.log(canvas, level, header, fieldsOfGs1, ecis, fields, image, files, text, squares, shown);
+  console.log(canvas, level, header, fieldsOfGs1, ecis, fields, image, files, sheets, drawings, text, squares, shown);
 } catch (error) {
   if (error instanceof TooLongError || error instanceof NoDrawingError || error instanceof FieldsError) {
     const refusal: QRError = error, status: number = error.status;
@@ -48,8 +53,14 @@ encode('a', { eci: true });
 encode('a', { errorCorrectionLevel: 'L' });
 // @ts-expect-error: a document has no dots
 symbol.svg({ fitMm: 20 });
+// @ts-expect-error: each symbol has a caption of its own
+sheetsOf(symbol, paper('l7160'), { captions: 'a' });
 // @ts-expect-error: dark modules are not transparent
 symbol.svg({ dark: null });
+// @ts-expect-error: the fields of GS1 data are a matter of the whole package
+encodeAlone({ gs1: '(20)01' });
+// @ts-expect-error: what only encodes writes no PNG
+alone.png();
 // @ts-expect-error: a PNG has one symbol
 labels(series, { type: 'png' });
 // @ts-expect-error: there is no such level

@@ -24,7 +24,7 @@ from dataclasses import dataclass
 from enum import IntEnum
 from typing import TYPE_CHECKING, BinaryIO, List, NamedTuple, NoReturn, Optional, Tuple, Union
 
-from . import _colours, _library, contents
+from . import _colours, _library, _papers, contents
 from ._common import DATA, LIMITS
 from ._drawings import found_by_look, undone
 from ._gs1 import Gs1Error, data_of, fields_of
@@ -45,7 +45,7 @@ __all__ = ["BYTES_MAX", "COUNT_MAX", "ECI_MAX", "MARGIN_MAX", "SCALE_MAX", "SERI
            "Drawing", "Drawn", "Eci", "EciError", "EmptyError", "Error", "FieldsError", "FormatError", "Gs1Error", "Header", "Level",
            "Mended", "NoDrawingError", "OutOfMemoryError", "PrintWarning", "RoomError", "Rule", "SegmentsError", "SettingsError",
            "Sheet", "SideError", "Symbol", "TooLongError", "TooManyError", "WORK_MAX", "contents", "document", "draw", "encode", "encode_series", "labels", "mend",
-           "parse_drawing", "parse_picture", "read", "sheets"]
+           "PAPERS", "paper", "parse_drawing", "parse_picture", "read", "sheets"]
 
 __version__ = "0.2.0"
 _calls = _library.load()
@@ -59,10 +59,11 @@ LABELS = DATA["labels"]  # what a file with several labels has before and after 
 MICROMETRES, MICROMETRES_MAX = LIMITS["MICROMETRES"], LIMITS["MICROMETRES_MAX"]  # of a module
 LABELS_MAX, COLUMNS_MAX, PAPER_MAX = LIMITS["LABELS_MAX"], LIMITS["COLUMNS_MAX"], LIMITS["PAPER_MAX"]  # of sheets: symbols; columns, and rows; micrometres
 PIXELS = 8  # of a module of a picture, if nothing else is said
-IMAGE_LIKELY = 4096  # bytes, and 3 for each module: room for every PNG file up to scale 8, which is then written in one run
+IMAGE_LIKELY = 4096  # bytes, and for PNG 3 for each module: room for every PNG file up to scale 8, which is then written in one run
 MM_OF_INCH = 25.4
 MARGIN_WANTED, MODULE_MIN = LIMITS["MARGIN_WANTED"], LIMITS["MODULE_MIN"]  # modules, and millimetres
 CAPTION_HEIGHT = 4  # modules
+PAPERS = tuple(_papers.PAPERS)  # the names of label paper
 GRADES = DATA["grades"]  # of the error correction that is unused: the least percentage of each
 ONLY_LABELS = "only in ZPL and TSPL a symbol has a place on a label, which x and y say"
 WRONG_FORMAT_MAX = LIMITS["WRONG_FORMAT_MAX"]  # wrong modules of a copy of the format information that can be read (ISO/IEC 18004:2015, Annex C)
@@ -344,7 +345,7 @@ class Symbol:
             raise RoomError("a symbol has side * side modules")
         side = _setting("side", self.side, 1, SIDE_MAX)
         asked, written = (self.modules, len(self.modules), side, FORMATS[kind], scale, margin, pixels_a_metre, x, y), ctypes.c_size_t()
-        room = IMAGE_LIKELY + 3 * len(self.modules)
+        room = IMAGE_LIKELY + (3 * len(self.modules) if kind == "png" else _room_of_lines(kind, side + 2 * margin, scale))
         image = (ctypes.c_uint8 * room)()
         status = _calls.qrproved_image(*asked, image, room, ctypes.byref(written))
         if status == RoomError.status:
@@ -710,6 +711,12 @@ def _first(buffer: ctypes.Array[ctypes.c_uint8], length: int) -> bytes:
     return bytes(memoryview(buffer)[:length])
 
 
+def _room_of_lines(kind: str, rows: int, scale: int) -> int:
+    """Returns in how many bytes there is room for an image that is no PNG file, with `scale` lines for each row of modules."""
+    line = (rows * scale + 7) // 8
+    return rows * (2 * line + scale) if kind == "zpl" else (rows * scale + 254) * (line + 1)
+
+
 def encode(data: Optional[Input] = None, *wrong: NoReturn, version: int = 1, level: Name = Level.L, rule: Optional[Name] = None,
            eci: Optional[int] = None, gs1: Optional[Input] = None, boost: bool = True, **others: NoReturn) -> Symbol:
     """Returns the symbol of a text, of some bytes or of GS1 data, of the least version from `version` on that holds them.
@@ -870,26 +877,63 @@ class Sheet(NamedTuple):
     """How far the upper edges of places one below the other are."""
     first: int = 0
     """How many places of the first sheet stay free, as labels that are used up."""
+    label_width: float = 0
+    """How wide a label is. Without it a label goes on to the next one, or to the edge of the paper."""
+    label_height: float = 0
+    """How high a label is."""
+
+
+def paper(name: str, *wrong: NoReturn, first: int = 0, **others: NoReturn) -> Sheet:
+    """Returns the label paper of a name, such as 'Avery L7160' or 'l7160'; PAPERS has all names. `first` places of the first sheet stay free.
+    Raises SettingsError for another name."""
+    _no_more("paper", "name, ", wrong, others, "first")
+    found = _papers.named(name)
+    width, height = _papers.SIZES[found["size"]]
+    return _labelled(width, height, found["grid"], found["label"], None, found["gaps"], first)
+
+
+def _labelled(width: float, height: float, grid: Sequence[int], label: Optional[Sequence[float]], margins: Optional[Sequence[float]],
+              gaps: Sequence[float], first: int) -> Sheet:
+    """Returns label paper of which either the size of a label or the margins may be left out."""
+    counts = [_setting(name, it, 1, COLUMNS_MAX) for name, it in zip(("columns", "rows"), grid)]
+    given = [[None if it is None else _papers.micrometres(it) for it in pair or (None, None)] for pair in (label, margins, gaps)]
+    across, down = (_papers.row_of(_papers.micrometres(paper), *row) for paper, *row in zip((width, height), counts, *given))
+    lengths = [it / 1000 for it in (across.before, down.before, across.step, down.step)]
+    return Sheet(width, height, *counts, *lengths, first, across.label / 1000, down.label / 1000)
 
 
 def sheets(symbols: Union[Symbol, Iterable[Symbol]], sheet: Sheet, *wrong: NoReturn, margin: int = 4, mm: Optional[float] = None,
-           **others: NoReturn) -> bytes:
+           captions: Optional[Sequence[str]] = None, **others: NoReturn) -> bytes:
     """Returns a PDF with symbols of one side on sheets of label paper, as many as they need. They follow one another in rows, from the
     upper left place on.
 
-    symbols  from 1 to LABELS_MAX, or a symbol alone. To give all the same side, encode them with a `version` that has room for each
-    sheet    the paper and its places
-    margin   light modules on each side of each symbol, from 0 to MARGIN_MAX; a scanner needs 4
-    mm       the width of a symbol with its margin, in millimetres. Without it symbols are as large as fits their places. A module has
-             whole micrometres
+    symbols   from 1 to LABELS_MAX, or a symbol alone. To give all the same side, encode them with a `version` that has room for each
+    sheet     the paper and its places, as `paper` returns it too
+    margin    light modules on each side of each symbol, from 0 to MARGIN_MAX; a scanner needs 4
+    mm        the width of a symbol with its margin, in millimetres. Without it symbols are as large as fits their places. A module has
+              whole micrometres
+    captions  a text for each symbol, which may be empty. A symbol is then in the middle of its label, with the lines of its caption below.
+              2 mm of a label on its left and right and 1 mm above and below stay free. Without captions a symbol is in the upper left corner
+              of its place
 
     Raises SettingsError if a number is out of range, if the sides are not the same, if symbols are larger than their places or a place
-    is not on the paper, RoomError if a symbol has too few modules, and OutOfMemoryError. Warns by PrintWarning of what scanners may not
-    read.
+    is not on the paper, or for a character of a caption that the font Helvetica does not have, RoomError if a symbol has too few modules,
+    and OutOfMemoryError. Warns by PrintWarning of what scanners may not read.
     """
-    _no_more("sheets", "symbols, sheet, ", wrong, others, "margin", "mm")
+    _no_more("sheets", "symbols, sheet, ", wrong, others, "margin", "mm", "captions")
     light, (given, count, side) = _setting("margin", margin, 0, MARGIN_MAX), _squares(_listed(symbols), LABELS_MAX)
-    return _sheets(given, count, side, sheet, light, mm)
+    return _sheets(given, count, side, sheet, light, mm, None if captions is None else _captions(captions, count))
+
+
+def _captions(captions: Sequence[str], count: int) -> list[str]:
+    if isinstance(captions, str):
+        raise TypeError("sheets: captions are a list of texts, one for each symbol")
+    listed = list(captions)
+    for it in listed:
+        _papers.check_caption(it)
+    if len(listed) != count:
+        raise SettingsError(f"each symbol has a caption, which may be empty: there are {count} and {len(listed)}")
+    return listed
 
 
 def labels(symbols: Union[Symbol, Iterable[Symbol]], *wrong: NoReturn, kind: str = "zpl", scale: Optional[int] = None, margin: int = 4,
@@ -972,22 +1016,46 @@ def _on_paper(name: str, value: float) -> int:
     return _nearest(1000 * _size(name, value)) if value or isinstance(value, bool) else 0
 
 
-def _sheets(modules: bytes, count: int, side: int, sheet: Sheet, light: int, mm: Optional[float]) -> bytes:
-    lengths = {name: _on_paper(name, getattr(sheet, name)) for name in ("width", "height", "left", "top", "across", "down")}
+def _sheets(modules: bytes, count: int, side: int, sheet: Sheet, light: int, mm: Optional[float], captions: Optional[list[str]] = None) -> bytes:
+    names = ("width", "height", "left", "top", "across", "down")
+    lengths = {name: _on_paper(name, getattr(sheet, name)) for name in names}
     columns, rows = _setting("columns", sheet.columns, 1, COLUMNS_MAX), _setting("rows", sheet.rows, 1, COLUMNS_MAX)
     first = _setting("first", sheet.first, 0, columns * rows - 1)
     if max(lengths["width"], lengths["height"]) > PAPER_MAX:
         raise SettingsError(f"paper is at most {PAPER_MAX // 1000:,} mm wide and high")
-    wide, high = _longest_place(lengths["width"], lengths["left"], columns, lengths["across"]), _longest_place(lengths["height"], lengths["top"], rows, lengths["down"])
+    wide, high = _place_of(sheet)
+    lines = [[] if captions is None else _papers.lines_of(it, wide - 2 * _papers.FREE_ACROSS) for it in captions or ()]
+    most = max(map(len, lines), default=0)
+    room = min(wide, high) if captions is None else _papers.room_of_label(wide, high, most)
     width = side + 2 * light
-    micrometres = min(wide, high, MICROMETRES_MAX * width) // width if mm is None else _micrometres(mm, width)
-    if micrometres < 1 or micrometres * width > min(wide, high):
+    micrometres = min(room, MICROMETRES_MAX * width) // width if mm is None else _micrometres(mm, width)
+    if micrometres < 1 or micrometres * width > room:
         asked = f"{width} modules" if mm is None else f"a symbol {micrometres * width / 1000:.3f} mm wide with its margin"
-        raise SettingsError(f"a place of the sheet is {max(0, wide) / 1000:.3f} mm wide and {max(0, high) / 1000:.3f} mm high, and has no room for {asked}")
+        below = f" and {most} {'lines' if most > 1 else 'line'} of a caption" if most else ""
+        raise SettingsError(f"a place of the sheet is {max(0, wide) / 1000:.3f} mm wide and {max(0, high) / 1000:.3f} mm high, and has no room for {asked}{below}")
     _warn(light, micrometres / 1000)
+    size, (left, top) = micrometres * width, (lengths["left"], lengths["top"])
+    if captions is not None:
+        lengths["left"] += (wide - size) // 2
+        lengths["top"] += (high - size - most * _papers.LINE) // 2
     given = _library.Sheet(columns=columns, rows=rows, first=first, **lengths)
     asked = (modules, len(modules), side, count, light, micrometres, ctypes.byref(given))
-    return _written(lambda *buffer: _calls.qrproved_sheets(*asked, *buffer))
+    document = _written(lambda *buffer: _calls.qrproved_sheets(*asked, *buffer))
+    if most == 0:
+        return document
+    below, texts = lengths["height"] - lengths["top"] - size, []
+    for place, its in enumerate(lines, first):
+        page, place = divmod(place, columns * rows)
+        row, column = divmod(place, columns)
+        texts.append(_papers.Text(page, left + column * lengths["across"] + wide // 2, below - row * lengths["down"], its))
+    return _papers.with_captions(document, texts)
+
+
+def _place_of(sheet: Sheet) -> tuple[int, int]:
+    """Returns how wide and how high a place of a sheet may be."""
+    length = {name: _on_paper(name, getattr(sheet, name)) for name in ("width", "height", "left", "top", "across", "down", "label_width", "label_height")}
+    return (_room_of_place(length["width"], length["left"], sheet.columns, length["across"], length["label_width"]),
+            _room_of_place(length["height"], length["top"], sheet.rows, length["down"], length["label_height"]))
 
 
 def _pages(modules: bytes, side: int, margin: int, mm: Optional[float]) -> bytes:
@@ -999,11 +1067,12 @@ def _pages(modules: bytes, side: int, margin: int, mm: Optional[float]) -> bytes
     return _sheets(modules, count, side, Sheet(width, width, columns=1, rows=1), light, None)
 
 
-def _longest_place(length: int, before: int, count: int, step: int) -> int:
+def _room_of_place(length: int, before: int, count: int, step: int, label: int) -> int:
     """Returns how long a place may be, of so many that begin `before` behind the edge and `step` behind one another: up to the next one,
-    and up to the other edge."""
+    and up to the other edge, or as long as a label."""
     last = length - before - (count - 1) * step
-    return last if count == 1 else min(step, last)
+    room = last if count == 1 else min(step, last)
+    return min(room, label) if label else room
 
 
 def _squares(symbols: list[Symbol], most: int = COUNT_MAX) -> tuple[bytes, int, int]:

@@ -13,17 +13,20 @@ import warnings
 from typing import TYPE_CHECKING, BinaryIO, Optional, Union
 
 import qrproved
-from qrproved import EciError, Error, Gs1Error, Level, Rule, contents
+from qrproved import EciError, Error, Gs1Error, Level, Rule, SettingsError, _colours, _papers, contents
 from qrproved._check import NOT_READABLE, check
 from qrproved._console import INPUT, PROGRAM, end_output, say
 from qrproved.contents import ContentError
 from qrproved._sources import BINARY, SourceError, decoded, encoding_of, is_text
 from qrproved._stream import (DIGITS, DIGITS_OF_SHARD, LABELS_OF_ARCHIVE, Naming, Source, columns_of, labels_of, parts_of, processors, progress_of,
                               spread)
-from qrproved.batch import BESIDE, Done, Label, Part, Settings, largest, placed, write
+from qrproved.batch import BESIDE, REFUSALS, Done, Label, Part, Settings, Unreadable, largest, placed, write
 
 if TYPE_CHECKING:
     from collections.abc import Iterator
+
+    from qrproved import Sheet, Symbol
+    from qrproved._stream import Row
 
 KINDS = {".png": "png", ".svg": "svg", ".txt": "utf8", ".pdf": "pdf", ".eps": "eps", ".pbm": "pbm", ".zpl": "zpl", ".tspl": "tspl", ".bin": "escpos"}
 PRINTERS = tuple(qrproved.LABELS)
@@ -31,6 +34,11 @@ ONE_FILE = ("pdf", *PRINTERS)  # of which a file may have all labels of --batch
 BINARIES = ("png", "pdf", "pbm", *PRINTERS)  # which a terminal does not show
 SUFFIXES = {"png": ".png", "svg": ".svg", "pdf": ".pdf", "eps": ".eps", "pbm": ".pbm", "zpl": ".zpl", "tspl": ".tspl", "escpos": ".bin", **dict.fromkeys(("txt", "utf8", "ascii", "asciii"), ".txt")}
 INTERRUPTED = 130  # the status of a program that a key of the terminal ends
+TABLES = (".csv", ".tsv")  # what the name of a file ends in whose first line has the names of columns
+PAPER = "Avery 3475"  # of --sheet, if nothing else is said
+# Why a drawing of each type has no colours.
+NO_COLOURS = {**{it: f"colours in {it.upper()} are not proved yet" for it in ("png", "pdf", "eps")}, "pbm": "a PBM is black and white",
+              **dict.fromkeys(PRINTERS, "printers of labels and receipts print black alone"), **dict.fromkeys(("txt", "utf8", "ascii", "asciii"), "a text has no colours")}
 VERSION_OF_PAYMENTS = 13  # at most, by EPC069-12
 ERASED = f"\r{'':70}\r"  # takes the place of a line that says how far a batch is; not every console knows more
 
@@ -55,6 +63,80 @@ def batch(given: argparse.Namespace, settings: Settings, told: set[str]) -> int:
                 os.makedirs(given.output, exist_ok=True)
                 written(given, parts_of(labels, settings, names, given.resume), None, report)
         return 1 if report.faults else 0
+
+
+def sheet(given: argparse.Namespace, settings: Settings, told: set[str]) -> int:
+    """Writes a PDF with a label for each line of a list, or of a table, on sheets of label paper."""
+    is_input, paper = given.sheet == "-", paper_of(given)
+    place = qrproved._place_of(paper)
+    with sys.stdin.buffer if is_input else open(given.sheet, "rb") as file:
+        source = Source(file, INPUT if is_input else given.sheet, given.encoding)
+        with Report(given, source, told) as report:
+            kept: list[tuple[Union[str, bytes], str, Symbol]] = []
+            for row in itertools.islice(labels_of_sheet(given, source), qrproved.LABELS_MAX + 1):
+                done = Done(1, 0, [], [])
+                try:
+                    kept.append(on_label(row, place, settings, given.captions))
+                except REFUSALS as fault:
+                    done.faults.append((row.line, str(fault)))
+                report.add(done)
+            if kept:
+                version = max(symbol.version for *_, symbol in kept)
+                wider = settings._replace(version=version)
+                symbols = [it if it.version == version else wider.encoded(data)[0] for data, _, it in kept]
+                document = qrproved.sheets(symbols, paper, margin=settings.margin, mm=settings.mm, captions=[caption for _, caption, _ in kept])
+                with whole(given.output) as out:
+                    out.write(document)
+        if not kept:
+            say(f"{source.name} has no label, so that nothing is written")
+        return 0 if kept and not report.faults else 1
+
+
+def labels_of_sheet(given: argparse.Namespace, source: Source) -> Iterator[Row]:
+    """Yields the labels of a list: those of its columns, or its lines, each with its caption after a tab."""
+    if given.columns:
+        yield from source.rows_by_columns(given.columns)
+    elif os.path.splitext(given.sheet)[1].lower() in TABLES:
+        yield from source.rows_by_columns({"text": "text", "caption": "caption"}, ("caption",))
+    else:
+        for row in source.rows():
+            text, tab, caption = row.data.partition("\t") if isinstance(row.data, str) else (row.data, "", "")
+            yield row._replace(data=text, caption=caption.replace("\t", " ")) if tab else row
+
+
+def on_label(row: Row, place: tuple[int, int], settings: Settings, is_captioned: bool) -> tuple[Union[str, bytes], str, Symbol]:
+    """Returns the text of a label of this width and height, its caption and its symbol. A caption that is not given is the text."""
+    data = row.data
+    if isinstance(data, Unreadable):
+        raise SettingsError(data.why)
+    if isinstance(data, str) and not data.strip():
+        raise SettingsError("it has no text")
+    caption = "" if not is_captioned else row.caption if row.caption is not None else data
+    if not isinstance(caption, str):
+        raise SettingsError("bytes are no caption: add --no-captions")
+    _papers.check_caption(caption)
+    symbol, fault = settings.encoded(data)[0], _papers.fault_of(caption, *place)
+    if fault is not None:
+        raise SettingsError(fault)
+    return data, caption, symbol
+
+
+def paper_of(given: argparse.Namespace) -> Sheet:
+    """Returns the label paper that the options describe: by its name, or by the size of the paper."""
+    own = {"--grid": given.grid, "--label": given.label, "--margins": given.margins, "--gaps": given.gaps}
+    if given.size is None:
+        named = next((it for it, value in own.items() if value is not None), None)
+        if named is not None:
+            raise SettingsError(f"{named} is for paper by its size, as in --paper a4, and {given.paper} has its own")
+        paper = qrproved.paper(given.paper)
+    else:
+        if given.grid is None:
+            raise SettingsError("--paper by a size needs the columns and rows of its labels, as in --grid 3x8")
+        paper = qrproved._labelled(*given.size, given.grid, given.label, given.margins, given.gaps or (0, 0), 0)
+    places = paper.columns * paper.rows
+    if not 1 <= given.place <= places:
+        raise SettingsError(f"--place is from 1 to {places}, and not {given.place}")
+    return paper._replace(first=given.place - 1)
 
 
 def naming_of(given: argparse.Namespace, settings: Settings, source: Source) -> Naming:
@@ -209,6 +291,36 @@ def eci(text: str) -> int:
     return False if text == "none" else int(text)
 
 
+def pair(text: str) -> tuple[float, float]:
+    """Returns two lengths in millimetres, as in 63.5x38.1."""
+    width, sign, height = text.lower().partition("x")
+    try:
+        lengths = float(width), float(height)
+    except ValueError:
+        lengths = (-1.0, -1.0)
+    if not (sign and all(0 <= it <= qrproved.PAPER_MAX / 1000 for it in lengths)):
+        raise argparse.ArgumentTypeError(f"it is two lengths in millimetres, as in 63.5x38.1, and not {text!r}")
+    return lengths
+
+
+def grid(text: str) -> tuple[int, int]:
+    columns, _, rows = text.lower().partition("x")
+    if not (columns.isdecimal() and rows.isdecimal()):
+        raise argparse.ArgumentTypeError(f"it is the number of columns and that of rows, as in 3x8, and not {text!r}")
+    return int(columns), int(rows)
+
+
+def size_of(text: str) -> Optional[tuple[float, float]]:
+    """Returns the size of paper in millimetres; None for the name of a label paper."""
+    known = _papers.SIZES.get(text.lower())
+    if known is not None:
+        return tuple(known)
+    try:
+        return pair(text)
+    except argparse.ArgumentTypeError:
+        return None
+
+
 def add_drawing(parser: argparse.ArgumentParser, of_batch: str) -> None:
     """Adds the options that say where a symbol is written, and how."""
     parser.add_argument("-o", "--output", metavar="FILE", help="the file to write, .png, .svg, .pdf, .eps, .txt, .pbm, .zpl, .tspl or .bin, which is"
@@ -226,6 +338,10 @@ def add_drawing(parser: argparse.ArgumentParser, of_batch: str) -> None:
                         " with its margin, in millimetres: a module has as many whole dots of a printer with --dpi dots an inch as fit")
     parser.add_argument("-x", type=int, default=0, metavar="N", help="how far the symbol is from the left edge of a label, in dots; 0")
     parser.add_argument("-y", type=int, default=0, metavar="N", help="how far it is from the upper edge")
+    parser.add_argument("--dark", metavar="COLOUR", help="the colour of the dark modules of an SVG: #rgb, #rrggbb or a name of CSS 2.1; black")
+    parser.add_argument("--light", metavar="COLOUR", help="that of its ground, or 'none' for a transparent one; white. Colours that scanners do not"
+                        " tell apart are refused")
+    parser.add_argument("--inverse", action="store_true", help="allow dark modules that are lighter than the ground, which many scanners do not read")
     parser.add_argument("-q", "--quiet", action="store_true", help="do not warn of small margins and modules, nor of bytes"
                         " that are no UTF-8")
     parser.add_argument("-S", "--series", action="store_true", help="write a series of up to 16 symbols of the version -v: the pages of a PDF, the"
@@ -258,7 +374,7 @@ def of_content(kind: str, words: list[str]) -> argparse.Namespace:
             parser.add_argument(f"--{name}", dest=f"field_{name}", action="append", metavar=metavar, help=spec["help"] + more)
     add_drawing(parser, "")
     parser.add_argument("--bytes", action="store_true", help="encode the whole input in byte mode")
-    parser.set_defaults(text=None, batch=None, gs1=False, encoding=None, names="number", jobs=None, columns=None, start=1, shard=None, tar=False,
+    parser.set_defaults(text=None, batch=None, sheet=None, gs1=False, encoding=None, names="number", jobs=None, columns=None, start=1, shard=None, tar=False,
                         resume=False, faults=None)
     if kind == "payment":
         parser.set_defaults(**contents.PAYMENT, kanji=False)
@@ -311,8 +427,54 @@ def parsed(words: list[str]) -> argparse.Namespace:
                         " unless --shard says how many")
     parser.add_argument("--resume", action="store_true", help="--batch skips files and archives that are there, as after an interruption")
     parser.add_argument("--faults", metavar="FILE", help="--batch writes the numbers of the lines that cannot be drawn to this file, each with a tab and the reason")
+    add_sheet(parser)
     parser.set_defaults(content=None)
     return completed(parser, parser.parse_args(words))
+
+
+def add_sheet(parser: argparse.ArgumentParser) -> None:
+    """Adds the options of sheets of label paper."""
+    of_sheet = parser.add_argument_group("sheets of label paper")
+    of_sheet.add_argument("--sheet", metavar="FILE", help="write a PDF of label paper with a label for each line of a file; - is standard input. What stands"
+                          " after a tab is the caption, and without one the text is. A file .csv or .tsv has columns called text and, if there are"
+                          " captions, caption; --columns names others. All symbols get the version of the largest")
+    of_sheet.add_argument("--paper", default=PAPER, metavar="NAME", help=f"the label paper; {PAPER}. There are {', '.join(qrproved.PAPERS)}. Or the size"
+                          f" of the paper, {', '.join(_papers.SIZES)} or WIDTHxHEIGHT in millimetres, which needs --grid")
+    of_sheet.add_argument("--grid", type=grid, metavar="CxR", help="columns and rows of labels, as in 3x8")
+    of_sheet.add_argument("--label", type=pair, metavar="WxH", help="the width and the height of a label in millimetres; without it, what margins and gaps leave")
+    of_sheet.add_argument("--margins", type=pair, metavar="LxT", help="the margins of the paper on the left and at the top; without them, what labels and gaps leave")
+    of_sheet.add_argument("--gaps", type=pair, metavar="AxD", help="the gaps between labels side by side, and one below the other; 0x0")
+    of_sheet.add_argument("--place", type=int, default=1, metavar="N", help="the place of the first label on a sheet that was begun, counted row by row; 1")
+    of_sheet.add_argument("--no-captions", dest="captions", action="store_false", help="write no captions")
+
+
+def completed_sheet(parser: argparse.ArgumentParser, given: argparse.Namespace) -> argparse.Namespace:
+    """Does for a sheet what completed does."""
+    if given.output is None or given.text is not None or given.batch is not None:
+        parser.error("--sheet FILE takes no text and no --batch, and needs the file of the sheets: -o sheet.pdf")
+    given.type = given.type or given.kind or "pdf"
+    if given.type != "pdf":
+        parser.error("sheets of label paper are a PDF: -o sheet.pdf")
+    others = {"--scale": given.scale, "--dpi": given.dpi, "--fit-mm": given.fit_mm, "-x": given.x, "-y": given.y, "--series": given.series, "--jobs": given.jobs,
+              "--names": given.names != "number", "--start": given.start > 1, "--shard": given.shard, "--tar": given.tar, "--resume": given.resume}
+    for name, value in others.items():
+        if value:
+            parser.error(f"{name} is not of --sheet")
+    check_columns(parser, given)
+    if given.output == "-" and sys.stdout.isatty():
+        parser.error("pdf is not written to a terminal: name a file by -o")
+    given.size, given.is_one_file = size_of(given.paper), True
+    return given
+
+
+def check_colours(parser: argparse.ArgumentParser, given: argparse.Namespace) -> None:
+    """Ends the program if a drawing of this type has no colours, and takes the colours apart."""
+    are_given = {"--dark": given.dark is not None, "--light": given.light is not None, "--inverse": given.inverse}
+    named = next((name for name, is_given in are_given.items() if is_given), None)
+    if named is not None and given.type != "svg":
+        parser.error(f"{named} is of an SVG, as with -t svg: {NO_COLOURS[given.type]}")
+    given.dark = _colours.DARK if given.dark is None else given.dark
+    given.light = _colours.LIGHT if given.light is None else None if given.light.lower() == "none" else given.light
 
 
 def completed(parser: argparse.ArgumentParser, given: argparse.Namespace) -> argparse.Namespace:
@@ -327,6 +489,10 @@ def completed(parser: argparse.ArgumentParser, given: argparse.Namespace) -> arg
         except SourceError as fault:
             parser.error(f"--encoding: {fault}")
     given.kind = KINDS.get(os.path.splitext(given.output or "")[1].lower())  # that the name of the file says
+    if given.sheet is not None:
+        completed_sheet(parser, given)
+        check_colours(parser, given)
+        return given
     if given.type is None:
         if given.batch is None and given.output not in (None, "-") and given.kind is None:
             parser.error(f"{given.output} does not end in .png, .svg, .pdf, .eps, .txt, .pbm, .zpl, .tspl or .bin: name the type by -t")
@@ -335,6 +501,7 @@ def completed(parser: argparse.ArgumentParser, given: argparse.Namespace) -> arg
     if given.is_one_file and given.names == "text":
         parser.error("--names is of the files of a folder, and all labels go to one file")
     check_list(parser, given)
+    check_colours(parser, given)
     if (given.batch is None or given.is_one_file) and given.output in (None, "-") and given.type in BINARIES and sys.stdout.isatty():
         parser.error(f"{given.type} is not written to a terminal: name a file by -o")
     if given.series:
@@ -370,14 +537,19 @@ def check_list(parser: argparse.ArgumentParser, given: argparse.Namespace) -> No
     for name, is_given in of_batch.items() if given.batch is None else of_files.items() if given.is_one_file else ():
         if is_given:
             parser.error(f"{name} is of --batch" + (", and of the files of a folder: all labels go to one file" if given.batch is not None else ""))
+    check_columns(parser, given)
+    if "caption" in given.columns and given.type != "svg":
+        parser.error("only an SVG has a caption: -t svg")
+
+
+def check_columns(parser: argparse.ArgumentParser, given: argparse.Namespace) -> None:
+    """Ends the program with the fault of --columns, and takes them apart."""
     if given.columns is not None and given.encoding == BINARY:
         parser.error("--columns are those of a text, and bytes have none")
     try:
         given.columns = columns_of(given.columns)
     except SourceError as fault:
         parser.error(str(fault))
-    if "caption" in given.columns and given.type != "svg":
-        parser.error("only an SVG has a caption: -t svg")
 
 
 def main(words: Optional[list[str]] = None) -> int:
@@ -394,7 +566,8 @@ def main(words: Optional[list[str]] = None) -> int:
         rule = Rule.BYTES_ONLY if given.bytes else Rule.WITH_KANJI if given.kanji else None
         version = 1 if given.version is None else given.version
         settings = Settings(given.type, version, Level[given.level], rule, given.margin, given.scale, given.mm, given.dpi,
-                            given.eci, given.gs1, given.boost, given.x, given.y, given.series, given.is_one_file, given.fit_mm)
+                            given.eci, given.gs1, given.boost, given.x, given.y, given.series, given.is_one_file, given.fit_mm,
+                            given.dark, given.light, given.inverse)
         told = set()  # the warnings that were said
 
         def warn(message: Union[Warning, str], *_: object) -> None:
@@ -404,6 +577,8 @@ def main(words: Optional[list[str]] = None) -> int:
 
         warnings.showwarning = warn
         warnings.simplefilter("ignore" if given.quiet else "always", qrproved.PrintWarning)
+        if given.sheet is not None:
+            return sheet(given, settings, told)
         if given.batch is None:
             return one(given, settings)
         # so that a setting that is out of range is told once, and not for each label

@@ -92,11 +92,12 @@ class Source:
             if line:
                 yield Row(number, number, self.unreadable() if isinstance(line, str) and not is_text(line) else line)
 
-    def rows_by_columns(self, columns: dict[str, str]) -> Iterator[Row]:
-        """Yields a label for each line below the header, which has these columns. The text may go over several lines."""
+    def rows_by_columns(self, columns: dict[str, str], optional: tuple[str, ...] = ()) -> Iterator[Row]:
+        """Yields a label for each line below the header, which has these columns; some kinds of columns may be missing. The text may go over
+        several lines."""
         lines = self.lines()
         header = next(lines, "")
-        separator, places = self._places(header, columns)
+        separator, places = self._places(header, columns, optional)
         reader = csv.reader((f"{line}\n" for line in itertools.chain([header], lines)), delimiter=separator, strict=True)
         next(reader)
         for number in itertools.count(1):
@@ -114,12 +115,12 @@ class Source:
             name, caption = (fields[places[it]] if places.get(it, len(fields)) < len(fields) else None for it in ("name", "caption"))
             yield Row(line, number, data, name or "", caption)
 
-    def _places(self, header: str, columns: dict[str, str]) -> tuple[str, dict[str, int]]:
+    def _places(self, header: str, columns: dict[str, str], optional: tuple[str, ...]) -> tuple[str, dict[str, int]]:
         """Returns the separator by which a header has some columns, and where they are."""
         headers = {it: [name.strip() for name in next(csv.reader([header], delimiter=it), [])] for it in SEPARATORS}
         for separator, names in headers.items():
-            if all(it in names for it in columns.values()):
-                return separator, {kind: names.index(name) for kind, name in columns.items()}
+            if all(name in names for kind, name in columns.items() if kind not in optional):
+                return separator, {kind: names.index(name) for kind, name in columns.items() if name in names}
         names = max(headers.values(), key=len)
         lacking = next((it for it in columns.values() if it not in names), "")
         raise SourceError(f"{self.name} has no column {lacking!r}: its first line has {', '.join(map(repr, names)) or 'none'}")

@@ -22,7 +22,7 @@ from collections.abc import Callable
 from typing import NamedTuple, Optional, Union
 
 import qrproved
-from qrproved import LABELS, Drawing, EciError, Error, Gs1Error, PrintWarning, Symbol
+from qrproved import LABELS, Drawing, EciError, Error, Gs1Error, PrintWarning, Symbol, _colours
 
 __all__ = ["Done", "Label", "Part", "Settings", "Unreadable", "write"]
 
@@ -52,6 +52,10 @@ class Settings(NamedTuple):
     is_label: bool = False
     """Whether the drawing is a label of a file that has several."""
     fit_mm: Optional[float] = None
+    dark: str = _colours.DARK
+    """The colours of an SVG."""
+    light: Optional[str] = _colours.LIGHT
+    inverse: bool = False
 
     def encoded(self, data: Union[str, bytes]) -> list[Symbol]:
         """Returns the symbol of a text or of some bytes, or their series. GS1 data are a text of ASCII: other bytes are refused with it."""
@@ -67,7 +71,7 @@ class Settings(NamedTuple):
         if caption is not None:
             if self.kind != "svg" or self.is_series:
                 raise qrproved.SettingsError("only an SVG of one symbol has a caption")
-            return symbols[0].svg(margin=self.margin, mm=self.mm, caption=caption)
+            return symbols[0].svg(margin=self.margin, mm=self.mm, caption=caption, **self.colours())
         if self.kind == "pdf" and self.is_label:
             return symbols[0].modules
         sizes = {"scale": self.scale, "margin": self.margin, "mm": self.mm, "dpi": self.dpi, "x": self.x, "y": self.y, "fit_mm": self.fit_mm}
@@ -77,6 +81,8 @@ class Settings(NamedTuple):
             return qrproved.draw(symbols, drawing=DRAWINGS[self.kind], margin=self.margin)
         if self.is_series:
             return self.document(symbols)
+        if self.kind == "svg" and self.is_coloured():
+            return symbols[0].svg(margin=self.margin, mm=self.mm, **self.colours())
         file = io.BytesIO()
         symbols[0].save(file, kind=self.kind, **sizes)
         return file.getvalue()
@@ -84,8 +90,16 @@ class Settings(NamedTuple):
     def document(self, symbols: list[Symbol]) -> bytes:
         """Returns a document with all symbols of a series."""
         if self.kind == "svg" and self.mm is None:
-            return qrproved.draw(symbols, drawing=Drawing.SVG, margin=self.margin)
-        return qrproved.document(symbols, kind=self.kind, margin=self.margin, mm=self.mm)
+            drawing = qrproved.draw(symbols, drawing=Drawing.SVG, margin=self.margin)
+        else:
+            drawing = qrproved.document(symbols, kind=self.kind, margin=self.margin, mm=self.mm)
+        return qrproved._coloured(drawing, _colours.colours_of(**self.colours()), None, None) if self.kind == "svg" and self.is_coloured() else drawing
+
+    def colours(self) -> dict[str, object]:
+        return {"dark": self.dark, "light": self.light, "inverse": self.inverse}
+
+    def is_coloured(self) -> bool:
+        return (self.dark, self.light, self.inverse) != (_colours.DARK, _colours.LIGHT, False)
 
 
 class Unreadable(NamedTuple):

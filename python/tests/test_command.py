@@ -53,6 +53,31 @@ class Command(unittest.TestCase):
         for words in (["--mm", "5", "--dpi", "300", "-t", "png"], ["--mm", "5"], ["--dpi", "300", "-t", "svg"]):
             self.assertIn("--mm" if "--mm" in words else "--dpi", run("A", *words, status=2)[1])
 
+    def test_colours(self):
+        symbol, path = qrproved.encode("Shelf 12"), self.room / "a.svg"
+        for words, named in {("--dark", "navy"): {"dark": "navy"}, ("--dark", "#123", "--light", "none"): {"dark": "#123", "light": None},
+                             ("--dark", "white", "--light", "black", "--inverse"): {"dark": "white", "light": "black", "inverse": True},
+                             ("--light", "#ffe", "--mm", "20"): {"light": "#ffe", "mm": 20}}.items():
+            self.assertEqual(run("Shelf 12", "-o", path, *words), (b"", ""))
+            self.assertEqual(path.read_bytes(), symbol.svg(**named))
+        run("--batch", "-", "-o", self.room / "few", "-t", "svg", "--dark", "navy", "--columns", "text=a", "caption=b", given=b"a,b\nShelf 12,no. 1\n")
+        self.assertEqual((self.room / "few/00001.svg").read_bytes(), symbol.svg(dark="navy", caption="no. 1"))
+        run("A long text " * 9, "--series", "-v", "3", "-o", path, "--dark", "#00f")
+        series = path.read_bytes()
+        self.assertEqual((series.count(b"#0000ff"), series.count(b"#000000"), series.count(b"#ffffff")), (1, 0, 1))
+        run("wifi", "ssid=a", "-o", path, "--light", "none")
+        self.assertNotIn(b"<rect", path.read_bytes())
+        for words, why in {("--dark", "yellow"): "contrast of 1.1, and scanners need 3", ("--dark", "#fff", "--light", "#000"): "inverse allows it",
+                           ("--dark", "rouge"): "dark is #rgb", ("--light", "none", "--dark", "white"): "a contrast of 1.0"}.items():
+            self.assertIn(why, run("A", "-o", path, *words, status=1)[1], words)
+            self.assertIn(why, run("--batch", "-", "-t", "svg", "-o", self.room / "none", *words, given=b"A\n", status=1)[1], words)
+        self.assertFalse((self.room / "none").exists())
+        for kind, why in {"png": "colours in PNG are not proved yet", "pdf": "colours in PDF are not proved yet", "eps": "colours in EPS are not proved yet",
+                          "pbm": "a PBM is black and white", "zpl": "printers of labels and receipts print black alone", "utf8": "a text has no colours"}.items():
+            for words in (["--dark", "navy"], ["--light", "none"], ["--inverse"]):
+                said = run("A", "-t", kind, "-o", self.room / "a", *words, status=2)[1]
+                self.assertIn(f"{words[0]} is of an SVG, as with -t svg: {why}", " ".join(said.split()))
+
     def test_contents(self):
         wanted = qrproved.encode(contents.wifi("Caf\u00e9; 1", "correct horse", hidden=True), level="q")
         words = ["-l", "q", "-m", "2", "-q", "-o", self.room / "a.png"]
