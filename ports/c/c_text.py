@@ -117,6 +117,17 @@ def swapped(kind, a):
     return f"swapped_{kind.width}({a})"
 
 
+def saturated(sign):
+    """Returns what makes a sum or a difference of numbers with a sign, or the number at the end of the range that it passes. It passes
+    an end if the numbers have one sign (for a difference: two signs) and the result has another than the first. The end below is one
+    above that on the other side, without its sign."""
+    def made(kind, a, b):
+        result, ones = f"({cut(kind, f'{a} {sign} {b}')})", f"{(1 << kind.width - 1) - 1}u{'ll' if kind.width > 32 else ''}"
+        alike = f"~({a} ^ {b})" if sign == "+" else f"({a} ^ {b})"
+        return f"({cut(kind, f'{alike} & ({a} ^ {result})')}) >> {kind.width - 1} ? {cut(kind, f'({a} >> {kind.width - 1}) + {ones}')} : {result}"
+    return made
+
+
 OF_NUMBERS = {
     "abs": lambda kind, a, _: f"{signed(kind, a)} < 0 ? {cut(kind, f'0u - {a}')} : {a}",
     "bitreverse": lambda kind, a: f"(uint{width_in_c(kind)}_t)(reversed_64({a}) >> {64 - kind.width})",
@@ -126,8 +137,10 @@ OF_NUMBERS = {
     "cttz": trailing,
     "fshl": funnel("left"),
     "fshr": funnel("right"),
+    "sadd.sat": saturated("+"),
     "smax": lambda kind, a, b: f"{signed(kind, a)} > {signed(kind, b)} ? {a} : {b}",
     "smin": lambda kind, a, b: f"{signed(kind, a)} < {signed(kind, b)} ? {a} : {b}",
+    "ssub.sat": saturated("-"),
     "uadd.sat": lambda kind, a, b: f"{cut(kind, f'{a} + {b}')} < {a} ? {(1 << kind.width) - 1}u{'ll' if kind.width > 32 else ''} : "
                                    f"{cut(kind, f'{a} + {b}')}",
     "umax": lambda kind, a, b: f"MAX({a}, {b})",

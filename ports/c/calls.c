@@ -5,11 +5,19 @@
 #endif
 
 /* Where a call takes its memory: from malloc if `end` is NULL, and otherwise from its caller's memory. There a block begins where the
- * last one ended. Only the last block grows where it is, or is given back before the call ends; another one that grows is copied. */
+ * last one ended. Only the last block grows where it is; another one that grows is copied. Without heads only the last block is given
+ * back before the call ends. With heads each block is, as soon as all blocks after it are. */
 struct heap {
 	uint8_t *next; /* where the next block begins, a multiple of BLOCK */
 	uint8_t *end;
 	uint8_t *last; /* the last block */
+	int has_heads;
+};
+
+/* What stands before a block of a heap with heads, in BLOCK bytes. */
+struct head {
+	uint8_t *before; /* the block before it, or NULL */
+	size_t is_free;
 };
 
 enum { BLOCK = 16 }; /* bytes: no block is aligned to more */
@@ -39,6 +47,50 @@ static uint8_t *block_at(struct heap *heap, uint8_t *start, uint64_t size)
 	return start;
 }
 
+static struct head head_of(const uint8_t *block)
+{
+	struct head head;
+	copy(BYTES(&head), BYTES(block) - BLOCK, sizeof head);
+	return head;
+}
+
+static void set_head(uint8_t *block, uint8_t *before, size_t is_free)
+{
+	struct head head;
+	head.before = before;
+	head.is_free = is_free;
+	copy(block - BLOCK, BYTES(&head), sizeof head);
+}
+
+/* Returns a new block, or NULL. */
+static uint8_t *next_block(struct heap *heap, uint64_t size)
+{
+	uint8_t *before = heap->last, *block;
+	if (!heap->has_heads)
+		return block_at(heap, heap->next, size);
+	if ((size_t)(heap->end - heap->next) < BLOCK)
+		return NULL;
+	block = block_at(heap, heap->next + BLOCK, size);
+	if (block)
+		set_head(block, before, 0);
+	return block;
+}
+
+/* Takes a block back, and with heads each block before it that was given back earlier. */
+static void take_back(struct heap *heap, uint8_t *block)
+{
+	if (!heap->has_heads) {
+		if (block == heap->last)
+			heap->next = block;
+		return;
+	}
+	set_head(block, head_of(block).before, 1);
+	while (heap->last && head_of(heap->last).is_free) {
+		heap->next = heap->last - BLOCK;
+		heap->last = head_of(heap->last).before;
+	}
+}
+
 /* A block of no size is one of a unit of its alignment, so that no two blocks are at the same address. */
 static struct s2_i64_i64 m_rattle_alloc(struct heap *heap, uint64_t size, uint64_t alignment)
 {
@@ -47,7 +99,7 @@ static struct s2_i64_i64 m_rattle_alloc(struct heap *heap, uint64_t size, uint64
 	if (!heap->end)
 		return tried(size > SIZE_MAX ? NULL : malloc((size_t)size));
 #endif
-	return tried(block_at(heap, heap->next, size));
+	return tried(next_block(heap, size));
 }
 
 /* If there is no room, the old block stays. */
@@ -61,9 +113,12 @@ static struct s2_i64_i64 m_rattle_realloc(struct heap *heap, uint8_t *old, uint6
 #endif
 	if (old == heap->last)
 		return tried(block_at(heap, old, size));
-	block = block_at(heap, heap->next, size);
-	if (block)
+	block = next_block(heap, size);
+	if (block) {
 		copy(block, old, MIN(old_size, size));
+		if (heap->has_heads)
+			take_back(heap, old);
+	}
 	return tried(block);
 }
 
@@ -75,8 +130,7 @@ static void m_rattle_dealloc(struct heap *heap, uint8_t *block)
 		return;
 	}
 #endif
-	if (block == heap->last)
-		heap->next = block;
+	take_back(heap, block);
 }
 
 /* Returns the heap of a call whose caller has passed memory, perhaps none. */
@@ -88,6 +142,7 @@ static struct heap heap_of(void *memory, size_t memory_len)
 	heap.end = start + memory_len;
 	heap.next = start + (before < memory_len ? before : memory_len);
 	heap.last = NULL;
+	heap.has_heads = 0;
 	return heap;
 }
 
@@ -127,6 +182,24 @@ static uint8_t mend_by(struct heap *heap, const uint8_t *modules, size_t modules
 		turn_64(&mended->eci_count);
 		turn_32(&mended->wrong_modules);
 		turn_ecis(ecis, ecis_len, mended->eci_count);
+	}
+	return status;
+}
+
+static uint8_t find_by(struct heap *heap, const uint8_t *pixels, size_t pixels_len, uint32_t width, uint32_t height, uint32_t stride,
+                       uint32_t unread, uint8_t *modules, size_t modules_len, struct qrproved_found *found, size_t found_len, size_t *count)
+{
+	union slot len = {{0}};
+	uint8_t status = m_qrproved_find(heap, BYTES(pixels), pixels_len, width, height, stride, unread, modules, modules_len, BYTES(found),
+	                                 found_len, len.b);
+	size_t k;
+	if (status != QRPROVED_DONE)
+		return status;
+	*count = (size_t)load_64(len.b);
+	for (k = 0; !IS_LITTLE && k < *count; k++) {
+		turn_32(&found[k].x0), turn_32(&found[k].y0), turn_32(&found[k].x1), turn_32(&found[k].y1);
+		turn_32(&found[k].x2), turn_32(&found[k].y2), turn_32(&found[k].x3), turn_32(&found[k].y3);
+		turn_32(&found[k].side);
 	}
 	return status;
 }
@@ -271,8 +344,18 @@ uint8_t qrproved_parse_drawing_in(void *memory, size_t memory_len, const uint8_t
 	return m_qrproved_parse_drawing(&heap, BYTES(text), text_len, modules, modules_len, BYTES(drawn));
 }
 
+/* A search mends many squares, one after the other, so each has to give its memory back. */
+uint8_t qrproved_find_in(void *memory, size_t memory_len, const uint8_t *pixels, size_t pixels_len, uint32_t width, uint32_t height,
+                         uint32_t stride, uint32_t unread, uint8_t *modules, size_t modules_len, struct qrproved_found *found,
+                         size_t found_len, size_t *count)
+{
+	struct heap heap = heap_of(memory, memory_len);
+	heap.has_heads = 1;
+	return find_by(&heap, pixels, pixels_len, width, height, stride, unread, modules, modules_len, found, found_len, count);
+}
+
 #ifndef QRPROVED_NO_MALLOC
-static const struct heap SYSTEM = {NULL, NULL, NULL};
+static const struct heap SYSTEM = {NULL, NULL, NULL, 0};
 
 uint8_t qrproved_encode(const uint8_t *input, size_t input_len, uint32_t version, uint32_t level, uint32_t rule,
                         uint32_t interpretation, uint32_t boost, uint8_t *modules, size_t modules_len, struct qrproved_symbol *symbol)
@@ -337,5 +420,12 @@ uint8_t qrproved_parse_drawing(const uint8_t *text, size_t text_len, uint8_t *mo
 {
 	struct heap heap = SYSTEM;
 	return m_qrproved_parse_drawing(&heap, BYTES(text), text_len, modules, modules_len, BYTES(drawn));
+}
+
+uint8_t qrproved_find(const uint8_t *pixels, size_t pixels_len, uint32_t width, uint32_t height, uint32_t stride, uint32_t unread,
+                      uint8_t *modules, size_t modules_len, struct qrproved_found *found, size_t found_len, size_t *count)
+{
+	struct heap heap = SYSTEM;
+	return find_by(&heap, pixels, pixels_len, width, height, stride, unread, modules, modules_len, found, found_len, count);
 }
 #endif

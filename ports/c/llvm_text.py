@@ -27,8 +27,8 @@ COMPARISONS = {"eq", "ne", "sge", "sgt", "sle", "slt", "uge", "ugt", "ule", "ult
 CASTS = {"bitcast", "inttoptr", "ptrtoaddr", "ptrtoint", "sext", "trunc", "zext"}
 # Functions of LLVM that only tell it something.
 TOLD = {"assume", "experimental.noalias.scope.decl"}
-INTRINSICS = {"abs", "bitreverse", "bswap", "ctlz", "ctpop", "cttz", "fshl", "fshr", "memcpy", "memmove", "memset", "scmp", "smax",
-              "smin", "trap", "uadd.sat", "uadd.with.overflow", "ucmp", "umax", "umin", "umul.with.overflow", "usub.sat",
+INTRINSICS = {"abs", "bitreverse", "bswap", "ctlz", "ctpop", "cttz", "fshl", "fshr", "memcpy", "memmove", "memset", "sadd.sat", "scmp", "smax",
+              "smin", "ssub.sat", "trap", "uadd.sat", "uadd.with.overflow", "ucmp", "umax", "umin", "umul.with.overflow", "usub.sat",
               "usub.with.overflow", "vector.reduce.add", "vector.reduce.and", "vector.reduce.or", "vector.reduce.umax",
               "vector.reduce.umin", "vector.reduce.xor"}
 
