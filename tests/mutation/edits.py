@@ -28,6 +28,12 @@ class Edit:
         self.refused = re.findall(r"^refused: (\S+)$", self.text, re.M)
         self.callers = [it for it in items.all if it.is_function and (f"{it.owner}::{it.name}" if it.owner else it.name) in named]
 
+    def paths(self):
+        """Returns the paths by which a check of some functions takes those that it touches and its callers, or none if other functions
+        may depend on its change."""
+        paths = [it.path_of_check() for it in self.touched + self.callers]
+        return paths if all(paths) and not self.is_wide else []
+
     def read_changes(self):
         path = old = None
         for line in self.text.split("\n"):

@@ -29,6 +29,12 @@ class Item:
         self.modules = list(dict.fromkeys([*self.modules, module]))
         self.places = list(dict.fromkeys([*self.places, "/".join(it for it in parts if it)]))
 
+    def path_of_check(self):
+        """Returns the path by which a check of some functions takes this one: its own, or that of its module if it is of a trait,
+        since the prover's name of such a function also has the trait's parameters. It is empty if there is none."""
+        module = self.modules[-1]
+        return (self.places[-1] if not self.trait else "" if module in ("lib", "main") else module).replace("/mod", "").replace("/", "::")
+
     def body(self):
         """Returns the lines after its contract, without comments."""
         return re.sub(r"//.*", "", "\n".join(self.text.split("\n")[self.contract_lines():]))
