@@ -12,6 +12,11 @@ TYPE = re.compile(r"^(?:pub(?:\([a-z]+\))? )?(?:struct|enum|trait) (\w+)", re.M)
 WORD = re.compile(r"((?:\b\w+(?:::<[^>]*>)?::)|\.)?\b([A-Za-z_]\w*)\b")
 
 
+def by_colons(place):
+    """Returns a path that has slashes as the prover writes it. The file `mod.rt` of a folder is no part of it."""
+    return re.sub(r"/mod(?=/|$)", "", place).replace("/", "::")
+
+
 class Item:
     """A function, a constant or a table. Its lines are those from `first` to `last`, and `head` is the line before its
     body."""
@@ -33,7 +38,7 @@ class Item:
         """Returns the path by which a check of some functions takes this one: its own, or that of its module if it is of a trait,
         since the prover's name of such a function also has the trait's parameters. It is empty if there is none."""
         module = self.modules[-1]
-        return (self.places[-1] if not self.trait else "" if module in ("lib", "main") else module).replace("/mod", "").replace("/", "::")
+        return by_colons(self.places[-1] if not self.trait else "" if module in ("lib", "main") else module)
 
     def body(self):
         """Returns the lines after its contract, without comments."""

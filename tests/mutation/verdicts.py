@@ -2,6 +2,8 @@
 import os
 import re
 
+from items import by_colons
+
 # What the prover says if a proof depends on something that is not proved. It shows nothing about the function itself.
 RESTS = re.compile(r"was not admitted|which was rejected|is not proved\b.*\bcalls|waits for|wait for a callee")
 # What the prover says if a proof names what a change took away. It shows nothing about the contract.
@@ -76,7 +78,7 @@ def names_of(crate, item, verdicts):
     """Returns the prover's names for a function of the crate and for its closures."""
     ours = []
     for module in item.modules:
-        module = module.replace("/mod", "").replace("/", "::")
+        module = by_colons(module)
         start = f"{crate}::" + ("" if module in ("lib", "main") else f"{module}::")
         if not item.owner:
             ours += [it for it in verdicts if it == start + item.name]
