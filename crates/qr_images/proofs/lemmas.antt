@@ -5,6 +5,7 @@ pub mod pixels
 pub mod copies
 pub mod stream
 pub mod lines
+pub mod quads
 pub mod sums
 pub mod png
 pub mod texts

@@ -3,5 +3,6 @@ pub mod Checksums
 pub mod Codes
 pub mod Lines
 pub mod Pixels
+pub mod Quads
 pub mod Runs
 pub mod Stream

@@ -53,7 +53,7 @@ fn put_line<W: Sink>(
     };
     for done in 0..count {
         pen.reserve(out, 1)?;
-        let byte = next_byte(cells, settings, &mut place);
+        let byte = next_byte(cells, settings.margin, settings.scale, &mut place);
         pen.piece.push(in_tone(byte, line.black));
     }
     Ok(())

@@ -87,7 +87,7 @@ pub(crate) struct LineSums {
     pub(crate) sums: u64,
     ghost short: { len ≤ LINE_MAX },
     ghost small: { sum ≤ 255 * len },
-    ghost smalls: { sums ≤ 255 * LINE_MAX * len },
+    ghost smalls: { sums ≤ 255 * (len * len) },
 }
 
 /// Returns the sums before the first byte.
@@ -96,6 +96,19 @@ pub(crate) fn no_sums() -> Sums
     ensures high { result.high ≡ 0 }
 {
     Sums { low: 1, high: 0 }
+}
+
+/// Returns the sums of no bytes.
+pub(crate) fn no_bytes() -> LineSums
+    ensures len { result.len ≡ 0 }
+    ensures sum { result.sum ≡ 0 }
+    ensures sums { result.sums ≡ 0 }
+{
+    LineSums {
+        len: 0,
+        sum: 0,
+        sums: 0,
+    }
 }
 
 /// Returns the sums of the byte 0, with which a line begins.
@@ -111,20 +124,20 @@ pub(crate) fn first_byte() -> LineSums
 
 /// Returns the sums after a line with the sums `line`, which comes `times` times.
 pub(crate) fn sums_after(sums: Sums, line: LineSums, times: u32) -> Sums
+    requires some { 1 ≤ times }
+    requires few { times ≤ 10000 }
     ensures { (bytes : List ℕ) → IsSummed bytes line.len line.sum line.sums
         → AddsUp sums.low sums.high result.low result.high (repeated times bytes) }
 {
+    let low = u64::from(sums.low);
     let len = u64::from(line.len);
     let sum = u64::from(line.sum);
-    let mut low = u64::from(sums.low);
-    let mut high = u64::from(sums.high);
-    for done in 0..times {
-        high = (high + len * low + line.sums) % 65521;
-        low = (low + sum) % 65521;
-    }
+    let times = u64::from(times);
+    // All these lines are one list of bytes. In it, each line has the bytes of those before it in front of its own.
+    let all = times * line.sums + len * sum * (times * (times - 1) / 2);
     Sums {
-        low: low as u32,
-        high: high as u32,
+        low: ((low + times * sum) % 65521) as u32,
+        high: ((u64::from(sums.high) + times * len * low + all) % 65521) as u32,
     }
 }
 
@@ -141,6 +154,21 @@ pub(crate) fn with_byte(line: LineSums, byte: u8) -> LineSums
         len: line.len + 1,
         sum,
         sums: line.sums + u64::from(sum),
+    }
+}
+
+/// Returns the sums of the bytes of `line` and those of `more` after them.
+#[inline(always)]
+pub(crate) fn with_bytes(line: LineSums, more: LineSums) -> LineSums
+    requires { line.len + more.len ≤ LINE_MAX }
+    ensures len { result.len ≡ line.len + more.len }
+    ensures sum { result.sum ≡ line.sum + more.sum }
+    ensures sums { result.sums ≡ line.sums + (more.len * line.sum + more.sums) }
+{
+    LineSums {
+        len: line.len + more.len,
+        sum: line.sum + more.sum,
+        sums: line.sums + (u64::from(more.len) * u64::from(line.sum) + more.sums),
     }
 }
 

@@ -20,6 +20,7 @@
 //! - `pbm`: writes a PBM file
 //! - `pixels`: the pixels of a line, eight at a time
 //! - `png`: writes a PNG file
+//! - `quads`: the codes of four modules beside each other
 //! - `runs`: runs of hexadecimal digits, as ZPL packs them
 //! - `stream`: the compressed bits, handed on in parts
 //! - `texts`: texts and numbers, of which commands of printers are made
@@ -41,6 +42,7 @@ mod modules;
 mod pbm;
 mod pixels;
 mod png;
+mod quads;
 mod runs;
 mod stream;
 mod texts;

@@ -5,7 +5,6 @@ ghost use Rattle.qr_matrix.specs.Raster.{is_dark_at};
 ghost use Rattle.qr_images.specs.Image.{byte_of};
 ghost use Rattle.qr_images.specs.Steps.Pixels.{is_dark_in};
 
-use crate::image::ImageSettings;
 use crate::modules::Modules;
 
 /// Where the next pixel is: in column `column` of the raster, of which `left` pixels are left.
@@ -81,27 +80,27 @@ fn with_bits(bits: u32, count: u32, bit: bool) -> u32
 /// Returns the byte of the next eight pixels of a row of the raster, and moves on. The row has the modules `cells` between
 /// its margins. After the last column all pixels are white.
 #[inline(always)]
-pub(crate) fn next_byte(cells: &[u8], settings: &ImageSettings, place: &mut Place) -> u8
+pub(crate) fn next_byte(cells: &[u8], margin: u8, scale: u8, place: &mut Place) -> u8
     requires few { length cells.now ≤ 177 }
     requires left { 1 ≤ place.old.left }
-    requires within { place.old.left ≤ settings.now.scale }
+    requires within { place.old.left ≤ scale }
     requires far { place.old.column ≤ 1000 }
-    ensures value { result ≡ byte_of (λ j. not (is_dark_in settings.now.margin cells.now
-        ((place.old.column * settings.now.scale + (settings.now.scale - place.old.left) + j) / settings.now.scale))) }
-    ensures next { place.new.column * settings.now.scale + (settings.now.scale - place.new.left)
-        ≡ place.old.column * settings.now.scale + (settings.now.scale - place.old.left) + 8 }
+    ensures value { result ≡ byte_of (λ j. not (is_dark_in margin cells.now
+        ((place.old.column * scale + (scale - place.old.left) + j) / scale))) }
+    ensures next { place.new.column * scale + (scale - place.new.left)
+        ≡ place.old.column * scale + (scale - place.old.left) + 8 }
     ensures left { 1 ≤ place.new.left }
-    ensures within { place.new.left ≤ settings.now.scale }
+    ensures within { place.new.left ≤ scale }
     ensures far { place.new.column ≤ place.old.column + 8 }
 {
     let mut byte: u32 = 0;
     let mut done: u32 = 0;
     let mut at = *place;
     while done < 8 {
-        let black = is_dark(cells, settings.margin, at.column);
+        let black = is_dark(cells, margin, at.column);
         let count = at.left.min(8 - done);
         byte = with_bits(byte, count, !black);
-        at = moved(at, settings.scale, count);
+        at = moved(at, scale, count);
         done += count;
     }
     *place = at;

@@ -61,7 +61,7 @@ fn put_packed_line<W: Sink>(
         left: u32::from(settings.scale),
     };
     for done in 0..count {
-        let byte = next_byte(cells, settings, &mut place);
+        let byte = next_byte(cells, settings.margin, settings.scale, &mut place);
         put_byte(pen, out, &mut run, 255 - byte)?;
     }
     put_run(pen, out, run)

@@ -19,8 +19,8 @@ with_bits-byte-requires-clause-small c = digits-in _ c.loop-done.done c.loop-don
 pub loop-done-preserved : goal.loop-done-preserved
 loop-done-preserved c =
     let inv = c.loop-done.invariant in
-    let scale = c.args.settings.now.scale in
-    let dark = is_dark_in c.args.settings.now.margin c.args.cells.now in
+    let scale = c.args.scale in
+    let dark = is_dark_in c.args.margin c.args.cells.now in
     let start = c.args.place.now.column * scale + (scale - c.args.place.now.left) in
     let count : c.min-count.result ≤ c.loop-done.at.left = omega (arith, c.min-count.ensures) in
     let rest : c.loop-done.done + c.min-count.result ≤ 8 = omega (arith, c.min-count.ensures, inv.within8) in
@@ -43,6 +43,6 @@ overflow_cast-result c =
 pub returns-clause-value : goal.returns-clause-value
 returns-clause-value c =
     let n : c.loop-done.done ≡ 8 = omega (arith, c.loop-done.invariant.within8) in
-    let scale = c.args.settings.now.scale in
-    let p = λ (j : ℕ). not (is_dark_in c.args.settings.now.margin c.args.cells.now ((c.args.place.now.column * scale + (scale - c.args.place.now.left) + j) / scale)) in
+    let scale = c.args.scale in
+    let p = λ (j : ℕ). not (is_dark_in c.args.margin c.args.cells.now ((c.args.place.now.column * scale + (scale - c.args.place.now.left) + j) / scale)) in
     c.loop-done.invariant.value ∙ ap (digits_of p) n ∙ eight-digits p

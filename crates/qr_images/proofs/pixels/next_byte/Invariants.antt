@@ -5,11 +5,11 @@ use Rattle.qr_images.proofs.pixels.next_byte.Given as goal
 
 abbrev pub invariant-loop-done : goal.invariant-loop-done
 invariant-loop-done l = record {
-  value : l.byte ≡ digits_of (λ j. not (is_dark_in l.settings.margin l.cells ((l.fn.place.column * l.settings.scale + (l.settings.scale - l.fn.place.left) + j) / l.settings.scale))) l.done;
+  value : l.byte ≡ digits_of (λ j. not (is_dark_in l.margin l.cells ((l.fn.place.column * l.scale + (l.scale - l.fn.place.left) + j) / l.scale))) l.done;
   within8 : l.done ≤ 8;
-  next : l.at.column * l.settings.scale + (l.settings.scale - l.at.left) ≡ l.fn.place.column * l.settings.scale + (l.settings.scale - l.fn.place.left) + l.done;
+  next : l.at.column * l.scale + (l.scale - l.at.left) ≡ l.fn.place.column * l.scale + (l.scale - l.fn.place.left) + l.done;
   left : 1 ≤ l.at.left;
-  within : l.at.left ≤ l.settings.scale;
+  within : l.at.left ≤ l.scale;
   far : l.at.column ≤ l.fn.place.column + l.done;
 }
 
