@@ -1,8 +1,9 @@
 //! Writes the image of a square of modules as a PNG file, as a PBM file, or in a language of printers: ESC/POS, TSPL or
 //! ZPL. The file is written to a device in pieces, or into a buffer, and no memory is allocated for it.
 //!
-//! In a PNG file the lines of pixels are compressed as one block of deflate, with codes that are constants. A line is
-//! written byte by byte, and lines that are the same follow as copies. No choice depends on the modules.
+//! In a PNG file the lines of pixels are compressed as one block of deflate, with codes that are constants. A line has
+//! the codes of all its bytes, and lines that are the same follow as copies. No choice depends on the modules. If the
+//! scale is even, the codes of four modules at a time are looked up.
 //!
 //! The files of `src`:
 //!
