@@ -13,7 +13,7 @@ from typing import NamedTuple
 from damage import inverted, unread
 from libraries import DEFAULT, ECI_UTF8, GS1, LEVELS, MARK, STATUSES, Content, Drawn, Found, Library, Mended, Series, Sheet, Symbol, check
 from samples import EIGHT_DIGITS, LETTER
-from squares import codewords_of, interleaved, layout, side_of, square_of
+from squares import codewords_of, data_of, interleaved, layout, side_of, square_of
 
 SPARE = 8  # bytes of a buffer after the room that a call is told of
 # Numbers of levels and rules.
@@ -439,17 +439,22 @@ REMAINDERS = [("each remainder bit alone", [b"A"] * 7)]
 
 
 def read_back(library, data, version, level, rule):
-    """Encodes an input, and reads the symbol. Returns the bytes, the version, and whether there are kanji."""
+    """Encodes an input, and reads the symbol. Returns the mode indicator of the first segment, which the independent model finds, the bytes
+    that are read, the version, and whether there are kanji."""
     symbol = encode(library, data, version, level, rule)
+    if symbol.status != "DONE":
+        return verdict(symbol)
+    first = data_of(version, LEVELS[level], codewords_of(symbol.written, version, symbol.told.mask))[0]
     it = read(library, symbol.written, symbol.told.side, len(data))
-    return it.written, *fields(it.told, "version", "has_kanji")
+    return first >> 4, it.written, *fields(it.told, "version", "has_kanji")
 
 
+# The mode indicators are those of Table 2.
 READ_BACK = [
-    ("eight digits at 1-M", b"01234567", 1, M, AUTO, (b"01234567", 1, 0)),
-    ("letters and digits as bytes at 1-L", b"ab012", 1, L, BYTES_ONLY, (b"ab012", 1, 0)),
-    ("two kanji at 1-L", b"\x93\x5F\xE4\xAA", 1, L, WITH_KANJI, (b"\x93\x5F\xE4\xAA", 1, 1)),
-    *((f"a letter at {version}-{LEVELS[level]}", b"A", version, level, AUTO, (b"A", version, 0)) for version in range(1, 41) for level in range(4)),
+    ("eight digits at 1-M", b"01234567", 1, M, AUTO, (1, b"01234567", 1, 0)),
+    ("letters and digits as bytes at 1-L", b"ab012", 1, L, BYTES_ONLY, (4, b"ab012", 1, 0)),
+    ("two kanji at 1-L", b"\x93\x5F\xE4\xAA", 1, L, WITH_KANJI, (8, b"\x93\x5F\xE4\xAA", 1, 1)),
+    *((f"a letter at {version}-{LEVELS[level]}", b"A", version, level, AUTO, (2, b"A", version, 0)) for version in range(1, 41) for level in range(4)),
 ]
 
 
@@ -524,23 +529,29 @@ MENDED_DIGITS = [
 
 
 def mended_unknown(library, unknown, pairs):
-    """Mends `EIGHT_DIGITS` with modules that are not known, and others that are wrong."""
+    """Mends `EIGHT_DIGITS` with modules that are not known, and others that are wrong. Returns the bytes, the mask and the damage."""
     it = mend(library, unread(wrong(*pairs), places(*unknown)), 21, 8)
-    return told_by(it, "wrong_modules", "wrong_format_modules", "changed_most", "spent_most", "worst_misread", "worst_unknown")
+    damage = told_by(it, "wrong_modules", "wrong_format_modules", "changed_most", "spent_most", "worst_misread", "worst_unknown")
+    return (it.written, it.told.mask, damage) if it.status == "DONE" else damage
+
+
+def mended_with(*damage):
+    """Returns what mending eight digits with this damage has to return."""
+    return b"01234567", 0, damage
 
 
 # At 1-M eight of the ten error correction codewords correct errors, and two only detect them. A codeword with a module that is not
 # known uses up one of the eight, and a misread codeword uses up two.
 MENDED_UNKNOWN = [
-    ("no module", (), (), (0, 0, 0, 0, 0, 0)),
-    ("five codewords with a module that is not known", CODEWORDS[:5], (), (5, 0, 0, 5, 0, 5)),
-    ("eight codewords", CODEWORDS[:8], (), (8, 0, 0, 8, 0, 8)),
+    ("no module", (), (), mended_with(0, 0, 0, 0, 0, 0)),
+    ("five codewords with a module that is not known", CODEWORDS[:5], (), mended_with(5, 0, 0, 5, 0, 5)),
+    ("eight codewords", CODEWORDS[:8], (), mended_with(8, 0, 0, 8, 0, 8)),
     ("nine codewords", CODEWORDS, (), "CHECK"),
-    ("four, and two misread", CODEWORDS[:4], CODEWORDS[4:6], (6, 0, 2, 8, 2, 4)),
-    ("five, and one misread", CODEWORDS[:5], CODEWORDS[6:7], (6, 0, 1, 7, 1, 5)),
+    ("four, and two misread", CODEWORDS[:4], CODEWORDS[4:6], mended_with(6, 0, 2, 8, 2, 4)),
+    ("five, and one misread", CODEWORDS[:5], CODEWORDS[6:7], mended_with(6, 0, 1, 7, 1, 5)),
     ("five, and two misread", CODEWORDS[:5], CODEWORDS[5:7], "CHECK"),
-    ("five, and a module of the format information", CODEWORDS[:5], FORMATS[:1], (6, 1, 0, 5, 0, 5)),
-    ("three modules of the format information", FORMATS[:3], (), (3, 3, 0, 0, 0, 0)),
+    ("five, and a module of the format information", CODEWORDS[:5], FORMATS[:1], mended_with(6, 1, 0, 5, 0, 5)),
+    ("three modules of the format information", FORMATS[:3], (), mended_with(3, 3, 0, 0, 0, 0)),
 ]
 
 
