@@ -3,7 +3,7 @@
  * WHAT is `whole` or `changed`. `whole` draws symbols of all versions, levels and types, with margins from 0 to 100,
  * and series of up to 16 symbols. Parsing has to find the squares that were drawn. `changed` makes one to four changes
  * in each drawing. The text has to be refused, or has to be the drawing of what is returned, which is drawn again to
- * see that. Prints how many drawings there were, or the first that fails. */
+ * see that. More than nine of ten have to be refused. Prints how many drawings there were, or the first that fails. */
 #include "qrproved.h"
 #include <stdio.h>
 #include <stdlib.h>
@@ -114,6 +114,8 @@ static int changed(uint32_t most)
 			return fault("drawn otherwise", k, status);
 		parsed += 1;
 	}
+	if (10 * parsed >= most)
+		return fault("too many changed drawings are parsed", parsed, 0);
 	printf("%u changed drawings are refused, or what is returned\n", most);
 	fprintf(stderr, "%u of %u parsed\n", parsed, most);
 	return 0;

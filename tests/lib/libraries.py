@@ -10,12 +10,12 @@ import subprocess
 
 import squares
 from growths import TOP
+from squares import MARGIN, ascii_of
 
 STRICT = ["-std=c11", "-O1", "-Wall", "-Wextra", "-pedantic", "-Werror", f"-I{TOP}/include"]
 # The library that is installed, and another one; what `make` is told of them.
 BUILDS = {"LLVM": [], "Rattle's own compiler": ["LIBRARY_FLAGS=--cpu x86-64 --backend rattle", "LIBRARY_OUT=out/by-rattle/lib"]}
 LONG = 7200  # seconds: what stands below the library is proved again if no earlier run kept it
-MARGIN = 4
 LEVELS = "LMQH"
 with open(f"{TOP}/python/qrproved/common.json", encoding="utf-8") as it:
     COMMON = json.load(it)  # what tests/library compares with the header
@@ -66,13 +66,6 @@ def built(name, room):
         shutil.copy(f"{TOP}/{place}/{file}", out)
     os.symlink(f"{out}/libqrproved.so.1", f"{out}/libqrproved.so")
     return out
-
-
-def ascii_of(modules, side, margin=MARGIN):
-    """Returns the drawing of a square as ASCII."""
-    light = b"  " * (side + 2 * margin) + b"\n"
-    lines = [b"".join(b"##" if it else b"  " for it in modules[row * side:(row + 1) * side]) for row in range(side)]
-    return light * margin + b"".join(b"  " * margin + line + b"  " * margin + b"\n" for line in lines) + light * margin
 
 
 def bytes_of(*names):

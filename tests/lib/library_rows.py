@@ -1,15 +1,19 @@
 """Rows for the calls of the library. A row says in words what is tried, and then what a call is given and what it has to return and
 write. The values were worked out by hand, are those of the standard (ISO/IEC 18004:2015), or come from another encoder. None comes from
-the library.
+the library. 1-M stands for version 1 and level M.
 
 Before a call each byte that it might write is MARK. Its buffer is longer than the room that the call is told of."""
 import ctypes
+import functools
+import operator
+from collections import Counter
 from functools import partial
 from typing import NamedTuple
 
 from damage import inverted, unread
-from libraries import DEFAULT, ECI_UTF8, GS1, MARK, STATUSES, Content, Drawn, Found, Library, Mended, Series, Sheet, Symbol, check
-from squares import interleaved, square_of
+from libraries import DEFAULT, ECI_UTF8, GS1, LEVELS, MARK, STATUSES, Content, Drawn, Found, Library, Mended, Series, Sheet, Symbol, check
+from samples import EIGHT_DIGITS, LETTER
+from squares import codewords_of, data_of, interleaved, layout, side_of, square_of
 
 SPARE = 8  # bytes of a buffer after the room that a call is told of
 # Numbers of levels and rules.
@@ -19,6 +23,7 @@ NUMERIC, ALPHANUMERIC, BYTE, KANJI = range(4)
 ASCII, ASCII_INVERSE, UTF8, SVG = range(4)
 SVG_MM, EPS, PDF = range(3)
 PBM = 1
+MOST_MODULES = 177 * 177  # of a symbol, which is one of version 40
 
 # ---- calls
 
@@ -55,8 +60,8 @@ def told_by(it, *names):
     return fields(it.told, *names) if it.status == "DONE" else verdict(it)
 
 
-def encode(library, data, version, level, rule, interpretation=DEFAULT, boost=0, room=625, call="qrproved_encode"):
-    """Encodes an input. The room is that of version 2 if it is not given."""
+def encode(library, data, version, level, rule, interpretation=DEFAULT, boost=0, room=MOST_MODULES, call="qrproved_encode"):
+    """Encodes an input. There is room for each symbol if the room is not given."""
     given = data, len(data), version, level, rule, interpretation, boost
     return called(getattr(library.library, call), given, Symbol(), room)
 
@@ -127,34 +132,10 @@ def image(library, side, format, scale, margin, pixels_a_metre, room):
 
 # ---- one symbol
 
-# The symbol of `A` in byte mode at version 1 and level L (1-L), as another encoder draws it.
-LETTER = """
-111111100101101111111
-100000100111001000001
-101110101101101011101
-101110100101001011101
-101110100010101011101
-100000100000101000001
-111111101010101111111
-000000001101100000000
-111011111111011000100
-101100001000001000110
-010111100110100010001
-010110001100001000100
-001101101000101010101
-000000001001010101010
-111111101011011101111
-100000101111110111000
-101110101101011101101
-101110100110001000110
-101110101100100010001
-100000101000001000110
-111111101110101010111
-""".replace("\n", "")
-LETTER_AS_MODULES = bytes(map(int, LETTER))
 # The bits of `LETTER`, one after the other: 441 of them take 55 bytes and a bit.
-LETTER_AS_BITS = int(LETTER.ljust(56 * 8, "0"), 2).to_bytes(56, "big")
-DIGITS, LETTERS, TEN_KANJI = b"7" * 7090, b"a" * 81, b"\x93\x5F" * 10
+LETTER_AS_BITS = int("".join(map(str, LETTER)).ljust(56 * 8, "0"), 2).to_bytes(56, "big")
+# The longest input is 113,425 digits.
+DIGITS, LETTERS, TEN_KANJI = b"7" * 113_425, b"a" * 47_217, b"\x93\x5F" * 10
 
 
 def symbol(library, call, data, version, level, rule, room):
@@ -164,7 +145,7 @@ def symbol(library, call, data, version, level, rule, room):
 
 SYMBOLS = [
     # two bytes more than the symbol takes
-    ("a letter at 1-L", encode, b"A", 1, L, BYTES_ONLY, 443, ("DONE", (1, 21, L, 0), LETTER_AS_MODULES)),
+    ("a letter at 1-L", encode, b"A", 1, L, BYTES_ONLY, 443, ("DONE", (1, 21, L, 0), LETTER)),
     ("a letter at 1-L as bits", encode_bits, b"A", 1, L, BYTES_ONLY, 58, ("DONE", (1, 21, L, 0), LETTER_AS_BITS)),
 ]
 
@@ -183,15 +164,18 @@ def version_and_mask(library, *given):
     return told_by(encode(library, *given, room=441), "version", "mask")
 
 
-# The masks are those of another encoder.
+# The masks are those of another encoder. If two masks have the same penalty, it is the first of them.
 MASKS = [
-    ("a letter at 1-Q", b"g", 1, Q, AUTO, (1, 0)),
+    ("a letter at 1-Q, a tie of masks 0 and 4", b"g", 1, Q, AUTO, (1, 0)),
     ("five letters at 1-L", b"hello", 1, L, AUTO, (1, 7)),
+    ("letters and digits at 1-L", b"ab012", 1, L, AUTO, (1, 3)),
+    ("two letters at 1-L, a tie of masks 3 and 7", b"BR", 1, L, AUTO, (1, 3)),
+    ("two letters at 1-L, a tie of masks 6 and 7", b"CE", 1, L, AUTO, (1, 6)),
 ]
 
 
-def least_version(library, data, level, rule, interpretation=DEFAULT):
-    it = encode(library, data, 1, level, rule, interpretation)
+def least_version(library, data, level, rule, interpretation=DEFAULT, smallest=1):
+    it = encode(library, data, smallest, level, rule, interpretation)
     return it.told.version if it.status == "DONE" else verdict(it)
 
 
@@ -199,6 +183,8 @@ def least_version(library, data, level, rule, interpretation=DEFAULT):
 LEAST_VERSIONS = [
     ("41 digits at L", DIGITS[:41], L, AUTO, 1),
     ("42 digits at L", DIGITS[:42], L, AUTO, 2),
+    ("42 digits at L, from version 3 on", DIGITS[:42], L, AUTO, DEFAULT, 3, 3),
+    ("7,089 digits at L", DIGITS[:7089], L, AUTO, 40),
     ("34 digits at M", DIGITS[:34], M, AUTO, 1),
     ("35 digits at M", DIGITS[:35], M, AUTO, 2),
     ("27 digits at Q", DIGITS[:27], Q, AUTO, 1),
@@ -243,6 +229,23 @@ BOOSTED = [
     ("35 digits at M", DIGITS[:35], M, (2, Q)),
     ("42 digits", DIGITS[:42], L, (2, Q)),
     ("17 digits at H", DIGITS[:17], H, (1, H)),
+    ("7,089 digits", DIGITS[:7089], L, (40, L)),
+]
+
+
+def codewords(library, data, version, level, begin, end):
+    """Returns codewords of the symbol of an input in byte mode. The independent model says where they are in the square."""
+    it = encode(library, data, version, level, BYTES_ONLY)
+    return codewords_of(it.written, version, it.told.mask)[begin:end] if it.status == "DONE" else verdict(it)
+
+
+# The data codewords of 60 bytes in byte mode at 5-Q. All but three of them are their own index. There are four blocks, of 15, 15, 16 and 16
+# data codewords.
+INDICES = bytes([0x43, 0xC1, *range(2, 61), 0xD0])
+SIXTY_BYTES = bytes((a & 15) << 4 | b >> 4 for a, b in zip(INDICES[1:], INDICES[2:]))
+INTERLEAVED = [
+    ("the first two codewords of four blocks", SIXTY_BYTES, 5, Q, 0, 8, bytes([0x43, 15, 30, 46, 0xC1, 16, 31, 47])),
+    ("the sixteenth of the two long blocks", SIXTY_BYTES, 5, Q, 60, 62, bytes([45, 0xD0])),
 ]
 
 
@@ -252,7 +255,9 @@ def encoding_verdict(library, call, data, version, level, rule, room):
 
 REFUSED_SYMBOLS = [
     ("no byte", encode, b"", 1, L, AUTO, 441, "EMPTY"),
-    ("7,090 digits", encode, DIGITS, 1, L, AUTO, 441, "TOO_LONG"),
+    ("7,090 digits", encode, DIGITS[:7090], 1, L, AUTO, 441, "TOO_LONG"),
+    ("2,954 letters", encode, LETTERS[:2954], 1, L, AUTO, 441, "TOO_LONG"),
+    ("the longest input", encode, DIGITS, 1, L, AUTO, 441, "TOO_LONG"),
     ("2,954 digits as bytes", encode, DIGITS[:2954], 1, L, BYTES_ONLY, 441, "TOO_LONG"),
     ("version 0", encode, b"7", 0, L, AUTO, 441, "SETTINGS"),
     ("version 41", encode, b"7", 41, L, AUTO, 441, "SETTINGS"),
@@ -265,7 +270,7 @@ REFUSED_SYMBOLS = [
     ("440 bytes", encode, b"7", 1, H, AUTO, 440, "ROOM"),
     ("no room", encode, b"7", 1, H, AUTO, 0, "ROOM"),
     ("no byte as bits", encode_bits, b"", 1, L, AUTO, 56, "EMPTY"),
-    ("7,090 digits as bits", encode_bits, DIGITS, 1, L, AUTO, 56, "TOO_LONG"),
+    ("7,090 digits as bits", encode_bits, DIGITS[:7090], 1, L, AUTO, 56, "TOO_LONG"),
     ("version 41 as bits", encode_bits, b"7", 41, L, AUTO, 56, "SETTINGS"),
     ("level 4 as bits", encode_bits, b"7", 1, 4, AUTO, 56, "SETTINGS"),
     ("55 bytes for bits", encode_bits, b"7", 1, H, AUTO, 55, "ROOM"),
@@ -311,13 +316,40 @@ EDGE = bytes([1, 1, 1, 1, 1, 1, 1, 0])  # of a finder pattern and its separator
 SERIES = [("eight letters at 1-H", ("DONE", (2, 21), EDGE, EDGE, 882))]
 
 
+def parts(library, data, version, level, rule):
+    """Encodes a series, and reads its symbols. Returns how many bytes each of them contains, if their headers are those of this series and
+    their bytes are the input."""
+    got = library.encoded_series((data, version, LEVELS[level], rule))
+    if isinstance(got, int):
+        return STATUSES[got]
+    squares, side = got
+    read = [library.read(square, side) for square in squares]
+    parity = functools.reduce(operator.xor, data)
+    headers = [(1, k, len(squares) - 1, parity) for k in range(len(squares))] if len(squares) > 1 else [(0, 0, 0, 0)]
+    is_whole = b"".join(it[0] for it in read) == data and [fields(it[1], *HEADER) for it in read] == headers
+    return [len(it[0]) for it in read] if is_whole else read
+
+
+PARTS = [
+    ("7 letters at 1-H", b"ABCDEFG", 1, H, BYTES_ONLY, [7]),
+    ("8 letters at 1-H", b"ABCDEFGH", 1, H, BYTES_ONLY, [5, 3]),
+    # the longest input in byte mode and the longest of digits that 16 symbols at 1-H can hold, and the longest in byte mode at 40-L
+    ("80 letters at 1-H", LETTERS[:80], 1, H, BYTES_ONLY, [5] * 16),
+    ("176 digits at 1-H", DIGITS[:176], 1, H, AUTO, [11] * 16),
+    ("47,216 letters at 40-L", LETTERS[:47_216], 40, L, BYTES_ONLY, [2951] * 16),
+]
+
+
 def series_verdict(library, *given):
     return verdict(encode_series(library, *given))
 
 
 REFUSED_SERIES = [
     ("no byte", b"", 1, H, BYTES_ONLY, 882, "EMPTY"),
-    ("81 letters", LETTERS, 1, H, BYTES_ONLY, 882, "TOO_MANY"),
+    ("81 letters", LETTERS[:81], 1, H, BYTES_ONLY, 882, "TOO_MANY"),
+    ("177 digits", DIGITS[:177], 1, H, AUTO, 882, "TOO_MANY"),
+    ("the longest input", DIGITS, 1, H, AUTO, 882, "TOO_MANY"),
+    ("47,217 letters at 40-L", LETTERS, 40, L, BYTES_ONLY, 16 * MOST_MODULES, "TOO_MANY"),
     ("version 0", LETTERS[:8], 0, H, BYTES_ONLY, 882, "SETTINGS"),
     ("version 41", LETTERS[:8], 41, H, BYTES_ONLY, 882, "SETTINGS"),
     ("version 257", LETTERS[:8], 257, H, BYTES_ONLY, 882, "SETTINGS"),
@@ -355,18 +387,6 @@ ROOMS = [
 
 # ---- symbols that are read
 
-# (If the library does not write a symbol, the two functions below return light modules, so that the rows fail.)
-
-def eight_digits(library):
-    """Returns the symbol of the digits 01234567 at version 1 and level M (1-M)."""
-    return encode(library, b"01234567", 1, M, AUTO).written.ljust(441, b"\0")
-
-
-def part_of_series(library, position):
-    """Returns one of the two symbols of `PARTED`."""
-    return encode_series(library, *PARTED, room=882).written.ljust(882, b"\0")[441 * position:441 * (position + 1)]
-
-
 # A symbol at 1-M whose data codewords begin with the bits 0110, which are no mode indicator.
 ANOTHER_MODE = square_of(1, "M", 0, interleaved(1, "M", b"\x60" * 16))
 
@@ -376,21 +396,9 @@ def places(*pairs):
     return [21 * row + column for row, column in pairs]
 
 
-def with_wrong(*pairs):
-    """Returns what inverts these modules of a symbol of version 1."""
-    return partial(inverted, places=places(*pairs))
-
-
-def whole(modules):
-    return modules
-
-
-def without_last(modules):
-    return modules[:-1]
-
-
-def another_mode(_):
-    return ANOTHER_MODE
+def wrong(*pairs):
+    """Returns `EIGHT_DIGITS` with these modules inverted."""
+    return inverted(EIGHT_DIGITS, places(*pairs))
 
 
 HEADER = "has_header", "position", "last", "parity"
@@ -401,13 +409,58 @@ def content(library, modules, room):
     return it.status, it.written, fields(it.told, "len", "version", *HEADER)
 
 
-def read_digits(library, dark):
-    """Reads eight digits with this byte for each dark module. There is room for two bytes more."""
-    return content(library, eight_digits(library).replace(b"\1", bytes([dark])), 10)
+DIGITS_READ = "DONE", b"01234567", (8, 1, 0, 0, 0, 0)
+# There is room for two bytes more.
+READ = [
+    ("eight digits", EIGHT_DIGITS, 10, DIGITS_READ),
+    # each byte but 0 stands for a dark module, so 200 means the same as 1
+    ("eight digits whose dark modules are 200", EIGHT_DIGITS.replace(b"\1", b"\xC8"), 10, DIGITS_READ),
+    ("a corner of a finder pattern inverted", wrong((0, 0)), 10, DIGITS_READ),
+    ("a module of the second format information inverted", wrong((20, 8)), 10, DIGITS_READ),
+]
 
 
-# Each byte but 0 stands for a dark module, so 200 means the same as 1.
-READ_DIGITS = [("eight digits whose dark modules are 200", 200, ("DONE", b"01234567", (8, 1, 0, 0, 0, 0)))]
+def each_inverted(library):
+    """Inverts each module of `EIGHT_DIGITS` alone. Returns how often which bytes are read, or none."""
+    return Counter(content(library, inverted(EIGHT_DIGITS, [place]), 8)[:2] for place in range(441))
+
+
+# 15 modules are the first copy of the format information, 208 belong to codewords, and all others are ignored.
+EACH_INVERTED = [("each module alone", {("FORMAT", b""): 15, ("CHECK", b""): 208, ("DONE", b"01234567"): 218})]
+
+
+def remainder_inverted(library):
+    """Inverts each of the modules after the 44 codewords of version 2 alone. Returns the bytes that are read."""
+    square = encode(library, b"A", 2, L, AUTO).written.ljust(625, b"\0")
+    return [read(library, inverted(square, [place]), 25, 8).written for place in layout(2).remainder]
+
+
+REMAINDERS = [("each remainder bit alone", [b"A"] * 7)]
+
+
+def read_back(library, data, version, level, rule):
+    """Encodes an input, and reads the symbol. Returns the mode indicator of the first segment, which the independent model finds, the bytes
+    that are read, the version, and whether there are kanji."""
+    symbol = encode(library, data, version, level, rule)
+    if symbol.status != "DONE":
+        return verdict(symbol)
+    first = data_of(version, LEVELS[level], codewords_of(symbol.written, version, symbol.told.mask))[0]
+    it = read(library, symbol.written, symbol.told.side, len(data))
+    return first >> 4, it.written, *fields(it.told, "version", "has_kanji")
+
+
+# The mode indicators are those of Table 2.
+READ_BACK = [
+    ("eight digits at 1-M", b"01234567", 1, M, AUTO, (1, b"01234567", 1, 0)),
+    ("letters and digits as bytes at 1-L", b"ab012", 1, L, BYTES_ONLY, (4, b"ab012", 1, 0)),
+    ("two kanji at 1-L", b"\x93\x5F\xE4\xAA", 1, L, WITH_KANJI, (8, b"\x93\x5F\xE4\xAA", 1, 1)),
+    *((f"a letter at {version}-{LEVELS[level]}", b"A", version, level, AUTO, (2, b"A", version, 0)) for version in range(1, 41) for level in range(4)),
+]
+
+
+def part_of_series(library, position):
+    """Returns one of the two symbols of `PARTED`. If the library does not write it, returns light modules, so that the row fails."""
+    return encode_series(library, *PARTED, room=882).written.ljust(882, b"\0")[441 * position:441 * (position + 1)]
 
 
 def read_part(library, position):
@@ -420,96 +473,116 @@ READ_PARTS = [
 ]
 
 
-def reading_verdict(library, change, side, room):
-    return verdict(read(library, change(eight_digits(library)), side, room))
+def reading_verdict(library, modules, side, room):
+    return verdict(read(library, modules, side, room))
 
 
 UNREAD = [
-    ("no side", whole, 0, 8, "SIDE"),
-    ("side 20", whole, 20, 8, "SIDE"),
-    ("side 22", whole, 22, 8, "SIDE"),
-    ("side 181", whole, 181, 8, "SIDE"),
-    ("side 277", whole, 277, 8, "SIDE"),
-    ("440 modules", without_last, 21, 8, "ROOM"),
-    ("room for 7 bytes", whole, 21, 7, "ROOM"),
-    ("another format information", with_wrong((0, 8)), 21, 8, "FORMAT"),
-    ("another codeword", with_wrong((20, 20)), 21, 8, "CHECK"),
-    ("another mode", another_mode, 21, 8, "SEGMENTS"),
+    ("no side", EIGHT_DIGITS, 0, 8, "SIDE"),
+    ("side 20", EIGHT_DIGITS, 20, 8, "SIDE"),
+    ("side 22", EIGHT_DIGITS, 22, 8, "SIDE"),
+    ("side 181", EIGHT_DIGITS, 181, 8, "SIDE"),
+    ("side 277", EIGHT_DIGITS, 277, 8, "SIDE"),
+    *((f"a light square of side {side}", bytes(side * side), side, 8, status)
+      for side, status in ((1, "SIDE"), (17, "SIDE"), (20, "SIDE"), (21, "FORMAT"), (22, "SIDE"), (176, "SIDE"), (177, "FORMAT"))),
+    ("440 modules", EIGHT_DIGITS[:-1], 21, 8, "ROOM"),
+    ("room for 7 bytes", EIGHT_DIGITS, 21, 7, "ROOM"),
+    ("another format information", wrong((0, 8)), 21, 8, "FORMAT"),
+    ("another first codeword", wrong((20, 20)), 21, 8, "CHECK"),
+    ("another last codeword", wrong((12, 0)), 21, 8, "CHECK"),
+    ("another mode", ANOTHER_MODE, 21, 8, "SEGMENTS"),
 ]
 
 # ---- symbols that are mended
 
-# Five modules of a symbol at 1-M, each in a different codeword.
-CODEWORDS = (20, 20), (16, 20), (12, 20), (9, 18), (13, 18)
+# Nine modules of a symbol at 1-M, each in a different codeword.
+CODEWORDS = (20, 20), (16, 20), (12, 20), (9, 18), (13, 18), (17, 18), (20, 16), (16, 16), (12, 16)
 # Four modules of the first copy of the format information, then four of the second.
 FORMATS = (0, 8), (1, 8), (2, 8), (3, 8), (8, 20), (8, 19), (8, 18), (8, 17)
 DAMAGE = "wrong_modules", "wrong_format_modules", "wrong_format_least", "changed_most", "spent_most", "worst_misread", "worst_unknown"
 
 
-def mended_digits(library, wrong):
-    """Mends eight digits with these modules wrong. There is room for two bytes more."""
-    it = mend(library, inverted(eight_digits(library), places(*wrong)), 21, 10)
-    others = fields(it.told, "len", "version", "level", "changed_allowed", "has_kanji", *HEADER)
-    return it.status, it.written, others, it.told.mask < 8, dict(zip(DAMAGE, fields(it.told, *DAMAGE)))
+def mended_digits(library, *pairs):
+    """Mends `EIGHT_DIGITS` with these modules wrong. There is room for two bytes more."""
+    it = mend(library, wrong(*pairs), 21, 10)
+    others = fields(it.told, "len", "version", "level", "mask", "changed_allowed", "has_kanji", *HEADER)
+    return it.status, it.written, others, dict(zip(DAMAGE, fields(it.told, *DAMAGE)))
 
 
 def mended_as(wrong_modules, wrong_format_modules, wrong_format_least, changed_most, spent_most):
     """Returns what mending eight digits has to return. At 1-M up to four misread codewords of the 26 can be corrected."""
     damage = wrong_modules, wrong_format_modules, wrong_format_least, changed_most, spent_most, changed_most, 0
-    return "DONE", b"01234567", (8, 1, M, 4, 0, 0, 0, 0, 0), True, dict(zip(DAMAGE, damage))
+    return "DONE", b"01234567", (8, 1, M, 0, 4, 0, 0, 0, 0, 0), dict(zip(DAMAGE, damage))
 
 
 MENDED_DIGITS = [
-    ("as drawn", (), mended_as(0, 0, 0, 0, 0)),
-    ("a module of the timing pattern", [(6, 9)], mended_as(1, 0, 0, 0, 0)),
-    ("one of the format information", FORMATS[:1], mended_as(1, 1, 0, 0, 0)),
-    ("seven of the format information", FORMATS[:7], mended_as(7, 7, 3, 0, 0)),
-    ("a codeword", CODEWORDS[:1], mended_as(1, 0, 0, 1, 2)),
-    ("four codewords", CODEWORDS[:4], mended_as(4, 0, 0, 4, 8)),
+    ("as drawn", mended_as(0, 0, 0, 0, 0)),
+    ("a module of the timing pattern", (6, 9), mended_as(1, 0, 0, 0, 0)),
+    ("a module of the timing pattern and one of a finder pattern", (6, 9), (0, 0), mended_as(2, 0, 0, 0, 0)),
+    ("one of the format information", *FORMATS[:1], mended_as(1, 1, 0, 0, 0)),
+    ("three of its first copy", *FORMATS[:3], mended_as(3, 3, 0, 0, 0)),
+    ("four of its first copy", *FORMATS[:4], mended_as(4, 4, 0, 0, 0)),
+    ("seven of the format information", *FORMATS[:7], mended_as(7, 7, 3, 0, 0)),
+    ("a codeword", *CODEWORDS[:1], mended_as(1, 0, 0, 1, 2)),
+    ("four codewords", *CODEWORDS[:4], mended_as(4, 0, 0, 4, 8)),
 ]
 
 
-def mended_unknown(library, wrong):
-    """Mends eight digits with a module of five codewords not known, and these modules wrong."""
-    it = mend(library, unread(inverted(eight_digits(library), places(*wrong)), places(*CODEWORDS)), 21, 8)
-    return told_by(it, "wrong_modules", "wrong_format_modules", "changed_most", "spent_most", "worst_misread", "worst_unknown")
+def mended_unknown(library, unknown, pairs):
+    """Mends `EIGHT_DIGITS` with modules that are not known, and others that are wrong. Returns the bytes, the mask and the damage."""
+    it = mend(library, unread(wrong(*pairs), places(*unknown)), 21, 8)
+    damage = told_by(it, "wrong_modules", "wrong_format_modules", "changed_most", "spent_most", "worst_misread", "worst_unknown")
+    return (it.written, it.told.mask, damage) if it.status == "DONE" else damage
+
+
+def mended_with(*damage):
+    """Returns what mending eight digits with this damage has to return."""
+    return b"01234567", 0, damage
 
 
 # At 1-M eight of the ten error correction codewords correct errors, and two only detect them. A codeword with a module that is not
 # known uses up one of the eight, and a misread codeword uses up two.
 MENDED_UNKNOWN = [
-    ("five codewords with a module that is not known", (), (5, 0, 0, 5, 0, 5)),
-    ("five, and one misread", [(20, 16)], (6, 0, 1, 7, 1, 5)),
-    ("five, and two misread", [(20, 16), (16, 16)], "CHECK"),
-    ("five, and a module of the format information", FORMATS[:1], (6, 1, 0, 5, 0, 5)),
+    ("no module", (), (), mended_with(0, 0, 0, 0, 0, 0)),
+    ("five codewords with a module that is not known", CODEWORDS[:5], (), mended_with(5, 0, 0, 5, 0, 5)),
+    ("eight codewords", CODEWORDS[:8], (), mended_with(8, 0, 0, 8, 0, 8)),
+    ("nine codewords", CODEWORDS, (), "CHECK"),
+    ("four, and two misread", CODEWORDS[:4], CODEWORDS[4:6], mended_with(6, 0, 2, 8, 2, 4)),
+    ("five, and one misread", CODEWORDS[:5], CODEWORDS[6:7], mended_with(6, 0, 1, 7, 1, 5)),
+    ("five, and two misread", CODEWORDS[:5], CODEWORDS[5:7], "CHECK"),
+    ("five, and a module of the format information", CODEWORDS[:5], FORMATS[:1], mended_with(6, 1, 0, 5, 0, 5)),
+    ("three modules of the format information", FORMATS[:3], (), mended_with(3, 3, 0, 0, 0, 0)),
 ]
 
 
-def mended_part(library):
-    """Mends the second symbol of a series. The wrong module is a bit of its first codeword."""
-    it = mend(library, with_wrong((20, 20))(part_of_series(library, 1)), 21, 3)
+def mended_part(library, position):
+    """Mends a symbol of a series. The wrong module is a bit of its first codeword."""
+    it = mend(library, inverted(part_of_series(library, position), places((20, 20))), 21, 5)
     damage = fields(it.told, "wrong_modules", "wrong_format_modules", "changed_most", "changed_allowed")
     return it.status, it.written, fields(it.told, "len", "version", "level", *HEADER), damage
 
 
-MENDED_PARTS = [("the second symbol of a series", ("DONE", b"FGH", (3, 1, H, 1, 1, 1, 0x08), (1, 0, 1, 8)))]
+MENDED_PARTS = [
+    ("the first symbol of a series", 0, ("DONE", b"ABCDE", (5, 1, H, 1, 0, 1, 0x08), (1, 0, 1, 8))),
+    ("the second symbol of a series", 1, ("DONE", b"FGH", (3, 1, H, 1, 1, 1, 0x08), (1, 0, 1, 8))),
+]
 
 
-def mending_verdict(library, change, side, room):
-    return verdict(mend(library, change(eight_digits(library)), side, room))
+def mending_verdict(library, modules, side, room):
+    return verdict(mend(library, modules, side, room))
 
 
 UNMENDED = [
-    ("no side", whole, 0, 8, "SIDE"),
-    ("side 22", whole, 22, 8, "SIDE"),
-    ("side 181", whole, 181, 8, "SIDE"),
-    ("side 277", whole, 277, 8, "SIDE"),
-    ("440 modules", without_last, 21, 8, "ROOM"),
-    ("room for 7 bytes", whole, 21, 7, "ROOM"),
-    ("a byte of no module", lambda modules: without_last(modules) + b"\3", 21, 8, "SETTINGS"),
-    ("four wrong modules of each copy", with_wrong(*FORMATS), 21, 8, "FORMAT"),
-    ("five codewords", with_wrong(*CODEWORDS), 21, 8, "CHECK"),
-    ("another mode", another_mode, 21, 8, "SEGMENTS"),
+    ("no side", EIGHT_DIGITS, 0, 8, "SIDE"),
+    ("side 22", EIGHT_DIGITS, 22, 8, "SIDE"),
+    ("side 181", EIGHT_DIGITS, 181, 8, "SIDE"),
+    ("side 277", EIGHT_DIGITS, 277, 8, "SIDE"),
+    ("440 modules", EIGHT_DIGITS[:-1], 21, 8, "ROOM"),
+    ("room for 7 bytes", EIGHT_DIGITS, 21, 7, "ROOM"),
+    ("a byte of no module", EIGHT_DIGITS[:-1] + b"\3", 21, 8, "SETTINGS"),
+    ("four wrong modules of each copy", wrong(*FORMATS), 21, 8, "FORMAT"),
+    ("five codewords", wrong(*CODEWORDS[:5]), 21, 8, "CHECK"),
+    ("another mode", ANOTHER_MODE, 21, 8, "SEGMENTS"),
 ]
 
 # ---- drawings
@@ -523,6 +596,54 @@ TEXTS = [
     ("two squares as half blocks", 2, 2, UTF8, 0, 80, done("▄▀\n▀▄\n".encode())),
     ("two squares with a margin", 2, 2, ASCII, 1, 80,
      done(b"        \n  ##    \n    ##  \n        \n        \n    ##  \n  ##    \n        \n")),
+]
+
+
+def line(library, count, drawing, margin, number, begin=0, end=None):
+    """Draws `EIGHT_DIGITS` so many times. Returns a line, counted from 0, or a part of it."""
+    text = library.drawing([EIGHT_DIGITS] * count, 21, drawing, margin)
+    return text if isinstance(text, str) else text.split(b"\n")[number][begin:end]
+
+
+PATH = b'<path fill="#000000" d="M4 4h7v1h-7zM14 4h3v1h-3zM18 4h7v1h-7zM4 5h1v1h-1z'
+PATH_OF_TWO = b'<path fill="#000000" d="M0 0h7v1h-7zM10 0h3v1h-3z'
+SVG_HEAD = b'<svg xmlns="http://www.w3.org/2000/svg" version="1.1" viewBox="0 0 %d %d" shape-rendering="crispEdges">'
+SVG_PAPER = b'<rect x="0" y="0" width="%d" height="%d" fill="#ffffff"/>'
+TEXT_LINES = [
+    ("the last line of the margin as ASCII", 1, ASCII, 4, 3, b" " * 58),
+    ("the first row as ASCII", 1, ASCII, 4, 4, b"        ##############      ######  ##############        "),
+    ("the first row as ASCIIi", 1, ASCII_INVERSE, 0, 0, b"              ######      ##              "),
+    ("the first two rows as half blocks", 1, UTF8, 0, 0, " ▄▄▄▄▄ █▀▀ ▄▄█ ▄▄▄▄▄ ".encode()),
+    ("the last row as half blocks", 1, UTF8, 0, 10, "▄▄▄▄▄▄▄█▄██▄█▄▄▄██▄█▄".encode()),
+    ("the margin as half blocks", 1, UTF8, 4, 0, ("█" * 29).encode()),
+    ("the second line of the margin as half blocks", 1, UTF8, 4, 1, ("█" * 29).encode()),
+    ("the first two rows as half blocks in a margin", 1, UTF8, 4, 2, 0, 32, "████ ▄▄▄▄▄ █".encode()),
+    ("the first line of SVG", 1, SVG, 4, 0, b'<?xml version="1.0" encoding="UTF-8"?>'),
+    ("the head of SVG", 1, SVG, 4, 1, SVG_HEAD % (29, 29)),
+    ("the paper of SVG", 1, SVG, 4, 2, SVG_PAPER % (29, 29)),
+    ("the path of SVG", 1, SVG, 4, 3, 0, len(PATH), PATH),
+    ("the end of the path", 1, SVG, 4, 3, -11, None, b'h1v1h-1z"/>'),
+    ("the last line of SVG", 1, SVG, 4, 4, b"</svg>"),
+    ("the head of SVG with two squares", 2, SVG, 0, 1, SVG_HEAD % (21, 42)),
+    ("the paper of SVG with two squares", 2, SVG, 0, 2, SVG_PAPER % (21, 42)),
+    ("the path of two squares", 2, SVG, 0, 3, 0, len(PATH_OF_TWO), PATH_OF_TWO),
+]
+
+
+def times(library, part, count, drawing, margin):
+    """Draws `EIGHT_DIGITS` so many times. Returns how often a part is in the text."""
+    text = library.drawing([EIGHT_DIGITS] * count, 21, drawing, margin)
+    return text if isinstance(text, str) else text.count(part)
+
+
+TIMES = [
+    ("lines of ASCII", b"\n", 1, ASCII, 4, 29),
+    ("lines of ASCIIi", b"\n", 1, ASCII_INVERSE, 0, 21),
+    ("lines of half blocks", b"\n", 1, UTF8, 0, 11),
+    ("lines of half blocks in a margin", b"\n", 1, UTF8, 4, 15),
+    ("lines of SVG", b"\n", 1, SVG, 4, 5),
+    ("lines of SVG with two squares", b"\n", 2, SVG, 0, 5),
+    ("the path of the second square", b"zM0 21h7v1h-7zM10 21h3v1h-3z", 2, SVG, 0, 1),
 ]
 REFUSED_TEXTS = [
     ("side 0", 0, 1, ASCII, 0, 8, SETTINGS),
@@ -801,6 +922,11 @@ TYPED = bytes([
 ])
 TYPED_AS_ASCII = (b"##############  \n##          ##  \n##  ######  ##  \n##  ######  ####\n"
                   b"##  ######  ##  \n##          ####\n##############  \n                \n")
+# The same in ASCIIi with a margin of one module, and in half blocks.
+TYPED_AS_INVERSE = (b"####################\n##              ####\n##  ##########  ####\n##  ##      ##  ####\n"
+                    b"##  ##      ##    ##\n##  ##      ##  ####\n##  ##########    ##\n##              ####\n"
+                    b"####################\n####################\n")
+TYPED_AS_BLOCKS = " ▄▄▄▄▄ █\n █   █ ▀\n █▄▄▄█ ▀\n▄▄▄▄▄▄▄█\n".encode()
 TWO_TYPED = TYPED + TYPED[:-1] + b"\1"
 
 
@@ -809,7 +935,11 @@ def parsed(library, text, room):
     return it.status, fields(it.told, "drawing", "margin", "count", "side"), it.written
 
 
-PARSED = [("a square typed by hand", TYPED_AS_ASCII, 66, ("DONE", (ASCII, 0, 1, 8), TYPED))]
+PARSED = [
+    ("a square typed by hand", TYPED_AS_ASCII, 66, ("DONE", (ASCII, 0, 1, 8), TYPED)),
+    ("a square typed by hand as ASCIIi", TYPED_AS_INVERSE, 66, ("DONE", (ASCII_INVERSE, 1, 1, 8), TYPED)),
+    ("a square typed by hand as half blocks", TYPED_AS_BLOCKS, 66, ("DONE", (UTF8, 0, 1, 8), TYPED)),
+]
 
 
 def parsed_again(library, drawing, margin):
@@ -822,6 +952,26 @@ PARSED_AGAIN = [(f"two squares, drawing {drawing}, margin {margin}", drawing, ma
                 for drawing in range(4) for margin in (0, 1, 100)]
 
 
+def parsed_and_read(library, data, version, level, drawing, margin):
+    """Draws a series in byte mode, and parses the drawing. Returns what it shows, and the bytes that the squares contain."""
+    squares, side = library.encoded_series((data, version, LEVELS[level], BYTES_ONLY))
+    got = library.parsed(library.drawing(squares, side, drawing, margin))
+    if isinstance(got, str):
+        return got
+    shown, *others = got
+    return (len(shown), *others), b"".join(library.read(square, side)[0] for square in shown)
+
+
+PARSED_AND_READ = [
+    *((f"a letter at version {version}, drawing {drawing}, margin {margin}", b"A", version, L, drawing, margin,
+       ((1, side_of(version), drawing, margin), b"A"))
+      for version in (1, 2, 7, 40) for drawing in range(4) for margin in (0, 1, 4, 100)),
+    *((f"{count} symbols, drawing {drawing}, margin {margin}", LETTERS[:length], 1, H, drawing, margin,
+       ((count, 21, drawing, margin), LETTERS[:length]))
+      for length, count in ((8, 2), (80, 16)) for drawing in range(4) for margin in (0, 3)),
+]
+
+
 def parsing_verdict(library, text, room):
     return verdict(parse_drawing(library, text, room))
 
@@ -829,6 +979,18 @@ def parsing_verdict(library, text, room):
 UNPARSED = [
     ("no text", b"", 64, "NO_DRAWING"),
     ("a line too few", TYPED_AS_ASCII[:119], 64, "NO_DRAWING"),
+    ("an empty line", b"\n", 64, "NO_DRAWING"),
+    ("half a module", b"#", 64, "NO_DRAWING"),
+    ("a module", b"##\n", 64, "NO_DRAWING"),
+    ("the first tag", b"<svg>", 64, "NO_DRAWING"),
+    ("a large number", b"<9 9 9 9 9 9 9 9 9 9 9999999999999999999999 9 9 9 9 9 9 9 9", 64, "NO_DRAWING"),
+    ("numbers alone", b"<0 0 0 0 0 0 0 0 0 687 10993 0 0 0 0 0 ", 64, "NO_DRAWING"),
+    ("a light line", b" " * 42 + b"\n", 64, "NO_DRAWING"),
+    ("a half block", b"\xE2\x96\x84\n", 64, "NO_DRAWING"),
+    # a square is read from each of these two, but the drawing of the square is longer than the text
+    ("half blocks in fewer bytes", b" \x84\x84\x84\x84\x84 \xE2\x88\n \x88   \x88 \x80\n \x88\x84\x84\x84\x88 \x80\n\x84\x84\x84\x84\x84\x84\x84\x88\n",
+     64, "NO_DRAWING"),
+    ("a path without what comes before it", b"<0 0 0 0 0 0 0 0 0 8 8 M0 0h7v1h-7zM0 1h1v1h-1z", 64, "NO_DRAWING"),
     ("no room", TYPED_AS_ASCII, 0, "ROOM"),
     ("a byte too few", TYPED_AS_ASCII, 63, "ROOM"),
 ]
@@ -885,6 +1047,7 @@ BESIDE = [
 # What makes the calls, and its rows: a name, what it is given after the library, and at the end what it has to return.
 TABLES = {
     "encoded": (symbol, SYMBOLS),
+    "codewords": (codewords, INTERLEAVED),
     "bits": (beginning_of_bits, BEGINNINGS),
     "version and mask": (version_and_mask, MASKS),
     "least version": (least_version, LEAST_VERSIONS),
@@ -892,9 +1055,13 @@ TABLES = {
     "not encoded": (encoding_verdict, REFUSED_SYMBOLS),
     "interpretation": (interpretation_verdict, INTERPRETATIONS),
     "series": (series, SERIES),
+    "series that is read": (parts, PARTS),
     "no series": (series_verdict, REFUSED_SERIES),
     "room": (Library.room, ROOMS),
-    "read": (read_digits, READ_DIGITS),
+    "read": (content, READ),
+    "modules inverted": (each_inverted, EACH_INVERTED),
+    "remainder bits inverted": (remainder_inverted, REMAINDERS),
+    "encoded and read": (read_back, READ_BACK),
     "read in a series": (read_part, READ_PARTS),
     "not read": (reading_verdict, UNREAD),
     "mended": (mended_digits, MENDED_DIGITS),
@@ -902,6 +1069,8 @@ TABLES = {
     "mended in a series": (mended_part, MENDED_PARTS),
     "not mended": (mending_verdict, UNMENDED),
     "drawn": (draw, TEXTS),
+    "line": (line, TEXT_LINES),
+    "part of a text": (times, TIMES),
     "not drawn": (draw, REFUSED_TEXTS),
     "drawn line": (draw_row, LINES),
     "no line": (draw_row, REFUSED_LINES),
@@ -914,6 +1083,7 @@ TABLES = {
     "no image": (image, REFUSED_IMAGES),
     "parsed": (parsed, PARSED),
     "drawn and parsed": (parsed_again, PARSED_AGAIN),
+    "drawn, parsed and read": (parsed_and_read, PARSED_AND_READ),
     "not parsed": (parsing_verdict, UNPARSED),
     "found": (find, SEARCHES),
     "found beside each other": (found_side_by_side, BESIDE),

@@ -61,6 +61,16 @@ COUNT_WIDTHS = {1: (10, 12, 14), 2: (9, 11, 13), 4: (8, 16, 16), 8: (8, 10, 12)}
 CHARACTERS = b"0123456789ABCDEFGHIJKLMNOPQRSTUVWXYZ $%*+-./:"
 
 
+MARGIN = 4  # modules around a symbol
+
+
+def ascii_of(modules, side, margin=MARGIN):
+    """Returns the drawing of a square as ASCII."""
+    light = b"  " * (side + 2 * margin) + b"\n"
+    lines = [b"".join(b"##" if it else b"  " for it in modules[row * side:(row + 1) * side]) for row in range(side)]
+    return light * margin + b"".join(b"  " * margin + line + b"  " * margin + b"\n" for line in lines) + light * margin
+
+
 def picture(square, side, scale, margin):
     """Returns the lines of the picture of a square in which a module is `scale` pixels wide. A line is bytes, of which the left pixel is
     the highest bit, and 1 is black."""

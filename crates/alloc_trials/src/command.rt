@@ -52,19 +52,29 @@ pub fn settings(alloc: Global) -> Result<Answer, AllocError> {
     Ok(answer.given(are(&list, &words)))
 }
 
-// Runs the command. If no memory is refused, it should return `status`, the bytes on standard output should begin with
-// `prefix`, and those on standard error should contain `part`.
+// What a run does if no memory is refused.
+#[derive(Clone, Copy)]
+struct Wanted {
+    status: u8,
+    // How the bytes on standard output begin.
+    prefix: &'static str,
+    // A part of the bytes on standard error.
+    part: &'static str,
+    // How often standard output is flushed.
+    flushes: u64,
+}
+
+// Runs the command. `faults` are those of standard output.
 fn ran(
     alloc: Global,
     words: &[&str],
     input: &[u8],
-    status: u8,
-    prefix: &str,
-    part: &str,
+    faults: Faults,
+    wanted: Wanted,
 ) -> Result<Answer, AllocError> {
     let list = line(alloc, words)?;
     let mut input = Trial::reader(alloc, input, Faults::NONE)?;
-    let mut out = Trial::writer(alloc, 10_000, Faults::NONE)?;
+    let mut out = Trial::writer(alloc, 10_000, faults)?;
     let mut err = Trial::writer(alloc, 4000, Faults::NONE)?;
     let ended = run(alloc, &list, &mut input, &mut out, &mut err);
     let answer = if err.bytes() == OUT_OF_MEMORY.as_bytes() {
@@ -75,8 +85,13 @@ fn ran(
         }
     } else {
         let message = str::from_utf8(err.bytes()).unwrap_or("");
+        let writes = out.writes();
         Answer::of(
-            ended == status && out.bytes().starts_with(prefix.as_bytes()) && message.contains(part),
+            ended == wanted.status
+                && out.bytes().starts_with(wanted.prefix.as_bytes())
+                && message.contains(wanted.part)
+                && writes.flushes == wanted.flushes
+                && writes.settled == (ended == 0),
         )
     };
     Ok(answer.given(are(&list, words)))
@@ -84,27 +99,66 @@ fn ran(
 
 pub fn run_of_a_series(alloc: Global) -> Result<Answer, AllocError> {
     let words = ["-S", "-8", "-v", "1", "-l", "H", "-t", "SVG"];
-    ran(alloc, &words, b"ABCDEFGH", 0, "<?xml", "")
+    let wanted = Wanted {
+        status: 0,
+        prefix: "<?xml",
+        part: "",
+        flushes: 1,
+    };
+    ran(alloc, &words, b"ABCDEFGH", Faults::NONE, wanted)
+}
+
+// The drawing is written, and then the flush fails.
+pub fn run_with_a_failing_flush(alloc: Global) -> Result<Answer, AllocError> {
+    let words = ["-8", "-v", "1", "-m", "0", "-t", "ASCII"];
+    let faults = Faults {
+        flush_fails: true,
+        ..Faults::NONE
+    };
+    let wanted = Wanted {
+        status: 1,
+        prefix: "##############",
+        part: "qrencode: write error\n",
+        flushes: 1,
+    };
+    ran(alloc, &words, b"A", faults, wanted)
 }
 
 pub fn run_of_no_byte(alloc: Global) -> Result<Answer, AllocError> {
     let words = ["-t", "ASCII", ""];
-    ran(alloc, &words, b"", 1, "", "qrencode: input is empty\n")
+    let wanted = Wanted {
+        status: 1,
+        prefix: "",
+        part: "qrencode: input is empty\n",
+        flushes: 0,
+    };
+    ran(alloc, &words, b"", Faults::NONE, wanted)
 }
 
 pub fn run_of_refused_words(alloc: Global) -> Result<Answer, AllocError> {
     let words = ["-v", "41", "-t", "ASCII"];
-    ran(alloc, &words, b"A", 1, "", "0..=40")
+    let wanted = Wanted {
+        status: 1,
+        prefix: "",
+        part: "0..=40",
+        flushes: 0,
+    };
+    ran(alloc, &words, b"A", Faults::NONE, wanted)
 }
 
 pub fn run_with_kanji(alloc: Global) -> Result<Answer, AllocError> {
     let words = ["-k", "-i", "-m", "0", "-t", "ASCII"];
+    let wanted = Wanted {
+        status: 0,
+        prefix: "##############",
+        part: "",
+        flushes: 1,
+    };
     ran(
         alloc,
         &words,
         &[0x93, 0x5F, 0xE4, 0xAA, b'a'],
-        0,
-        "##############",
-        "",
+        Faults::NONE,
+        wanted,
     )
 }

@@ -29,7 +29,7 @@ use std::process::ExitCode;
 
 // The names of the trials. The trials of a crate come after those of the crates that it uses, and the trials with an ECI
 // or with GS1 data come last.
-static NAMES: [&str; 43] = [
+static NAMES: [&str; 44] = [
     "Matrix::new",
     "matrix_of_bytes",
     "matrices_of_bytes",
@@ -62,6 +62,7 @@ static NAMES: [&str; 43] = [
     "parse_drawing of SVG",
     "options",
     "run_series",
+    "run_flush",
     "run_empty",
     "run_words",
     "run_kanji",
@@ -110,6 +111,7 @@ fn trial(alloc: Global, name: &str) -> Result<Answer, AllocError> {
         "parse_drawing of SVG" => drawings::svg(alloc),
         "options" => command::settings(alloc),
         "run_series" => command::run_of_a_series(alloc),
+        "run_flush" => command::run_with_a_failing_flush(alloc),
         "run_empty" => command::run_of_no_byte(alloc),
         "run_words" => command::run_of_refused_words(alloc),
         "run_kanji" => command::run_with_kanji(alloc),

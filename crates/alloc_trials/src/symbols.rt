@@ -327,10 +327,14 @@ pub fn joined(alloc: Global) -> Result<Answer, AllocError> {
     Ok(answer.given(is_same))
 }
 
+// A label has 21 lines of modules, and then a line with the words. The first line begins with the top row of a finder
+// pattern.
 pub fn labelled(alloc: Global) -> Result<Answer, AllocError> {
     let words = Vec::from_slice(alloc, &LETTERS)?;
     let answer = match label(alloc, &words, Level::L, Version::FIRST) {
-        Ok(text) => Answer::of(text.starts_with(b"#######") && text.ends_with(b"ABCDEFGH\n")),
+        Ok(text) => Answer::of(
+            text.starts_with(b"#######") && text.get(21 * 22..) == Some(&b"ABCDEFGH\n"[..]),
+        ),
         Err(EncodeFault::Memory) => ENCODE_OUT,
         Err(_) => Answer::Other,
     };

@@ -119,6 +119,17 @@ fn series(rt: HostRuntime) -> Result<(), Fail> {
         wanted.as_slice(),
         "a terminator and a pad"
     );
+    let only = Header {
+        position: 0,
+        last: 0,
+        parity: 0x41,
+    };
+    let data = encode(&rt, b"A", Mode::Byte, Some(only), Level::L)?;
+    let wanted = [
+        0x30, 0x04, 0x14, 0x01, 0x41, 0x00, 0xEC, 0x11, 0xEC, 0x11, 0xEC, 0x11, 0xEC, 0x11, 0xEC,
+        0x11, 0xEC, 0x11, 0xEC,
+    ];
+    check_eq!(rt; data.as_slice(), wanted.as_slice(), "a series of one");
     Ok(())
 }
 

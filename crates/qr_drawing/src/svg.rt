@@ -14,7 +14,7 @@ use itoa::Buffer;
 use qr_devices::{DrawFault, PEN_SIZE, Pen, Piece, Sink, WRITE_MAX};
 
 // How many bytes of room the pen has to have before a box is appended. A box has at most 22 bytes. With another number
-// than 32 the writes would have other sizes, and the test `sizes_of_single_writes` in `command_tests` would fail.
+// than 32 the writes would have other sizes, and `tests/devices` would fail.
 const BOX_MAX: usize = 32;
 
 // How many bytes of room the pen has to have for all that comes before the first box. This is at most 263 bytes: 39 of

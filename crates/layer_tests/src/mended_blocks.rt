@@ -1,5 +1,7 @@
+//! Tests of damaged blocks, which are mended.
+
 use crate::checks::{check, check_eq};
-use crate::samples::EIGHT_DIGITS;
+use crate::symbols::EIGHT_DIGITS;
 use qr_field::Divisor;
 use qr_mending::{mend, mend_with_erasures};
 use std::process::Abort;

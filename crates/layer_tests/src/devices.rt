@@ -1,9 +1,8 @@
-//! Tests of `Counted` and of `Bounded`. `Counted` passes calls on to a `Read` or a `Write` of the standard library, and
-//! turns the errors that they return into `Trouble`. `Bounded` is a writer in memory.
+//! Tests of `Counted`, which passes calls on to a `Read` or a `Write` of the standard library, and turns the errors that
+//! they return into `Trouble`. No contract says that a flush is passed on.
 
-use crate::checks::{check, check_eq};
-use qr_devices::Bounded;
-use qrencode_cli::{Counted, Sink, Source, Trouble};
+use crate::checks::check_eq;
+use qr_devices::{Counted, Sink, Source, Trouble};
 use std::io::{self, ErrorKind, Read, Write};
 
 // A reader and writer whose first call is interrupted, whose second fails, and whose later calls succeed. It counts its
@@ -79,17 +78,4 @@ fn writes_and_flushes_are_passed_on(rt: HostRuntime) {
     check_eq!(rt; device.flush(), Ok(()));
     check_eq!(rt; calls, 4);
     check_eq!(rt; flushes, 2);
-}
-
-#[test]
-fn a_bounded_writer_takes_what_it_has_room_for(rt: HostRuntime) {
-    let mut device = Counted::new(Bounded {
-        bytes: Vec::new(rt.alloc()),
-        most: 3,
-    });
-    check_eq!(rt; device.write(b"ab"), Ok(2));
-    check_eq!(rt; device.write(b"cd"), Ok(1));
-    check_eq!(rt; device.write(b"e"), Ok(0));
-    check_eq!(rt; device.flush(), Ok(()));
-    check!(rt; device.into_inner().bytes.as_slice() == b"abc".as_slice());
 }
