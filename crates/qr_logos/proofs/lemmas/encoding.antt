@@ -182,6 +182,12 @@ module _ (smallest : ℕ) (lowest : Level) (rule : Rule) (how : Interpretation) 
         symbol = rw (same, level) (rw same at is);
       }
 
+  -- an input that has a size fits a version at the lowest level
+  pub size-fits : (k v : ℕ) (l : Level) → 1 ≤ smallest → IsLogoSize smallest lowest rule how x share k v l
+      → HasNoVersion smallest lowest rule how x → ⊥
+  size-fits k v l one h none =
+      none v h.carries.least h.carries.most (fits-lower v lowest l rule how x (omega (arith, one, h.carries.least)) h.carries.most h.carries.level h.carries.fits)
+
   -- ---- faults
 
   abbrev pub Faults : {X : Type 0} → (k : ℕ) → Result X LogoFault → Type 0
@@ -192,7 +198,7 @@ module _ (smallest : ℕ) (lowest : Level) (rule : Rule) (how : Interpretation) 
       → IsLogoSize smallest lowest rule how x share k v l → Faults k (Ok s)
   faults-none k v l s one some short h = record {
     empty = (λ e. absurd cc, λ none. absurd (some none));
-    too_long = (λ e. absurd cc, λ w. absurd (w.1 v h.carries.least h.carries.most (fits-lower v lowest l rule how x (omega (arith, h.carries.least)) h.carries.most h.carries.level h.carries.fits)));
+    too_long = (λ e. absurd cc, λ w. absurd (size-fits k v l one h w.1));
     long = λ more. absurd (omega arith);
     logo = λ n. (λ e. absurd cc, λ w. absurd (omega (arith, w.2.largest k v l h.carries, w.3)));
     fault = tt;
