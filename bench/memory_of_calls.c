@@ -74,10 +74,13 @@ static __attribute__((noinline)) void make(void)
 	struct qrproved_drawn drawn;
 	size_t written;
 	uint32_t count;
+	uint8_t largest;
 	if (!strcmp(call, "encode"))
 		status = qrproved_encode(input, input_len, number, level, rule, interpretation, boost, out, sizeof out, &symbol);
 	else if (!strcmp(call, "encode_bits"))
 		status = qrproved_encode_bits(input, input_len, number, level, rule, interpretation, boost, out, sizeof out, &symbol);
+	else if (!strcmp(call, "encode_logo"))
+		status = qrproved_encode_logo(input, input_len, number, level, rule, interpretation, 10, 50, out, sizeof out, &symbol, &largest);
 	else if (!strcmp(call, "encode_series"))
 		status = qrproved_encode_series(input, input_len, number, level, rule, interpretation, out, sizeof out, &series);
 	else if (!strcmp(call, "read"))

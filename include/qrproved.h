@@ -1,4 +1,4 @@
-/* QR Code symbols (ISO/IEC 18004:2015, QR Code Model 2): calls that encode an input as a symbol or as a series of symbols,
+/* QR Code symbols (ISO/IEC 18004:2015, QR Code Model 2): calls that encode an input as a symbol, as one with room for a logo or as a series,
  * draw symbols as text or as SVG, write their images as files, parse drawings, find symbols in pictures, read symbols, mend
  * damaged ones, and say how much fits a symbol. The calls are proved to meet their contracts, which are in crates/qrproved; docs/LIBRARY.md says what
  * the contracts mean for a caller. tests/library compares this file with the exports of the library.
@@ -49,6 +49,7 @@ extern "C" {
 #define QRPROVED_PICTURE_MAX 32767 /* the widest and highest picture that qrproved_find takes, in pixels */
 #define QRPROVED_PAPER_MAX 2000000 /* the widest and highest paper, in micrometres */
 #define QRPROVED_PLACE_MAX 32000   /* how far an image may be from an edge of a label, in dots of the printer */
+#define QRPROVED_SHARE_MAX 75      /* the most that a logo may use up of the codewords that can be corrected, in percent */
 #define QRPROVED_WRONG_FORMAT_MAX 3 /* wrong modules of a copy of the format information that a scanner can correct */
 
 /* The levels of error correction, by which about 7, 15, 25 or 30 % of a symbol's codewords can be restored. */
@@ -103,7 +104,8 @@ extern "C" {
 
 /* The statuses, of which each call except qrproved_version returns one. The comment at each call has the exact causes of its
  * statuses, in the order in which the call checks them. On every status but 0 the caller's buffers and struct are unchanged;
- * but on ROOM qrproved_draw, qrproved_draw_row, qrproved_document, qrproved_sheets and qrproved_image set the number `written`.
+ * but on ROOM qrproved_draw, qrproved_draw_row, qrproved_document, qrproved_sheets and qrproved_image set the number `written`, and
+ * on LOGO qrproved_encode_logo sets the number `largest`.
  * Later versions may add statuses, and do not change the meaning of these. */
 #define QRPROVED_DONE 0     /* the result is written */
 #define QRPROVED_EMPTY 1    /* the input has no byte */
@@ -120,6 +122,7 @@ extern "C" {
 #define QRPROVED_SEGMENTS 10 /* the data codewords cannot be parsed */
 #define QRPROVED_NO_DRAWING 11 /* the text is no drawing, or it shows a square that does not begin as symbols do */
 #define QRPROVED_FIELDS 12  /* the input is no GS1 data: a byte 1D (hexadecimal) comes directly before another or before % */
+#define QRPROVED_LOGO 13    /* the input fits, but no symbol of it may have a logo of this size */
 
 /* The version, the size, the level and the mask of a symbol that was encoded. */
 struct qrproved_symbol {
@@ -380,6 +383,44 @@ QRPROVED_CALL(10)
 uint8_t qrproved_encode_bits(const uint8_t *input, size_t input_len, uint32_t version, uint32_t level, uint32_t rule,
                              uint32_t interpretation, uint32_t boost, uint8_t *bits, size_t bits_len,
                              struct qrproved_symbol *symbol);
+
+/* Encodes the input as a symbol that may have a logo, and writes its modules as qrproved_encode does. The logo is a square of `logo` by
+ * `logo` modules in the middle of the symbol: its first row and its first column have the number QRPROVED_LOGO_FIRST(side, logo). The
+ * call writes the symbol without the logo. The caller draws any picture there, and a light ring around the picture belongs to the
+ * logo.
+ *
+ * Each codeword with a module under the logo counts as wrong, whatever colour the module gets. In each block such codewords are at most
+ * `share` percent of those that may be wrong (changed_allowed of qrproved_mended), so that the rest may be wrong for other reasons. The
+ * logo covers no module of a finder pattern, its separator, a timing pattern, the format information or the version information. A
+ * reader that corrects what the standard allows reads the symbol; an alignment pattern in the middle may be covered.
+ *
+ * version  the smallest allowed version, from 1 to 40; the symbol has the least allowed version with which, at some allowed level, the
+ *          input fits and the logo is allowed
+ * level    the lowest allowed level; of the levels with which this holds, the symbol has the highest
+ * rule, interpretation  as in qrproved_encode
+ * logo     number of modules of the logo on a side, from 0 to 177
+ * share    from 0 to QRPROVED_SHARE_MAX; 50 leaves half of what may be wrong for dirt and wear
+ * modules  the buffer for the modules; QRPROVED_SYMBOL_MAX bytes suffice for any symbol
+ * largest  on LOGO, the call sets it to the side of the largest logo that a symbol of this input may have, in modules: over all
+ *          allowed versions and levels that the input fits; on every other status it is unchanged
+ *
+ * Returns the first of these statuses whose cause applies:
+ *   SETTINGS  version, level, rule, interpretation, logo or share is out of its range; or rule is WITH_KANJI, and interpretation is
+ *             an ECI other than 20
+ *   EMPTY     input_len is 0
+ *   FIELDS    interpretation is GS1, and a byte 1D (hexadecimal) comes directly before another 1D or before %
+ *   TOO_LONG  the input fits no version from the smallest allowed version on; more than 7,089 bytes are always TOO_LONG
+ *   LOGO      no allowed version and level that the input fits allow the logo
+ *   ROOM      modules_len is less than the number of modules of the symbol
+ *   DONE      the call succeeded
+ * If memory is refused, the call returns MEMORY in place of any of these statuses but SETTINGS, EMPTY, FIELDS, and TOO_LONG
+ * for an input of more than 7,089 bytes.
+ */
+#define QRPROVED_LOGO_FIRST(side, logo) (((side) - (logo)) / 2)
+QRPROVED_CALL_2(11, 12)
+uint8_t qrproved_encode_logo(const uint8_t *input, size_t input_len, uint32_t version, uint32_t level, uint32_t rule,
+                             uint32_t interpretation, uint32_t logo, uint32_t share, uint8_t *modules, size_t modules_len,
+                             struct qrproved_symbol *symbol, uint8_t *largest);
 
 /* Encodes the input as a series of symbols (structured append), all of one version, and writes their modules:
  * modules[(k * side + row) * side + column] is the module of symbol k in this row and column, where the first symbol has the
@@ -713,6 +754,7 @@ uint8_t qrproved_room(uint32_t version, uint32_t level, uint32_t mode, uint32_t 
  * passed to the call, or for a drawing that is parsed the number that it shows. A text that is no drawing may need more. */
 #define QRPROVED_ENCODE_MEMORY(version) \
 	(3000 + 1050 * (size_t)(version) + 14 * (size_t)(version) * (version) + ((version) > 26 ? 16000 : 0))
+#define QRPROVED_ENCODE_LOGO_MEMORY(version) (QRPROVED_ENCODE_MEMORY(version) + 1000)
 #define QRPROVED_ENCODE_SERIES_MEMORY(version, count) \
 	(QRPROVED_ENCODE_MEMORY(version) + (size_t)(count) * (600 + 380 * (size_t)(version) + 12 * (size_t)(version) * (version)))
 #define QRPROVED_READ_MEMORY(version) (2500 + 1500 * (size_t)(version) + 105 * (size_t)(version) * (version))
@@ -733,6 +775,10 @@ QRPROVED_CALL(12)
 uint8_t qrproved_encode_bits_in(void *memory, size_t memory_len, const uint8_t *input, size_t input_len, uint32_t version,
                                 uint32_t level, uint32_t rule, uint32_t interpretation, uint32_t boost, uint8_t *bits,
                                 size_t bits_len, struct qrproved_symbol *symbol);
+QRPROVED_CALL_2(13, 14)
+uint8_t qrproved_encode_logo_in(void *memory, size_t memory_len, const uint8_t *input, size_t input_len, uint32_t version,
+                                uint32_t level, uint32_t rule, uint32_t interpretation, uint32_t logo, uint32_t share,
+                                uint8_t *modules, size_t modules_len, struct qrproved_symbol *symbol, uint8_t *largest);
 QRPROVED_CALL(11)
 uint8_t qrproved_encode_series_in(void *memory, size_t memory_len, const uint8_t *input, size_t input_len, uint32_t version,
                                   uint32_t level, uint32_t rule, uint32_t interpretation, uint8_t *modules, size_t modules_len,

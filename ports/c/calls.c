@@ -292,6 +292,17 @@ uint8_t qrproved_encode_bits_in(void *memory, size_t memory_len, const uint8_t *
 	                              BYTES(symbol));
 }
 
+/* The input is cut into segments several times, and each time has to give its memory back. */
+uint8_t qrproved_encode_logo_in(void *memory, size_t memory_len, const uint8_t *input, size_t input_len, uint32_t version,
+                                uint32_t level, uint32_t rule, uint32_t interpretation, uint32_t logo, uint32_t share, uint8_t *modules,
+                                size_t modules_len, struct qrproved_symbol *symbol, uint8_t *largest)
+{
+	struct heap heap = heap_of(memory, memory_len);
+	heap.has_heads = 1;
+	return m_qrproved_encode_logo(&heap, BYTES(input), input_len, version, level, rule, interpretation, logo, share, modules, modules_len,
+	                              BYTES(symbol), largest);
+}
+
 uint8_t qrproved_encode_series_in(void *memory, size_t memory_len, const uint8_t *input, size_t input_len, uint32_t version,
                                   uint32_t level, uint32_t rule, uint32_t interpretation, uint8_t *modules, size_t modules_len,
                                   struct qrproved_series *series)
@@ -371,6 +382,15 @@ uint8_t qrproved_encode_bits(const uint8_t *input, size_t input_len, uint32_t ve
 	struct heap heap = SYSTEM;
 	return m_qrproved_encode_bits(&heap, BYTES(input), input_len, version, level, rule, interpretation, boost, bits, bits_len,
 	                              BYTES(symbol));
+}
+
+uint8_t qrproved_encode_logo(const uint8_t *input, size_t input_len, uint32_t version, uint32_t level, uint32_t rule,
+                             uint32_t interpretation, uint32_t logo, uint32_t share, uint8_t *modules, size_t modules_len,
+                             struct qrproved_symbol *symbol, uint8_t *largest)
+{
+	struct heap heap = SYSTEM;
+	return m_qrproved_encode_logo(&heap, BYTES(input), input_len, version, level, rule, interpretation, logo, share, modules, modules_len,
+	                              BYTES(symbol), largest);
 }
 
 uint8_t qrproved_encode_series(const uint8_t *input, size_t input_len, uint32_t version, uint32_t level, uint32_t rule,

@@ -24,14 +24,14 @@ from dataclasses import dataclass
 from enum import IntEnum
 from typing import TYPE_CHECKING, BinaryIO, List, NamedTuple, NoReturn, Optional, Tuple, Union
 
-from . import _colours, _library, _papers, contents
+from . import _colours, _library, _logos, _papers, contents
 from ._common import DATA, LIMITS
 from ._drawings import found_by_look, undone
 from ._gs1 import Gs1Error, data_of, fields_of
 from ._interpretation import SHIFT_JIS, UTF_8, Eci, EciError, encoded, text_of
 from ._pictures import WORK_MAX, parse_picture
-from ._errors import (CheckError, EmptyError, Error, FieldsError, FormatError, NoDrawingError, OutOfMemoryError, RoomError,
-                      SegmentsError, SettingsError, SideError, TooLongError, TooManyError, raise_for, too_long)
+from ._errors import (CheckError, EmptyError, Error, FieldsError, FormatError, LogoError, NoDrawingError, OutOfMemoryError, RoomError,
+                      SegmentsError, SettingsError, SideError, TooLongError, TooManyError, no_logo, raise_for, too_long)
 from ._library import BYTES_MAX, COUNT_MAX, ECIS_MAX, MARGIN_MAX, SERIES_MAX, SIDE_MAX, SYMBOL_MAX
 
 if TYPE_CHECKING:
@@ -43,7 +43,7 @@ if TYPE_CHECKING:
 
 __all__ = ["BYTES_MAX", "COUNT_MAX", "ECI_MAX", "MARGIN_MAX", "SCALE_MAX", "SERIES_MAX", "SIDE_MAX", "SYMBOL_MAX", "CheckError", "Content",
            "Drawing", "Drawn", "Eci", "EciError", "EmptyError", "Error", "FieldsError", "FormatError", "Gs1Error", "Header", "Level",
-           "Mended", "NoDrawingError", "OutOfMemoryError", "PrintWarning", "RoomError", "Rule", "SegmentsError", "SettingsError",
+           "LogoError", "Mended", "NoDrawingError", "OutOfMemoryError", "PrintWarning", "RoomError", "Rule", "SegmentsError", "SettingsError",
            "Sheet", "SideError", "Symbol", "TooLongError", "TooManyError", "WORK_MAX", "contents", "document", "draw", "encode", "encode_series", "labels", "mend",
            "PAPERS", "paper", "parse_drawing", "parse_picture", "read", "sheets"]
 
@@ -53,6 +53,7 @@ FNC1_FIRST, FNC1_SECOND = 1, 2
 VERSION_MAX, ECI_MAX = LIMITS["VERSION_MAX"], LIMITS["ECI_MAX"]
 SCALE_MAX = LIMITS["SCALE_MAX"]
 SIZE_MAX = LIMITS["SIZE_MAX"]  # of mm and dpi
+SHARE_MAX, SHARE = LIMITS["SHARE_MAX"], LIMITS["SHARE"]  # of what can be corrected, in percent
 PLACE_MAX, DPI, DOTS = LIMITS["PLACE_MAX"], LIMITS["DPI"], LIMITS["DOTS"]
 FORMATS, DOCUMENTS = DATA["formats"], DATA["documents"]
 LABELS = DATA["labels"]  # what a file with several labels has before and after each
@@ -144,6 +145,44 @@ class Symbol:
     """side * side bytes, row by row: 1 is dark, 0 is light."""
     level: Optional[Level] = None
     """The level that it has, which may be higher than the one that was asked for; None if that was not said."""
+    logo: Optional[int] = None
+    """The modules on a side of the logo for which the symbol was encoded, or None. `modules` are those without the logo, and drawings
+    leave its place light."""
+
+    @property
+    def logo_box(self) -> Optional[tuple[int, int, int]]:
+        """The first row and the first column of the logo, and its side; None without a logo. A light ring around the picture belongs to
+        the logo."""
+        if self.logo is None:
+            return None
+        first = (self.side - self.logo) // 2
+        return first, first, self.logo
+
+    @property
+    def logo_spent(self) -> float:
+        """The share of the correction that the logo uses up at most, whatever it shows, in the block where it is most: 0.0 without a
+        logo."""
+        covered = self._with_logo(lambda module: 1 - module)
+        return mend(covered, self.side).spent
+
+    def _with_logo(self, change: Callable[[int], int]) -> bytes:
+        """Returns the modules, of which those under the logo are changed."""
+        first, _, side = self.logo_box or (0, 0, 0)
+        modules = bytearray(self.modules)
+        for row in range(first, first + side):
+            at = row * self.side + first
+            modules[at:at + side] = bytes(map(change, modules[at:at + side]))
+        return bytes(modules)
+
+    def _shown(self) -> bytes:
+        """Returns the modules that are drawn."""
+        return self._with_logo(lambda module: 0) if self.logo else self.modules
+
+    def _place(self, margin: int) -> _logos.Place:
+        """Returns where the logo is in a drawing. Raises TypeError for a symbol without a logo."""
+        if not self.logo:
+            raise TypeError("the symbol has no place for a logo: encode(.., logo=7) makes one that has")
+        return _logos.Place(margin + (self.side - self.logo) // 2, self.logo)
 
     def __getitem__(self, place: tuple[int, int]) -> bool:
         row, column = place
@@ -165,8 +204,8 @@ class Symbol:
         return [[module != 0 for module in self.modules[start:start + self.side]] for start in starts]
 
     def png(self, *wrong: NoReturn, scale: Optional[int] = None, margin: int = 4, mm: Optional[float] = None, dpi: Optional[float] = None,
-            fit_mm: Optional[float] = None, **others: NoReturn) -> bytes:
-        """Returns the drawing as a PNG picture of black and white.
+            fit_mm: Optional[float] = None, logo: Optional[Bytes] = None, **others: NoReturn) -> bytes:
+        """Returns the drawing as a PNG picture of black and white, or with a logo in colours.
 
         scale   the pixels of a module on each side, from 1 to SCALE_MAX: 8 unless fit_mm is given
         margin  light modules on each side, from 0 to MARGIN_MAX; a scanner needs 4
@@ -175,18 +214,20 @@ class Symbol:
         fit_mm  in place of scale and mm, the most that the picture may be wide with its margin, in millimetres. A module has as many whole
                 pixels as fit, so that the picture may be narrower: printed_size says how wide. A printer with `dpi` dots an inch, 203 unless
                 given, prints a dot for each pixel
+        logo    a PNG file, which is drawn in the place of the logo for which the symbol was encoded, within a light ring of one module. It
+                has 8 bits a channel and is not interlaced
 
         Without mm, dpi and fit_mm the picture does not say how large it is. Raises SettingsError if a number is out of range, if the size
         is one that PNG cannot state (its pixels are counted by the metre), or if not even modules of one pixel are as narrow as fit_mm
         asks. Raises TypeError for sizes that exclude each other, and RoomError if there are too few modules. Warns by PrintWarning of
         what scanners may not read.
         """
-        _no_more("png", "", wrong, others, "scale", "margin", "mm", "dpi", "fit_mm")
-        return self._drawn("png", _Sizes(scale, mm, dpi, fit_mm), margin, 0, 0)
+        _no_more("png", "", wrong, others, "scale", "margin", "mm", "dpi", "fit_mm", "logo")
+        return self._png(_Sizes(scale, mm, dpi, fit_mm), margin, logo)
 
     def svg(self, *wrong: NoReturn, margin: int = 4, mm: Optional[float] = None, inline: bool = False, dark: str = _colours.DARK,
             light: Optional[str] = _colours.LIGHT, inverse: bool = False, title: Optional[str] = None, class_name: Optional[str] = None,
-            caption: Optional[str] = None, **others: NoReturn) -> bytes:
+            caption: Optional[str] = None, logo: Optional[Bytes] = None, **others: NoReturn) -> bytes:
         """Returns the drawing as an SVG document.
 
         margin      light modules on each side
@@ -199,12 +240,16 @@ class Symbol:
         title       what the drawing is called by programs that read it aloud; it has then the role of an image
         class_name  its class in a page
         caption     a line of text below the symbol and its margin, which makes the drawing four modules higher
+        logo        a PNG or SVG file, which becomes a part of the document, in the place of the logo for which the symbol was encoded, within a
+                    light ring of one module
 
         Raises as document does, and raises SettingsError for colours with a contrast under 3 (WCAG 2.1), and for an order of them that
         `inverse` does not say. Warns by PrintWarning of what scanners may not read."""
-        _no_more("svg", "", wrong, others, "margin", "mm", "inline", "dark", "light", "inverse", "title", "class_name", "caption")
+        _no_more("svg", "", wrong, others, "margin", "mm", "inline", "dark", "light", "inverse", "title", "class_name", "caption", "logo")
         colours = _colours.colours_of(dark, light, bool(_flag("inverse", inverse)))
         document = _coloured(self._svg(margin, mm), colours, title, class_name)
+        if logo is not None:
+            document = _logos.in_svg(document, _bytes("logo", logo), self._place(margin))
         if caption is not None:
             document = _captioned(document, self.side + 2 * margin, caption, colours[0])
         return document.split(b"?>\n", 1)[-1] if _flag("inline", inline) else document
@@ -281,20 +326,21 @@ class Symbol:
 
     def save(self, path: Union[str, os.PathLike[str], BinaryIO], *wrong: NoReturn, kind: Optional[str] = None, scale: Optional[int] = None,
              margin: int = 4, mm: Optional[float] = None, dpi: Optional[float] = None, x: int = 0, y: int = 0, fit_mm: Optional[float] = None,
-             **others: NoReturn) -> None:
+             logo: Optional[Bytes] = None, **others: NoReturn) -> None:
         """Writes the drawing to a file, or to an object with a method `write` that takes bytes.
 
         kind    'png', 'svg', 'pdf', 'eps', 'txt', 'pbm', 'zpl', 'tspl' or 'escpos'; unless it is given, the end of the file's name, where .bin stands
                 for 'escpos', or 'png' for an object
         scale, mm, dpi, x, y, fit_mm
                 those of the method of that name; SVG, PDF and EPS have no scale, no dpi and no fit_mm, and a text has none of them
+        logo    the picture of a logo, which only PNG and SVG have
 
         Raises and warns as that method does, and raises SettingsError for another kind or ending.
         """
-        _no_more("save", "path, ", wrong, others, "scale", "margin", "mm", "dpi", "kind", "x", "y", "fit_mm")
+        _no_more("save", "path, ", wrong, others, "scale", "margin", "mm", "dpi", "kind", "x", "y", "fit_mm", "logo")
         write = getattr(path, "write", None)
         ending = kind or ("png" if write else os.path.splitext(os.fspath(path))[1].lower()[1:])  # type: ignore[arg-type]
-        drawing = self._drawn(ending, _Sizes(scale, mm, dpi, fit_mm), margin, x, y)
+        drawing = self._drawn(ending, _Sizes(scale, mm, dpi, fit_mm), margin, x, y, logo)
         if write:
             write(drawing)
             return
@@ -311,7 +357,7 @@ class Symbol:
         media = {"png": "image/png", "svg": "image/svg+xml"}[kind]
         return f"data:{media};base64,{base64.b64encode(self._drawn(kind, _Sizes(scale, mm), margin, 0, 0)).decode()}"
 
-    def _png(self, sizes: _Sizes, margin: int) -> bytes:
+    def _png(self, sizes: _Sizes, margin: int, logo: Optional[Bytes] = None) -> bytes:
         light = _setting("margin", margin, 0, MARGIN_MAX)
         scale, mm, dpi, _ = sizes.fitted("png", self, light)
         pixels = _setting("scale", PIXELS if scale is None else scale, 1, SCALE_MAX)
@@ -325,6 +371,9 @@ class Symbol:
         if size is not None and not 0.5 < pixels_a_metre < 2**31 - 0.5:
             raise SettingsError(f"a PNG picture of {width} pixels cannot say that it is {size:.3g} mm wide")
         _warn(light, None if size is None else size / (self.side + 2 * light))
+        if logo is not None:
+            picture, place = _bytes("logo", logo), self._place(0)
+            return _logos.in_png(self._shown(), self.side, pixels, light, _nearest(pixels_a_metre), picture, place)
         return self._image("png", pixels, light, _nearest(pixels_a_metre), 0, 0)
 
     def _file(self, kind: str, sizes: _Sizes, margin: int, x: int, y: int) -> bytes:
@@ -344,7 +393,8 @@ class Symbol:
         if len(self.modules) < self.side * self.side:
             raise RoomError("a symbol has side * side modules")
         side = _setting("side", self.side, 1, SIDE_MAX)
-        asked, written = (self.modules, len(self.modules), side, FORMATS[kind], scale, margin, pixels_a_metre, x, y), ctypes.c_size_t()
+        shown = self._shown()
+        asked, written = (shown, len(shown), side, FORMATS[kind], scale, margin, pixels_a_metre, x, y), ctypes.c_size_t()
         room = IMAGE_LIKELY + (3 * len(self.modules) if kind == "png" else _room_of_lines(kind, side + 2 * margin, scale))
         image = (ctypes.c_uint8 * room)()
         status = _calls.qrproved_image(*asked, image, room, ctypes.byref(written))
@@ -362,13 +412,15 @@ class Symbol:
         _warn(margin, None)
         return document
 
-    def _drawn(self, kind: str, sizes: _Sizes, margin: int, x: int, y: int) -> bytes:
+    def _drawn(self, kind: str, sizes: _Sizes, margin: int, x: int, y: int, logo: Optional[Bytes] = None) -> bytes:
+        if logo is not None and kind not in ("png", "svg"):
+            raise TypeError("the picture of a logo goes into a PNG picture or an SVG document; other drawings leave its place light")
         if (x or y) and kind not in ("zpl", "tspl"):
             raise TypeError(ONLY_LABELS)
         if kind in ("zpl", "tspl", "escpos", "bin"):
             return self._file("escpos" if kind == "bin" else kind, sizes, margin, x, y)
         if kind == "png":
-            return self._png(sizes, margin)
+            return self._png(sizes, margin, logo)
         mm, dpi, fit_mm = sizes.mm, sizes.dpi, sizes.fit_mm
         if kind == "pbm":
             if mm is not None or (dpi is not None and fit_mm is None):
@@ -379,7 +431,8 @@ class Symbol:
         if kind == "svg":
             if dpi is not None:
                 raise TypeError("an SVG document has no pixels, and so no dpi: its size is given by mm")
-            return self._svg(margin, mm)
+            document = self._svg(margin, mm)
+            return document if logo is None else _logos.in_svg(document, _bytes("logo", logo), self._place(margin))
         if kind in ("pdf", "eps"):
             if dpi is not None:
                 raise TypeError("a document for print has no pixels, and so no dpi: its size is given by mm")
@@ -718,7 +771,8 @@ def _room_of_lines(kind: str, rows: int, scale: int) -> int:
 
 
 def encode(data: Optional[Input] = None, *wrong: NoReturn, version: int = 1, level: Name = Level.L, rule: Optional[Name] = None,
-           eci: Optional[int] = None, gs1: Optional[Input] = None, boost: bool = True, **others: NoReturn) -> Symbol:
+           eci: Optional[int] = None, gs1: Optional[Input] = None, boost: bool = True, logo: Optional[float] = None,
+           share: Optional[float] = None, **others: NoReturn) -> Symbol:
     """Returns the symbol of a text, of some bytes or of GS1 data, of the least version from `version` on that holds them.
 
     data     a text, or bytes; from 1 byte to BYTES_MAX
@@ -731,6 +785,12 @@ def encode(data: Optional[Input] = None, *wrong: NoReturn, version: int = 1, lev
     gs1      in place of data, GS1 data as a text like '(01)04012345678901(10)AB', or in brackets like '[01]04012345678901[10]AB';
              or their bytes, in which the byte 1D separates fields, which are not looked at
     boost    take the highest level from `level` on that fits the same version
+    logo     leave place for a logo in the middle: its side in modules, as 7, or a fraction of the symbol's side, as 0.2. The symbol has
+             the least version from `version` on with which, at some level from `level` on, the logo is allowed, and the highest such
+             level, whatever `boost` is. With the logo, whatever it shows, the library is proved to mend the symbol to exactly its
+             content. Drawings leave the place light, and png and svg take a picture for it
+    share    how much the logo may use up of what can be corrected in a block, from 0 to 0.75: 0.5 unless given. The rest is left for dirt
+             and wear
 
     A text is encoded in the character set of its ECI, and else as UTF-8; under the rule 'with_kanji' as Shift JIS, without a header
     unless eci is 20.
@@ -738,18 +798,63 @@ def encode(data: Optional[Input] = None, *wrong: NoReturn, version: int = 1, lev
     Raises SettingsError if a number is out of range or a name is not known, EmptyError if there is no byte, TooLongError if no
     version from `version` on holds the bytes, and OutOfMemoryError. Raises EciError, which is a ValueError, for a character that is
     not in the character set, and for a text in a set that is not known; Gs1Error, which is one too, for a text that is no GS1 data,
-    and FieldsError for such bytes.
+    and FieldsError for such bytes. Raises LogoError if no symbol of the input may have the logo.
     """
-    _no_more("encode", "data, ", wrong, others, "version", "level", "rule", "eci", "gs1", "boost")
+    _no_more("encode", "data, ", wrong, others, "version", "level", "rule", "eci", "gs1", "boost", "logo", "share")
     (given, settings), is_boosted = _asked(data, gs1, eci, version, level, rule), _flag("boost", boost)
+    if logo is not None:
+        return _for_logo(given, settings, logo, _percent(SHARE / 100 if share is None else share))
+    if share is not None:
+        raise TypeError("share says how much a logo may use up: it is given beside logo")
     modules, symbol = (ctypes.c_uint8 * SYMBOL_MAX)(), _library.Symbol()
     status = _calls.qrproved_encode(given.data, len(given.data), *settings, given.interpretation, is_boosted, modules, SYMBOL_MAX,
                                     ctypes.byref(symbol))
+    _raise_of_encoding(status, given, settings)
+    return Symbol(symbol.version, symbol.side, symbol.mask, _first(modules, symbol.side ** 2), Level(symbol.level))
+
+
+def _raise_of_encoding(status: int, given: _Given, settings: tuple[int, int, int]) -> None:
+    """Raises the exception of a status of a call that encodes one symbol, and returns for 0."""
     if status == TooLongError.status:
         modes = [*DATA["modes"].items()][:DATA["modes_of_rules"][settings[2]]]
         raise too_long(len(given.data), settings[1], [f"{_room(settings[1], mode, given.interpretation):,} {name}" for name, mode in modes])
     raise_for(status)
-    return Symbol(symbol.version, symbol.side, symbol.mask, _first(modules, symbol.side ** 2), Level(symbol.level))
+
+
+def _percent(share: float) -> int:
+    if isinstance(share, bool) or not isinstance(share, (int, float)):
+        raise TypeError(f"share is a number, and not of type {type(share).__name__}")
+    if not 0 <= share <= SHARE_MAX / 100:
+        raise SettingsError(f"share is from 0 to {SHARE_MAX / 100}, and not {share}")
+    return int(100 * share + 1e-9)
+
+
+def _for_logo(given: _Given, settings: tuple[int, int, int], logo: float, share: int) -> Symbol:
+    """Returns the symbol that may have a logo, whose side is given in modules, or as a fraction of the symbol's side. A fraction has more
+    modules in larger versions, so those up to the version that may have the logo of a smaller one may not have their own."""
+    if isinstance(logo, bool) or not isinstance(logo, (int, float)):
+        raise TypeError(f"logo is a number, and not of type {type(logo).__name__}")
+    if not isinstance(logo, float):
+        return _with_logo(given, settings, _setting("logo", logo, 0, SIDE_MAX), share, f"{logo} by {logo} modules")
+    if not 0 < logo < 1:
+        raise SettingsError(f"logo is a number of modules, or a fraction of the side between 0 and 1, and not {logo}")
+    version, level, rule = settings
+    while True:
+        side = max(1, _nearest(logo * (17 + 4 * version)))
+        symbol = _with_logo(given, (version, level, rule), side, share, f"{100 * logo:.3g} % of the side")
+        if symbol.version == version:
+            return symbol
+        version = symbol.version
+
+
+def _with_logo(given: _Given, settings: tuple[int, int, int], logo: int, share: int, asked: str) -> Symbol:
+    modules, symbol, largest = (ctypes.c_uint8 * SYMBOL_MAX)(), _library.Symbol(), ctypes.c_uint8()
+    status = _calls.qrproved_encode_logo(given.data, len(given.data), *settings, given.interpretation, logo, share, modules, SYMBOL_MAX,
+                                         ctypes.byref(symbol), ctypes.byref(largest))
+    if status == LogoError.status:
+        raise no_logo(asked, largest.value)
+    _raise_of_encoding(status, given, settings)
+    return Symbol(symbol.version, symbol.side, symbol.mask, _first(modules, symbol.side ** 2), Level(symbol.level), logo)
 
 
 def encode_series(data: Optional[Input] = None, *wrong: NoReturn, version: Optional[int] = None, level: Name = Level.L,
@@ -1083,7 +1188,7 @@ def _squares(symbols: list[Symbol], most: int = COUNT_MAX) -> tuple[bytes, int, 
         raise SettingsError("the symbols have one side")
     if any(len(symbol.modules) < side * side for symbol in symbols):
         raise RoomError("a symbol has side * side modules")
-    return b"".join(symbol.modules[:side * side] for symbol in symbols), count, side
+    return b"".join(symbol._shown()[:side * side] for symbol in symbols), count, side
 
 
 def _written(write: Callable[..., int]) -> bytes:

@@ -92,6 +92,22 @@ class FieldsError(Error, ValueError):
     status, text = STATUSES["FIELDS"]
 
 
+class LogoError(Error, ValueError):
+    """The input fits, but no symbol of it may have a logo of this size. `largest` is the side of the largest logo that one may have, in
+    modules."""
+
+    status, text = STATUSES["LOGO"]
+    largest: int = 0
+
+
+def no_logo(asked: str, largest: int) -> LogoError:
+    """Returns the refusal of a logo. `asked` says how large it is."""
+    may = f"a logo of at most {largest} by {largest} modules" if largest else "no logo"
+    fault = LogoError(f"no symbol of the input may have a logo of {asked}: one may have {may}")
+    fault.largest = largest
+    return fault
+
+
 def too_long(count: int, level: int, most: Sequence[str]) -> TooLongError:
     """Returns the refusal of `count` bytes. `most` says how many characters of each mode the largest symbol of this level holds."""
     *first, last = most
@@ -100,7 +116,7 @@ def too_long(count: int, level: int, most: Sequence[str]) -> TooLongError:
 
 
 BY_STATUS = {kind.status: kind for kind in (EmptyError, TooLongError, TooManyError, OutOfMemoryError, SettingsError, RoomError,
-                                            SideError, FormatError, CheckError, SegmentsError, NoDrawingError, FieldsError)}
+                                            SideError, FormatError, CheckError, SegmentsError, NoDrawingError, FieldsError, LogoError)}
 
 
 def raise_for(status: int) -> None:

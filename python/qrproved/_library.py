@@ -61,6 +61,7 @@ BYTES = [ctypes.c_char_p, c_size_t]
 BUFFER = [c_void_p, c_size_t]
 PARAMETERS = {
     "qrproved_encode": [*BYTES, SETTING, SETTING, SETTING, SETTING, SETTING, *BUFFER, ctypes.POINTER(Symbol)],
+    "qrproved_encode_logo": [*BYTES, *[SETTING] * 6, *BUFFER, ctypes.POINTER(Symbol), ctypes.POINTER(c_uint8)],
     "qrproved_encode_series": [*BYTES, SETTING, SETTING, SETTING, SETTING, *BUFFER, ctypes.POINTER(Series)],
     "qrproved_read": [*BYTES, SETTING, *BUFFER, *BUFFER, ctypes.POINTER(Content)],
     "qrproved_mend": [*BYTES, SETTING, *BUFFER, *BUFFER, ctypes.POINTER(Mended)],

@@ -255,7 +255,7 @@ class Refusals(unittest.TestCase):
         self.assertTrue(str(caught.exception))
 
     def test_settings_without_a_name(self):
-        symbol, listed = qrproved.encode("A"), "encode: version, level, rule, eci, gs1 and boost are given by name: "
+        symbol, listed = qrproved.encode("A"), "encode: version, level, rule, eci, gs1, boost, logo and share are given by name: "
         rows = [(lambda: qrproved.encode("A", 7, "Q"), listed + "encode(data, version=7, level='Q')"),
                 (lambda: qrproved.encode("A", Level.Q), listed + "encode(data, level='Q')"),
                 (lambda: qrproved.encode("A", "q", 7, Rule.AUTO), listed + "encode(data, level='q', version=7, rule='AUTO')"),
@@ -269,17 +269,17 @@ class Refusals(unittest.TestCase):
             self.assertIn(wanted, str(caught.exception))
 
     def test_options_of_other_packages(self):
-        symbol, of_encode = qrproved.encode("A"), "there are version, level, rule, eci, gs1, boost"
+        symbol, of_encode = qrproved.encode("A"), "there are version, level, rule, eci, gs1, boost, logo, share"
         rows = [(lambda: qrproved.encode("A", error="H"), "error; did you mean level?"),
                 (lambda: qrproved.encode("A", error_correction=1), "error_correction; did you mean level?"),
                 (lambda: qrproved.encode("A", boost_error=False), "boost_error; did you mean boost?"),
                 (lambda: qrproved.encode("A", mask=3), f"mask; {of_encode}"), (lambda: qrproved.encode("A", border=4), f"border; {of_encode}"),
                 (lambda: qrproved.encode_series("A", version=1, boost=True), "boost; there are version, level, rule, eci, gs1"),
                 (lambda: symbol.png(border=4), "border; did you mean margin?"), (lambda: symbol.png(box_size=4), "box_size; did you mean scale?"),
-                (lambda: symbol.png(dark="red"), "dark; there are scale, margin, mm, dpi, fit_mm"),
+                (lambda: symbol.png(dark="red"), "dark; there are scale, margin, mm, dpi, fit_mm, logo"),
                 (lambda: symbol.svg(back_color="red"), "back_color; did you mean light?"), (lambda: symbol.svg(svgclass="a"), "svgclass; did you mean class_name?"),
-                (lambda: symbol.svg(scale=3), "scale; there are margin, mm, inline, dark, light, inverse, title, class_name, caption"),
-                (lambda: symbol.save("a.png", light=None), "light; there are scale, margin, mm, dpi, kind, x, y, fit_mm"),
+                (lambda: symbol.svg(scale=3), "scale; there are margin, mm, inline, dark, light, inverse, title, class_name, caption, logo"),
+                (lambda: symbol.save("a.png", light=None), "light; there are scale, margin, mm, dpi, kind, x, y, fit_mm, logo"),
                 (lambda: symbol.data_uri(border=1), "border; did you mean margin?"), (lambda: symbol.text(border=1), "border; did you mean margin?"),
                 (lambda: qrproved.draw(symbol, compact=True), "compact; there are drawing, margin")]
         for call, wanted in rows:
@@ -363,7 +363,7 @@ class Refusals(unittest.TestCase):
 
     def test_each_status_has_an_exception(self):
         kinds = [kind for kind in vars(qrproved).values() if isinstance(kind, type) and issubclass(kind, qrproved.Error)]
-        self.assertEqual(sorted(kind.status for kind in kinds), list(range(13)))
+        self.assertEqual(sorted(kind.status for kind in kinds), list(range(14)))
 
 
 if __name__ == "__main__":

@@ -115,6 +115,7 @@ INPUT, NUMBER = [ctypes.c_char_p, ctypes.c_size_t], [ctypes.c_uint32]
 PARAMETERS = {
     "qrproved_encode": INPUT + NUMBER * 5 + BUFFER + POINTER,
     "qrproved_encode_bits": INPUT + NUMBER * 5 + BUFFER + POINTER,
+    "qrproved_encode_logo": INPUT + NUMBER * 6 + BUFFER + POINTER * 2,
     "qrproved_encode_series": INPUT + NUMBER * 4 + BUFFER + POINTER,
     "qrproved_read": BUFFER + NUMBER + BUFFER * 2 + POINTER,
     "qrproved_mend": BUFFER + NUMBER + BUFFER * 2 + POINTER,
@@ -157,6 +158,18 @@ class Library:
         status = self.library.qrproved_encode(data, len(data), version, LEVELS.index(level), rule, interpretation, boost,
                                               self.modules, len(self.modules), ctypes.byref(symbol))
         return status or (bytes(self.modules[:symbol.side ** 2]), symbol)
+
+    def with_logo(self, case, logo, share=50, interpretation=DEFAULT):
+        """Returns the symbol's modules and what the struct says of it; a side, if the status is LOGO; or the name of another status."""
+        data, version, level, rule = case
+        symbol, largest = Symbol(), ctypes.c_uint8(MARK)
+        status = self.library.qrproved_encode_logo(data, len(data), version, LEVELS.index(level), rule, interpretation, logo, share,
+                                                   self.modules, len(self.modules), ctypes.byref(symbol), ctypes.byref(largest))
+        if STATUSES[status] == "LOGO":
+            return largest.value
+        if largest.value != MARK:
+            return f"{STATUSES[status]}, number changed"
+        return STATUSES[status] if status else (bytes(self.modules[:symbol.side ** 2]), symbol)
 
     def encoded(self, case):
         """Returns the symbol's modules and their side, or a status."""

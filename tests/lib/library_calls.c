@@ -1,6 +1,6 @@
 /* Calls the library for tests/library: library_calls WHAT
  *
- * WHAT is `encode`, `encode_series`, `read`, `mend`, `draw`, `parse_drawing` or `find` for one such call, in which a growth of
+ * WHAT is `encode`, `encode_logo`, `encode_series`, `read`, `mend`, `draw`, `parse_drawing` or `find` for one such call, in which a growth of
  * memory may be refused. Then the program prints what came of the call. `encode_eci`, `encode_gs1`, `encode_series_gs1`,
  * `read_ecis`, `read_gs1` and `mend_ecis` are such calls with ECI headers or GS1 data. `edges` calls with lengths of 0, with buffers
  * that are just large enough, and with symbols that have ECI headers or GS1 data. `threads` makes calls in eight
@@ -46,6 +46,18 @@ static int encode_bits(void)
 	memset(modules, MARK, sizeof modules), memset(&symbol, MARK, sizeof symbol);
 	uint8_t status = qrproved_encode_bits(TEXT, sizeof TEXT - 1, 1, 0, 0, NONE, 0, modules, sizeof modules, &symbol);
 	tell("encode_bits", status, modules, sizeof modules, &symbol, sizeof symbol);
+	return 0;
+}
+
+static int encode_logo(void)
+{
+	struct {
+		struct qrproved_symbol symbol;
+		uint8_t largest;
+	} told;
+	memset(modules, MARK, sizeof modules), memset(&told, MARK, sizeof told);
+	uint8_t status = qrproved_encode_logo(TEXT, sizeof TEXT - 1, 1, 0, 0, NONE, 9, 50, modules, sizeof modules, &told.symbol, &told.largest);
+	tell("encode_logo", status, modules, sizeof modules, &told, sizeof told);
 	return 0;
 }
 
@@ -413,6 +425,28 @@ static void edges_of_find(void)
 	want("no buffer is changed", is_marked(modules, 0, sizeof modules) && is_marked(found, 0, sizeof found));
 }
 
+static void edges_of_logo(void)
+{
+	struct qrproved_symbol symbol;
+	uint8_t largest = MARK;
+	memset(modules, MARK, sizeof modules), memset(&symbol, MARK, sizeof symbol);
+	want("no input for a logo", qrproved_encode_logo(NULL, 0, 1, 0, 0, NONE, 3, 50, modules, sizeof modules, &symbol, &largest) == QRPROVED_EMPTY);
+	want("a logo of 178 modules", qrproved_encode_logo(TEXT, 5, 1, 0, 0, NONE, 178, 50, modules, sizeof modules, &symbol, &largest) == QRPROVED_SETTINGS);
+	want("a logo of 259 modules", qrproved_encode_logo(TEXT, 5, 1, 0, 0, NONE, 259, 50, modules, sizeof modules, &symbol, &largest) == QRPROVED_SETTINGS);
+	want("a share of 76", qrproved_encode_logo(TEXT, 5, 1, 0, 0, NONE, 3, 76, modules, sizeof modules, &symbol, &largest) == QRPROVED_SETTINGS);
+	want("a share of 256", qrproved_encode_logo(TEXT, 5, 1, 0, 0, NONE, 3, 256, modules, sizeof modules, &symbol, &largest) == QRPROVED_SETTINGS);
+	want("version 257 for a logo", qrproved_encode_logo(TEXT, 5, 257, 0, 0, NONE, 3, 50, modules, sizeof modules, &symbol, &largest) == QRPROVED_SETTINGS);
+	want("440 bytes for a logo", qrproved_encode_logo(TEXT, 5, 1, 0, 0, NONE, 3, 50, modules, 440, &symbol, &largest) == QRPROVED_ROOM);
+	want("no largest logo", is_marked(modules, 0, sizeof modules) && is_marked(&symbol, 0, sizeof symbol) && largest == MARK);
+	want("a logo of 177 modules", qrproved_encode_logo(TEXT, 5, 1, 0, 0, NONE, 177, 75, modules, sizeof modules, &symbol, &largest) == QRPROVED_LOGO && largest != MARK);
+	want("nothing is written for it", is_marked(modules, 0, sizeof modules) && is_marked(&symbol, 0, sizeof symbol));
+	largest = MARK;
+	want("no room is needed for it", qrproved_encode_logo(TEXT, 5, 1, 0, 0, NONE, 177, 75, NULL, 0, &symbol, &largest) == QRPROVED_LOGO && largest != MARK);
+	largest = MARK;
+	want("441 bytes for a logo", qrproved_encode_logo(TEXT, 5, 1, 0, 0, NONE, 3, 50, modules, 441, &symbol, &largest) == QRPROVED_DONE);
+	want("no more is written for a logo", symbol.side == 21 && largest == MARK && is_marked(modules, 441, sizeof modules));
+}
+
 static int edges(void)
 {
 	struct qrproved_symbol symbol;
@@ -537,6 +571,7 @@ static int edges(void)
 	want("no more is written for them", is_marked(parsed, 882, sizeof parsed));
 	want("one of them", qrproved_parse_drawing(text, 903, parsed, 441, &drawn) == QRPROVED_DONE && drawn.count == 1);
 	edges_of_find();
+	edges_of_logo();
 	want("numbers above 255", qrproved_encode(TEXT, 5, 257, 0, 0, NONE, 0, modules, 441, &symbol) == QRPROVED_SETTINGS
 	     && qrproved_encode(TEXT, 5, 1, 256, 0, NONE, 0, modules, 441, &symbol) == QRPROVED_SETTINGS
 	     && qrproved_encode(TEXT, 5, 1, 0, 256, NONE, 0, modules, 441, &symbol) == QRPROVED_SETTINGS
@@ -608,6 +643,8 @@ int main(int argc, char **argv)
 		return encode();
 	if (!strcmp(what, "encode_bits"))
 		return encode_bits();
+	if (!strcmp(what, "encode_logo"))
+		return encode_logo();
 	if (!strcmp(what, "encode_series"))
 		return encode_series();
 	if (!strcmp(what, "read"))

@@ -37,6 +37,14 @@ static void encode(void)
 	                                    modules, sizeof modules, &symbol));
 	TELL(symbol.version), TELL(symbol.side), TELL(symbol.level), TELL(symbol.mask);
 	tell_all("encoded", modules, (size_t)symbol.side * symbol.side);
+	uint8_t largest = 99;
+	want_done("encode_logo", qrproved_encode_logo(DIGITS, sizeof DIGITS - 1, 2, QRPROVED_LEVEL_M, QRPROVED_RULE_AUTO, QRPROVED_ECI_UTF8, 5, 40,
+	                                              modules, sizeof modules, &other, &largest));
+	printf("for_logo %u %u %u %u\n", other.version, other.side, other.level, other.mask);
+	tell_all("encoded_for_logo", modules, (size_t)other.side * other.side);
+	printf("status_of_logo %u\n", qrproved_encode_logo(DIGITS, sizeof DIGITS - 1, 39, QRPROVED_LEVEL_Q, QRPROVED_RULE_AUTO, QRPROVED_ECI_UTF8, 97, 42,
+	                                                   modules, sizeof modules, &other, &largest));
+	printf("largest_logo %u\n", largest);
 	want_done("encode_bits", qrproved_encode_bits(DIGITS, sizeof DIGITS - 1, 4, QRPROVED_LEVEL_Q, QRPROVED_RULE_AUTO, QRPROVED_ECI_UTF8, 1,
 	                                              modules, sizeof modules, &other));
 	tell_all("bits", modules, QRPROVED_BITS(other.side));

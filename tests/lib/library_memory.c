@@ -14,9 +14,9 @@
 #include <string.h>
 
 enum { MARK = 7, MEMORY_MAX = 16000000, TEXT_MAX = 8000000, LEVELS = 4, RULES = 3, DRAWINGS = 4, VERSIONS = 40, KINDS = 12, SHORTER = 12, PIXELS_MAX = 400 };
-enum call { ENCODE, BITS, SERIES, READ, MEND, DRAW, DOCUMENT, SHEETS, PARSE, FIND, CALLS };
+enum call { ENCODE, BITS, LOGO, SERIES, READ, MEND, DRAW, DOCUMENT, SHEETS, PARSE, FIND, CALLS };
 
-static const char *const NAMES[CALLS] = {"encode", "encode_bits", "encode_series", "read", "mend", "draw", "document", "sheets", "parse_drawing", "find"};
+static const char *const NAMES[CALLS] = {"encode", "encode_bits", "encode_logo", "encode_series", "read", "mend", "draw", "document", "sheets", "parse_drawing", "find"};
 static const uint32_t INTERPRETATIONS[] = {QRPROVED_INTERPRETATION_DEFAULT, 999999, QRPROVED_INTERPRETATION_GS1};
 
 /* Paper with one label on each sheet. */
@@ -25,12 +25,16 @@ static const struct qrproved_sheet PAPER = {100000, 100000, 0, 0, 0, 0, 1, 1, 0}
 static uint8_t memory[MEMORY_MAX + 1], input[QRPROVED_BYTES_MAX * 17], modules[QRPROVED_SERIES_MAX], damaged[QRPROVED_SYMBOL_MAX];
 static uint8_t out[TEXT_MAX], text[TEXT_MAX], kept[TEXT_MAX], pixels[PIXELS_MAX * PIXELS_MAX];
 static size_t input_len, text_len, most[CALLS][VERSIONS + 1];
-static uint32_t version, level, rule, interpretation, side, count, drawing, width;
+static uint32_t version, level, rule, interpretation, side, count, drawing, width, version_for_logo;
 static int is_measured;
 
 /* What a call writes, besides the buffer `out`. */
 static union {
 	struct qrproved_symbol symbol;
+	struct {
+		struct qrproved_symbol symbol;
+		uint8_t largest;
+	} logo;
 	struct qrproved_series series;
 	struct qrproved_content content;
 	struct qrproved_mended mended;
@@ -51,6 +55,9 @@ static uint8_t call_with(enum call call, uint8_t *place, size_t len)
 		return qrproved_encode_in(place, len, input, input_len, 1, level, rule, interpretation, 0, out, QRPROVED_SYMBOL_MAX, &told.symbol);
 	case BITS:
 		return qrproved_encode_bits_in(place, len, input, input_len, 1, level, rule, interpretation, 0, out, QRPROVED_BITS(177), &told.symbol);
+	case LOGO:
+		return qrproved_encode_logo_in(place, len, input, input_len, 1, level, rule, interpretation, 2, 75, out, QRPROVED_SYMBOL_MAX, &told.logo.symbol,
+		                               &told.logo.largest);
 	case SERIES:
 		return qrproved_encode_series_in(place, len, input, input_len, version, level, rule, interpretation, out, QRPROVED_SERIES_MAX, &told.series);
 	case READ:
@@ -73,7 +80,7 @@ static uint8_t call_with(enum call call, uint8_t *place, size_t len)
 /* The bytes of `out` that a call may write. */
 static size_t room_of(enum call call)
 {
-	const size_t rooms[CALLS] = {QRPROVED_SYMBOL_MAX, QRPROVED_BITS(177), QRPROVED_SERIES_MAX, QRPROVED_BYTES_MAX, QRPROVED_BYTES_MAX, TEXT_MAX, TEXT_MAX,
+	const size_t rooms[CALLS] = {QRPROVED_SYMBOL_MAX, QRPROVED_BITS(177), QRPROVED_SYMBOL_MAX, QRPROVED_SERIES_MAX, QRPROVED_BYTES_MAX, QRPROVED_BYTES_MAX, TEXT_MAX, TEXT_MAX,
 				     TEXT_MAX, QRPROVED_SERIES_MAX, QRPROVED_SYMBOL_MAX};
 	return rooms[call];
 }
@@ -84,6 +91,8 @@ static size_t enough_for(enum call call)
 	case ENCODE:
 	case BITS:
 		return QRPROVED_ENCODE_MEMORY(version);
+	case LOGO:
+		return QRPROVED_ENCODE_LOGO_MEMORY(version_for_logo);
 	case SERIES:
 		return QRPROVED_ENCODE_SERIES_MEMORY(version, count);
 	case READ:
@@ -245,6 +254,10 @@ static void try_symbols(uint32_t kind)
 		return;
 	try_call(ENCODE);
 	try_call(BITS);
+	if (call_with(LOGO, memory, MEMORY_MAX) == QRPROVED_DONE) {
+		version_for_logo = told.logo.symbol.version;
+		try_call(LOGO);
+	}
 	side = 17 + 4 * version, count = 1;
 	call_with(ENCODE, memory, MEMORY_MAX);
 	memcpy(modules, out, (size_t)side * side);

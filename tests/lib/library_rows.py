@@ -13,7 +13,7 @@ from typing import NamedTuple
 from damage import inverted, unread
 from libraries import DEFAULT, ECI_UTF8, GS1, LEVELS, MARK, STATUSES, Content, Drawn, Found, Library, Mended, Series, Sheet, Symbol, check
 from samples import EIGHT_DIGITS, LETTER
-from squares import codewords_of, data_of, interleaved, layout, side_of, square_of
+from squares import codewords_of, data_of, interleaved, largest_logo, layout, side_of, square_of
 
 SPARE = 8  # bytes of a buffer after the room that a call is told of
 # Numbers of levels and rules.
@@ -246,6 +246,49 @@ SIXTY_BYTES = bytes((a & 15) << 4 | b >> 4 for a, b in zip(INDICES[1:], INDICES[
 INTERLEAVED = [
     ("the first two codewords of four blocks", SIXTY_BYTES, 5, Q, 0, 8, bytes([0x43, 15, 30, 46, 0xC1, 16, 31, 47])),
     ("the sixteenth of the two long blocks", SIXTY_BYTES, 5, Q, 60, 62, bytes([45, 0xD0])),
+]
+
+
+def with_logo(library, data, version, level, logo, share):
+    """Returns the version and the level of the symbol, or the side of the largest logo, or the verdict."""
+    symbol, largest = Symbol(), ctypes.c_uint8(MARK)
+    buffer = (ctypes.c_uint8 * 31_329)()
+    status = library.library.qrproved_encode_logo(data, len(data), version, level, AUTO, DEFAULT, logo, share, buffer, len(buffer),
+                                                  ctypes.byref(symbol), ctypes.byref(largest))
+    if STATUSES[status] == "LOGO":
+        return largest.value
+    return fields(symbol, "version", "level") if STATUSES[status] == "DONE" else STATUSES[status]
+
+
+# In version 1 there is one block. The columns 10 and 9 of the middle are one strip, in which codeword 19 has the rows 9 to 12, and
+# columns 12 and 11 another, in which codeword 14 has these rows. So the three rows and columns of the middle are in two codewords, and
+# the two above and to the left of the middle in one. Of 1-L two codewords can be corrected, and of 1-H eight. (Table 9)
+LOGOS = [
+    ("a letter", b"A", 1, L, 3, 50, (1, H)),
+    ("17 letters and no logo", LETTERS[:17], 1, L, 0, 50, (1, L)),
+    ("17 letters and two modules", LETTERS[:17], 1, L, 2, 50, (1, L)),
+    # version 2 has room for them up to level Q
+    ("17 letters and three modules", LETTERS[:17], 1, L, 3, 50, (2, Q)),
+    ("17 letters and less than one codeword", LETTERS[:17], 1, L, 2, 49, (2, Q)),
+    ("17 letters at H", LETTERS[:17], 1, H, 2, 50, (3, H)),
+    ("a letter and four modules", b"A", 1, L, 4, 50, (2, H)),
+    ("a letter from version 5 on", b"A", 5, L, 3, 50, (5, H)),
+    # the middle of version 7 is an alignment pattern of five rows and columns, in which no module belongs to a codeword
+    ("a share of 0 and five modules", b"A", 1, L, 5, 0, (7, H)),
+    ("a share of 0 and no logo", b"A", 1, L, 0, 0, (1, H)),
+    ("no byte", b"", 1, L, 3, 50, "EMPTY"),
+    ("no byte and a share of 76", b"", 1, L, 3, 76, "SETTINGS"),
+    ("7,090 digits", DIGITS, 1, L, 177, 50, "TOO_LONG"),
+    ("2,954 letters", b"a" * 2954, 1, L, 3, 50, "TOO_LONG"),
+    ("178 modules", b"A", 1, L, 178, 50, "SETTINGS"),
+    ("version 41", b"A", 41, L, 3, 50, "SETTINGS"),
+    ("level 4", b"A", 1, 4, 3, 50, "SETTINGS"),
+]
+# The sides are those of the model.
+LARGEST_LOGOS = [
+    ("a letter in version 40", b"A", 40, H, 177, 75, largest_logo(40, "H", 75)),
+    ("2,953 letters, which fit 40-L alone", b"a" * 2953, 1, L, 177, 50, largest_logo(40, "L", 50)),
+    ("a letter", b"A", 1, L, 177, 50, max(largest_logo(version, level, 50) for version in range(1, 41) for level in "LMQH")),
 ]
 
 
@@ -1052,6 +1095,8 @@ TABLES = {
     "version and mask": (version_and_mask, MASKS),
     "least version": (least_version, LEAST_VERSIONS),
     "boosted": (boosted, BOOSTED),
+    "with a logo": (with_logo, LOGOS),
+    "largest logo": (with_logo, LARGEST_LOGOS),
     "not encoded": (encoding_verdict, REFUSED_SYMBOLS),
     "interpretation": (interpretation_verdict, INTERPRETATIONS),
     "series": (series, SERIES),

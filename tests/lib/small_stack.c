@@ -19,7 +19,7 @@ enum { STACK = 16384, VERSIONS = 40, LEVELS = 4, RULES = 3, DRAWINGS = 4, FORMAT
 static const char MIXED[] = "31415926aeiouaAEIOU$%\x93\x5f\xe4\xaa\x1d";
 
 /* What the calls take and write. Nothing of it is on the stack. */
-static uint8_t input[QRPROVED_BYTES_MAX * 4], modules[QRPROVED_SERIES_MAX], bytes[QRPROVED_BYTES_MAX], text[10000000];
+static uint8_t input[QRPROVED_BYTES_MAX * 4], bytes_of_logo[QRPROVED_SYMBOL_MAX], modules[QRPROVED_SERIES_MAX], bytes[QRPROVED_BYTES_MAX], text[10000000];
 static size_t input_len, written;
 static uint32_t version, level, rule, interpretation = QRPROVED_INTERPRETATION_DEFAULT, boost, side, count, drawing, format, most;
 static struct qrproved_symbol symbol;
@@ -40,6 +40,13 @@ static void *encode(void *none)
 static void *encode_bits(void *none)
 {
 	status = qrproved_encode_bits(input, input_len, version, level, rule, interpretation, boost, bytes, sizeof bytes, &symbol);
+	return none;
+}
+
+static void *encode_logo(void *none)
+{
+	uint8_t largest;
+	status = qrproved_encode_logo(input, input_len, 1, 0, rule, interpretation, version / 4, 50, bytes_of_logo, sizeof bytes_of_logo, &symbol, &largest);
 	return none;
 }
 
@@ -224,6 +231,8 @@ static void all(void)
 				if (rule == QRPROVED_RULE_AUTO && version % 8 == 1)
 					want("find", in_small_stack(find), QRPROVED_DONE);
 				want("encode_bits", in_small_stack(encode_bits), QRPROVED_DONE);
+				if (level == 3 && version < 30)
+					want("encode_logo", in_small_stack(encode_logo), QRPROVED_DONE);
 				want("read", in_small_stack(read_symbol), QRPROVED_DONE);
 				mend_until_refused(1);
 				mend_until_refused(0);
@@ -250,7 +259,8 @@ static void all(void)
 static int once(const char *name)
 {
 	static const struct { const char *name; void *(*call)(void *); } CALLS[] = {
-		{"encode", encode}, {"encode_bits", encode_bits}, {"encode_series", encode_series}, {"read", read_symbol}, {"mend", mend},
+		{"encode", encode}, {"encode_bits", encode_bits}, {"encode_logo", encode_logo},
+		{"encode_series", encode_series}, {"read", read_symbol}, {"mend", mend},
 		{"draw", draw}, {"draw_row", draw_row}, {"document", document}, {"sheets", sheets}, {"image", image},
 		{"parse_drawing", parse_drawing}, {"find", find}, {"room", room}};
 	written = fread(text, 1, sizeof text, stdin);

@@ -81,6 +81,18 @@ def picture(square, side, scale, margin):
     return [line for line in packed for _ in range(scale)]
 
 
+def largest_logo(version, level, share):
+    """Returns the side of the largest square in the middle that leaves the first and the last nine rows and columns free, and with which
+    each block has at most `share` percent of the wrong codewords that can be corrected."""
+    at, middle = layout(version), (side_of(version) - 1) // 2
+    # of each line the side of the smallest square that has a module in it: 1 in the middle, 2 just before it, 3 just after it
+    first = [2 * (line - middle) + 1 if line >= middle else 2 * (middle - line) for line in range(at.side)]
+    reached = [max(first[place // at.side], first[place % at.side]) for place in at.region]
+    most = share * allowed(version, level) // 100
+    # in a block, the codeword after the `most` that are covered first stays free
+    return min(at.side - 18, *(sorted(min(reached[8 * i:8 * i + 8]) for i in block)[most] - 1 for block in blocks(version, level)))
+
+
 def bits_below(word, divisor):
     """Returns the word, and in its low bits the remainder of its division by `divisor`, as polynomials over the field
     of two elements."""

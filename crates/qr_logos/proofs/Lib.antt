@@ -1,1 +1,3 @@
 mod lemmas
+-- The lemmas that other crates use.
+pub mod Facts

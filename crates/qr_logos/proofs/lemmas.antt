@@ -1,3 +1,4 @@
 -- Lemmas, in files and folders with the name of the file of src that they serve, in the order in which to read them.
 pub mod logo
+pub mod encoding
 pub mod laws

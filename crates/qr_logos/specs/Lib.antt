@@ -1,3 +1,5 @@
 pub mod Logo
+pub mod Fault
+pub mod Encoding
 pub mod Laws
 pub mod Steps

@@ -1,6 +1,6 @@
 //! Laws of logos. The contract of each function is the law.
 
-ghost use Rattle.std.specs.Prelude.{◌≡◌, ◌≤◌, ◌+◌, ◌-◌, ◌*◌, ◌%◌, ℕ, List, Option};
+ghost use Rattle.std.specs.Prelude.{◌≡◌, ◌≤◌, ◌+◌, ◌-◌, ◌*◌, ◌%◌, ℕ, List, Option, None};
 ghost use Rattle.qr_layout.specs.declared.level.Level.{Level};
 ghost use Rattle.qr_layout.specs.Blocks.{correctable_of};
 ghost use Rattle.qr_layout.specs.Version.{side_of};
@@ -11,6 +11,7 @@ ghost use Rattle.qr_bits.specs.declared.modes.Rule.{Rule};
 ghost use Rattle.qr_bits.specs.declared.stream.Header.{Header};
 ghost use Rattle.qr_symbol.specs.Encoding.{IsSymbolAt};
 ghost use Rattle.qr_symbol.specs.Reading.{interpreted_content};
+ghost use Rattle.qr_logos.specs.Encoding.{IsLogoSymbol};
 ghost use Rattle.qr_logos.specs.Logo.{IsAllowed, IsClear, IsMostCovered, first_of};
 ghost use Rattle.qr_logos.specs.Laws.{IsMendedOnlyAs, IsUnderLogo, IsWorn};
 
@@ -51,4 +52,22 @@ pub fn logos_leave_symbols_readable()
         (symbol square : Grid) (share k more : ℕ) → 1 ≤ v → v ≤ 40 → MayWrite i x → (s : IsSymbolAt v l rule i x h mask symbol)
         → IsAllowed v l share k → IsWorn v l k more square symbol → share ≤ 100 → 100 * more ≤ (100 - share) * correctable_of v l
         → IsMendedOnlyAs square v l mask (interpreted_content i h s.segments x) }
+{}
+
+/// A symbol that `encode_with_logo` makes is mended to exactly its input, and to nothing else, whatever colours the modules
+/// under the logo have. The codewords that the share leaves may be wrong too, as in `logos_leave_symbols_readable`.
+pub fn encoded_logos_leave_symbols_readable()
+    ensures { (smallest : ℕ) (lowest : Level) (rule : Rule) (i : Interpretation) (x : List ℕ) (share k v : ℕ) (l : Level) (mask : ℕ)
+        (symbol square : Grid) (more : ℕ) → 1 ≤ smallest → MayWrite i x
+        → (s : IsLogoSymbol smallest lowest rule i x share k v l mask symbol) → IsWorn v l k more square symbol
+        → share ≤ 100 → 100 * more ≤ (100 - share) * correctable_of v l
+        → IsMendedOnlyAs square v l mask (interpreted_content i None s.symbol.made.segments x) }
+{}
+
+/// Once the least version, the lowest level, the rule, the interpretation, the share and the side of the logo are chosen,
+/// an input has at most one symbol with a logo: one version, one level, one mask and one square.
+pub fn logo_symbols_are_one()
+    ensures { (smallest : ℕ) (lowest : Level) (rule : Rule) (i : Interpretation) (x : List ℕ) (share k v w : ℕ) (l j : Level) (m n : ℕ)
+        (g h : Grid) → IsLogoSymbol smallest lowest rule i x share k v l m g → IsLogoSymbol smallest lowest rule i x share k w j n h
+        → (v ≡ w) × (l ≡ j) × (m ≡ n) × (g ≡ h) }
 {}

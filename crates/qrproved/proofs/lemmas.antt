@@ -2,6 +2,7 @@
 pub mod modules
 pub mod bits
 pub mod encoding
+pub mod logo
 pub mod interpretation
 pub mod reading
 pub mod mending

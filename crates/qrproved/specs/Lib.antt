@@ -15,3 +15,4 @@ pub mod Sheets
 pub mod Image
 pub mod Parsing
 pub mod Finding
+pub mod Logo

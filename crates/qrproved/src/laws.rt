@@ -23,11 +23,11 @@ ghost use Rattle.qrproved.specs.Row.{AreRowSettings, RowsAreTheDrawing, style_of
 ghost use Rattle.qrproved.specs.Settings.{AreSymbolSettings, interpretation_of, level_of, rule_of};
 
 use crate::status::{
-    CHECK, DONE, EMPTY, FIELDS, FORMAT, MEMORY, NO_DRAWING, ROOM, SEGMENTS, SETTINGS, SIDE,
+    CHECK, DONE, EMPTY, FIELDS, FORMAT, LOGO, MEMORY, NO_DRAWING, ROOM, SEGMENTS, SETTINGS, SIDE,
     TOO_LONG, TOO_MANY,
 };
 
-/// The statuses have the numbers 0 to 12, as `include/qrproved.h` lists them.
+/// The statuses have the numbers 0 to 13, as `include/qrproved.h` lists them.
 ///
 /// # Notes
 ///
@@ -46,6 +46,7 @@ pub fn statuses()
     ensures segments { SEGMENTS ≡ 10 }
     ensures no_drawing { NO_DRAWING ≡ 11 }
     ensures fields { FIELDS ≡ 12 }
+    ensures logo { LOGO ≡ 13 }
 {}
 
 /// Numbers have these meanings in calls. As a level, 0 to 3 are L, M, Q and H. As a rule, 0 to 2 are `Auto`,

@@ -1,14 +1,14 @@
 //! A library for C, and for each language that can call C functions. In the comments of this crate a call is one of the
-//! library's functions, which `include/qrproved.h` declares. The calls encode an input as a symbol or a series, read
+//! library's functions, which `include/qrproved.h` declares. The calls encode an input as a symbol, also for a logo, or as a series, read
 //! symbols, mend damaged ones, draw squares of modules, write them as documents for print, as labels or as images, parse
 //! drawings, find symbols in pictures, and say how much fits a symbol. A call writes modules, bytes, ECI headers, texts and files to buffers of the
 //! caller, and numbers to a struct or a variable of the caller. It keeps no memory, so there is nothing to free.
 //!
 //! The contracts of the calls hold if the caller fulfils the conditions under 'What the caller owes' in
 //! `docs/LIBRARY.md`. If a buffer is longer than the result, the bytes after the result stay as they are. On each
-//! status but 0 the buffers, structs and variables of the caller are unchanged. There is one exception: if a buffer is
+//! status but 0 the buffers, structs and variables of the caller are unchanged. There are two exceptions: if a buffer is
 //! too short, `qrproved_draw`, `qrproved_draw_row`, `qrproved_document`, `qrproved_sheets` and `qrproved_image` still set
-//! `written`.
+//! `written`, and with the status `LOGO` `qrproved_encode_logo` sets `largest`.
 //!
 //! If a call cannot do what it is asked for, it returns the status of the first cause that applies, in the order in
 //! which its comment lists the causes. If memory is refused, it returns `MEMORY`. The comment also names the causes
@@ -24,6 +24,7 @@
 //! - `image`: the call that writes the image of a square as a file
 //! - `interpretation`: ECI headers and FNC1, as numbers for C
 //! - `laws`: laws about the calls and their numbers
+//! - `logo`: the call that encodes an input as a symbol that may have a logo
 //! - `mending`: the call that reads a damaged symbol and measures its damage
 //! - `modules`: squares of modules as bytes of a buffer
 //! - `parsing`: the call that parses a drawing
@@ -45,6 +46,7 @@ mod finding;
 mod image;
 mod interpretation;
 pub mod laws;
+mod logo;
 mod mending;
 mod modules;
 mod parsing;
@@ -63,6 +65,7 @@ pub use encoding::{QrprovedSymbol, qrproved_encode, qrproved_encode_bits};
 pub use finding::{QrprovedFound, qrproved_find};
 pub use image::qrproved_image;
 pub use interpretation::QrprovedEci;
+pub use logo::qrproved_encode_logo;
 pub use mending::{QrprovedMended, qrproved_mend};
 pub use parsing::{QrprovedDrawn, qrproved_parse_drawing};
 pub use reading::{QrprovedContent, qrproved_read};

@@ -49,6 +49,9 @@ pub(crate) const NO_DRAWING: u8 = 11;
 /// The input is no GS1 data: a separator of fields comes directly before another or before `%`.
 pub(crate) const FIELDS: u8 = 12;
 
+/// The input fits, but no symbol of it may have the logo.
+pub(crate) const LOGO: u8 = 13;
+
 pub(crate) fn encode_status(fault: EncodeFault) -> u8
     ensures { result ≡ encode_status fault }
 {

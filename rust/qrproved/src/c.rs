@@ -15,6 +15,7 @@ pub const ECIS_MAX: usize = 1970;
 pub const FOUND_MAX: usize = 64;
 pub const SCALE_MAX: u8 = 100;
 pub const WRONG_FORMAT_MAX: u8 = 3;
+pub const LOGO: u8 = 13;
 
 /// Interpretations; a smaller number is that of an ECI.
 pub const INTERPRETATION_DEFAULT: Setting = 1_000_000;
@@ -146,6 +147,21 @@ extern "C" {
         modules: *mut c_uchar,
         modules_len: usize,
         symbol: *mut Symbol,
+    ) -> u8;
+
+    pub fn qrproved_encode_logo(
+        input: *const c_uchar,
+        input_len: usize,
+        version: Setting,
+        level: Setting,
+        rule: Setting,
+        interpretation: Setting,
+        logo: Setting,
+        share: Setting,
+        modules: *mut c_uchar,
+        modules_len: usize,
+        symbol: *mut Symbol,
+        largest: *mut c_uchar,
     ) -> u8;
 
     pub fn qrproved_encode_series(

@@ -91,6 +91,38 @@ impl fmt::Display for Error {
 
 impl std::error::Error for Error {}
 
+/// Why [`encode_with_logo`](crate::encode_with_logo) makes no symbol.
+#[derive(Clone, Copy, Debug, PartialEq, Eq, Hash)]
+#[non_exhaustive]
+pub enum LogoError {
+    /// The input fits, but no symbol of it may have so large a logo. The number is the side of the largest logo that one may have,
+    /// in modules.
+    TooLarge(u8),
+    /// The input is not encoded for another reason.
+    Encode(Error),
+}
+
+impl fmt::Display for LogoError {
+    fn fmt(&self, to: &mut fmt::Formatter<'_>) -> fmt::Result {
+        match self {
+            LogoError::TooLarge(0) => to.write_str("no symbol of this input may have a logo"),
+            LogoError::TooLarge(side) => write!(
+                to,
+                "a symbol of this input may have a logo of at most {side} by {side} modules"
+            ),
+            LogoError::Encode(error) => error.fmt(to),
+        }
+    }
+}
+
+impl std::error::Error for LogoError {}
+
+impl From<Error> for LogoError {
+    fn from(error: Error) -> LogoError {
+        LogoError::Encode(error)
+    }
+}
+
 /// Why a number is no [`Version`](crate::Version), or a text no [`Level`](crate::Level). As an [`Error`] it is
 /// [`Error::Settings`].
 #[derive(Clone, Copy, Debug, PartialEq, Eq, Hash)]

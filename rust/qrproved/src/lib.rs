@@ -31,7 +31,7 @@ mod c;
 mod error;
 mod interpretation;
 
-pub use error::{Error, SettingError};
+pub use error::{Error, LogoError, SettingError};
 pub use interpretation::{Eci, Fnc1, Interpretation, TextError};
 
 use std::fmt;
@@ -172,6 +172,24 @@ pub struct Options {
     /// Whether the symbol has the highest level, from the one that is asked for on, that fits the same version. A series has the
     /// level that is asked for.
     pub boost: bool,
+}
+
+/// A logo in the middle of a symbol: a square of whole modules, to which a light ring around the picture belongs.
+#[derive(Clone, Copy, Debug, PartialEq, Eq, Hash)]
+pub struct Logo {
+    /// How many modules it has on a side.
+    pub side: u8,
+    /// The most that it may use up of the wrong codewords that can be corrected in a block, in percent, at most 75. The rest is left for
+    /// dirt and wear.
+    pub share: u8,
+}
+
+impl Logo {
+    /// Returns a logo that uses up at most half of what can be corrected.
+    #[must_use]
+    pub fn of_side(side: u8) -> Logo {
+        Logo { side, share: 50 }
+    }
 }
 
 impl Options {
@@ -352,6 +370,22 @@ impl Symbol {
     #[must_use]
     pub fn modules(&self) -> &[u8] {
         &self.modules
+    }
+
+    /// Returns the first row of a logo of `logo` by `logo` modules, which is also its first column. With an even number the logo is
+    /// half a module above the middle and half a module to the left of it.
+    ///
+    /// # Panics
+    ///
+    /// If the logo has more modules on a side than the symbol.
+    #[must_use]
+    pub fn logo_at(&self, logo: u8) -> usize {
+        let side = self.side();
+        assert!(
+            usize::from(logo) <= side,
+            "a logo of {logo} modules on a side is larger than the symbol"
+        );
+        (side - usize::from(logo)) / 2
     }
 
     /// Returns the rows of modules, from the top.
@@ -567,6 +601,69 @@ pub fn encode(
         mask: Some(symbol.mask),
         modules,
     })
+}
+
+/// Encodes an input as a symbol that may have a logo in its middle. The symbol has the least version, from `smallest` on, with which at
+/// some level, from `lowest` on, the input fits and the logo is allowed, and the highest such level, whatever [`Options::boost`] is.
+/// [`Symbol::logo_at`] says where the logo goes. With the logo, whatever it shows, the symbol is mended to exactly the input.
+///
+/// ```
+/// use qrproved::{encode_with_logo, Level, Logo, LogoError, Options, Version};
+///
+/// let symbol = encode_with_logo(b"Shelf 12", Version::MIN, Level::L, &Options::default(), Logo::of_side(7))?;
+/// assert_eq!(symbol.logo_at(7), (symbol.side() - 7) / 2);
+/// # Ok::<(), LogoError>(())
+/// ```
+///
+/// # Errors
+///
+/// [`LogoError::TooLarge`] if no symbol of the input may have the logo; [`LogoError::Encode`] as [`encode`], and with [`Error::Settings`]
+/// for a logo of more than 177 modules on a side or a share above 75 %.
+pub fn encode_with_logo(
+    input: &[u8],
+    smallest: Version,
+    lowest: Level,
+    options: &Options,
+    logo: Logo,
+) -> Result<Symbol, LogoError> {
+    let mut symbol = c::Symbol::default();
+    let mut largest = None;
+    let interpretation = options.interpretation.number()?;
+    let made = filled(c::SYMBOL_MAX, |modules, len| {
+        let mut side = 0;
+        // SAFETY: `filled` has checked the version, each length is that of its slice, and only the call has the buffer, the struct
+        // and the number to which it writes.
+        let status = unsafe {
+            c::qrproved_encode_logo(
+                input.as_ptr(),
+                input.len(),
+                c::Setting::from(smallest.0),
+                lowest as c::Setting,
+                options.rule as c::Setting,
+                interpretation,
+                c::Setting::from(logo.side),
+                c::Setting::from(logo.share),
+                modules,
+                len,
+                &mut symbol,
+                &mut side,
+            )
+        };
+        if status == c::LOGO {
+            largest = Some(side);
+            return (0, 0);
+        }
+        (status, usize::from(symbol.side).pow(2))
+    })?;
+    match largest {
+        Some(side) => Err(LogoError::TooLarge(side)),
+        None => Ok(Symbol {
+            version: Version(symbol.version),
+            level: Level::ALL[usize::from(symbol.level)],
+            mask: Some(symbol.mask),
+            modules: made,
+        }),
+    }
 }
 
 /// Encodes an input as a series of at most 16 symbols of one version and level, by structured append. An input that fits one

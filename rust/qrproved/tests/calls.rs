@@ -1,8 +1,9 @@
 //! What the crate adds to the library: its types, and its refusals. The symbols themselves are compared by tests/library.
 use qrproved::{
-    document, draw, draw_squares, draw_svg, encode, encode_series, find, image, mend, parse_drawing,
-    read, room, sheets, Content, Document, Drawing, Eci, Error, Fnc1, Format, Header, ImageOptions,
-    Interpretation, Level, Mode, Options, Rule, SettingError, Sheet, TextError, Version,
+    document, draw, draw_squares, draw_svg, encode, encode_series, encode_with_logo, find, image,
+    mend, parse_drawing, read, room, sheets, Content, Document, Drawing, Eci, Error, Fnc1, Format,
+    Header, ImageOptions, Interpretation, Level, Logo, LogoError, Mode, Options, Rule,
+    SettingError, Sheet, TextError, Version,
 };
 
 /// What the command has: the level that is asked for.
@@ -897,4 +898,62 @@ fn symbols_are_found_in_pictures() {
     }
     assert_eq!(find(&[200; 100], 10, 10, 10, true), Ok(Vec::new()));
     assert_eq!(find(&[200; 100], 10, 10, 9, true), Err(Error::Settings));
+}
+
+/// The rows of tests/lib/library_rows.py say how the numbers were worked out.
+#[test]
+fn a_logo_decides_on_the_version_and_the_level() {
+    let letters = [b'a'; 17];
+    for (side, share, version, level) in [
+        (2, 50, 1, Level::L),
+        (3, 50, 2, Level::Q),
+        (2, 49, 2, Level::Q),
+    ] {
+        let logo = Logo { side, share };
+        let symbol = encode_with_logo(&letters, Version::MIN, Level::L, &PLAIN, logo).unwrap();
+        assert_eq!(
+            (symbol.version().number(), symbol.level()),
+            (version, level)
+        );
+    }
+}
+
+#[test]
+fn a_symbol_is_read_whatever_its_logo_shows() {
+    let symbol = encode_with_logo(
+        b"Shelf 12",
+        Version::MIN,
+        Level::L,
+        &PLAIN,
+        Logo::of_side(8),
+    )
+    .unwrap();
+    let (side, at) = (symbol.side(), symbol.logo_at(8));
+    let mut modules = symbol.modules().to_vec();
+    for row in at..at + 8 {
+        for module in &mut modules[row * side + at..row * side + at + 8] {
+            *module ^= 1;
+        }
+    }
+    let mended = mend(&modules, side).unwrap();
+    assert_eq!(mended.content.data, b"Shelf 12");
+    assert!(mended.spent() <= 0.5);
+}
+
+#[test]
+fn a_logo_that_is_too_large_says_what_would_fit() {
+    let too_large = |side| {
+        let logo = Logo::of_side(side);
+        encode_with_logo(b"A", Version::MIN, Level::L, &PLAIN, logo)
+    };
+    let Err(LogoError::TooLarge(largest)) = too_large(177) else {
+        panic!("a logo of 177 modules");
+    };
+    assert!(too_large(largest).is_ok());
+    assert_eq!(too_large(largest + 1), Err(LogoError::TooLarge(largest)));
+    assert_eq!(too_large(178), Err(LogoError::Encode(Error::Settings)));
+    assert_eq!(
+        LogoError::TooLarge(61).to_string(),
+        "a symbol of this input may have a logo of at most 61 by 61 modules"
+    );
 }

@@ -1,0 +1,2 @@
+-- The lemmas that other crates use.
+pub use Rattle.qr_logos.proofs.lemmas.encoding.{size-fits}
