@@ -2,9 +2,9 @@
 
 encode returns the symbol of a text, of bytes or of GS1 data, encode_series the symbols of a series. A Symbol is drawn by its methods
 as PNG, SVG, PDF or EPS, as text, or in the language of a printer. document makes a document of several symbols, sheets one
-of label paper, and labels a file for a printer. read reads a symbol that is as it was drawn; mend reads a damaged one, and says how damaged it is. parse_drawing finds the
-modules of a drawing, parse_picture those of a PNG picture or of any SVG document. Modules are bytes, row by row from the top left,
-without the quiet zone of four light modules that a drawing needs on each side.
+of label paper, and labels a file for a printer. read reads a symbol that is as it was drawn; mend reads a damaged one, and says how damaged it is. find finds the symbols of a
+picture, and parse_drawing those of a drawing as text. Modules are bytes, row by row from the top left, without the quiet zone of
+four light modules that a drawing needs on each side.
 
 Each refusal is an exception of the class Error, also where a number is out of range or a name is not known; but a text that its
 character set does not have is an EciError, and one that is no GS1 data a Gs1Error. A number that is no integer, as a bool or a
@@ -29,23 +29,25 @@ from ._common import DATA, LIMITS
 from ._drawings import found_by_look, undone
 from ._gs1 import Gs1Error, data_of, fields_of
 from ._interpretation import SHIFT_JIS, UTF_8, Eci, EciError, encoded, text_of
-from ._pictures import WORK_MAX, parse_picture
+from ._pictures import Grey, greys_of, is_picture
 from ._errors import (CheckError, EmptyError, Error, FieldsError, FormatError, LogoError, NoDrawingError, OutOfMemoryError, RoomError,
                       SegmentsError, SettingsError, SideError, TooLongError, TooManyError, no_logo, raise_for, too_long)
-from ._library import BYTES_MAX, COUNT_MAX, ECIS_MAX, MARGIN_MAX, SERIES_MAX, SIDE_MAX, SYMBOL_MAX
+from ._library import BYTES_MAX, COUNT_MAX, ECIS_MAX, FOUND_MAX, MARGIN_MAX, PICTURE_MAX, SERIES_MAX, SIDE_MAX, SYMBOL_MAX
 
 if TYPE_CHECKING:
     from collections.abc import Callable, Iterable, Mapping, Sequence
+    from typing import Any
 
+    Picture = Any  # bytes, a path, an open file, an image of Pillow, or an array of numpy
     Bytes = Union[bytes, bytearray, memoryview]
     Input = Union[str, bytes, bytearray, memoryview]
     Name = Union[int, str]
 
-__all__ = ["BYTES_MAX", "COUNT_MAX", "ECI_MAX", "MARGIN_MAX", "SCALE_MAX", "SERIES_MAX", "SIDE_MAX", "SYMBOL_MAX", "CheckError", "Content",
-           "Drawing", "Drawn", "Eci", "EciError", "EmptyError", "Error", "FieldsError", "FormatError", "Gs1Error", "Header", "Level",
-           "LogoError", "Mended", "NoDrawingError", "OutOfMemoryError", "PrintWarning", "RoomError", "Rule", "SegmentsError", "SettingsError",
-           "Sheet", "SideError", "Symbol", "TooLongError", "TooManyError", "WORK_MAX", "contents", "document", "draw", "encode", "encode_series", "labels", "mend",
-           "PAPERS", "paper", "parse_drawing", "parse_picture", "read", "sheets"]
+__all__ = ["BYTES_MAX", "COUNT_MAX", "ECI_MAX", "FOUND_MAX", "MARGIN_MAX", "PICTURE_MAX", "SCALE_MAX", "SERIES_MAX", "SIDE_MAX", "SYMBOL_MAX",
+           "CheckError", "Content", "Drawing", "Drawn", "Eci", "EciError", "EmptyError", "Error", "FieldsError", "FormatError", "Found",
+           "Gs1Error", "Header", "Level", "LogoError", "Mended", "NoDrawingError", "OutOfMemoryError", "PrintWarning", "RoomError", "Rule",
+           "SegmentsError", "SettingsError", "Sheet", "SideError", "Symbol", "TooLongError", "TooManyError", "contents", "document", "draw",
+           "encode", "encode_series", "find", "labels", "mend", "PAPERS", "paper", "parse_drawing", "parse_picture", "read", "sheets"]
 
 __version__ = "0.2.0"
 _calls = _library.load()
@@ -68,6 +70,10 @@ PAPERS = tuple(_papers.PAPERS)  # the names of label paper
 GRADES = DATA["grades"]  # of the error correction that is unused: the least percentage of each
 ONLY_LABELS = "only in ZPL and TSPL a symbol has a place on a label, which x and y say"
 WRONG_FORMAT_MAX = LIMITS["WRONG_FORMAT_MAX"]  # wrong modules of a copy of the format information that can be read (ISO/IEC 18004:2015, Annex C)
+CORNER_STEPS = 16  # of a pixel, in the corners of a symbol
+MANY = 16  # symbols of a picture, after which there may be more of them than one search finds
+SEARCHES = 32  # of a picture at most
+NO_SYMBOL = "no symbol is found in the picture"
 
 
 class PrintWarning(UserWarning):
@@ -587,6 +593,36 @@ class Mended:
         return self.spent_most / (2 * self.changed_allowed)
 
 
+@dataclass(frozen=True)
+class Found:
+    """A square that find found in a picture."""
+
+    modules: bytes
+    """side * side bytes, row by row: 0 is light, 1 is dark, 2 is not known."""
+    side: int
+    """From 21 to SIDE_MAX."""
+    corners: Tuple[Tuple[float, float], ...]
+    """The x and the y of each corner, in pixels from the upper left corner of the picture: of the first module, and then clockwise
+    around the square."""
+    quarter_turns: int
+    """By how many quarter turns the symbol is turned clockwise, to the nearest one: from 0 to 3."""
+    is_inverse: bool
+    """True for a symbol that is light on dark."""
+    is_mirrored: bool
+    """True if its first row goes from the first corner to the last one, and not to the second."""
+    is_read: bool
+    """True if it can be mended, and at most one of its modules in five is wrong or not known. Only find(picture, unread=True) finds
+    others."""
+
+    def read(self) -> Content:
+        """Returns what the symbol says, as the function read does."""
+        return read(self)
+
+    def mend(self) -> Mended:
+        """Returns what the symbol says, and how damaged it is, as the function mend does."""
+        return mend(self)
+
+
 def _whole(name: str, value: int) -> int:
     """Returns a number that is an integer. A bool is none, though Python takes it for 0 or 1."""
     if isinstance(value, bool):
@@ -746,18 +782,32 @@ def _bytes(name: str, data: Optional[Bytes]) -> bytes:
         raise TypeError(f"{name} is a text or bytes, and not of type {type(data).__name__}") from None
 
 
-def _square(call: str, modules: Union[Symbol, Bytes], side: Optional[int]) -> tuple[bytes, int]:
+def _square(call: str, modules: Union[Symbol, Found, Bytes], side: Optional[int]) -> tuple[bytes, int]:
     """Returns modules and their side, which a symbol has itself."""
-    if isinstance(modules, Symbol):
+    if isinstance(modules, (Symbol, Found)):
         return _copied(modules.modules), _side(modules.side if side is None else side)
-    others = "for a picture call parse_picture(picture), and for a drawing as text parse_drawing(text)"
     try:
         copied = _copied(modules)
     except TypeError:
-        raise TypeError(f"{call}: modules are bytes, and not of type {type(modules).__name__}; {others}") from None
+        raise TypeError(f"{call}: modules are bytes, and not of type {type(modules).__name__}; a picture is given alone, and for a drawing as"
+                        " text call parse_drawing(text)") from None
     if side is None:
-        raise TypeError(f"{call}: modules are given with their side, as in {call}(modules, 21); {others}")
+        raise TypeError(f"{call}: modules are given with their side, as in {call}(modules, 21); these bytes are no picture, and for a drawing"
+                        " as text call parse_drawing(text)")
     return copied, _side(side)
+
+
+def _chosen(modules: Union[Symbol, Found, Bytes, Picture], side: Optional[int]) -> Union[Symbol, Found, Bytes]:
+    """Returns modules as they are, and of a picture its one symbol. If none can be mended, it is what looks most like one."""
+    if side is not None or isinstance(modules, (Symbol, Found)) or not is_picture(modules):
+        return modules
+    found = find(modules, unread=True)
+    symbols = [it for it in found if it.is_read] or found[:1]
+    if len(symbols) > 1:
+        raise ValueError(f"the picture shows {len(symbols)} symbols: find(picture) returns all of them")
+    if not symbols:
+        raise ValueError(NO_SYMBOL)
+    return symbols[0]
 
 
 def _first(buffer: ctypes.Array[ctypes.c_uint8], length: int) -> bytes:
@@ -882,44 +932,52 @@ def encode_series(data: Optional[Input] = None, *wrong: NoReturn, version: Optio
     return [Symbol(settings[0], series.side, None, written[k * area:(k + 1) * area], level_of_all) for k in range(series.count)]
 
 
-def read(modules: Union[Symbol, Bytes], side: Optional[int] = None) -> Content:
+def read(modules: Union[Symbol, Found, Bytes, Picture], side: Optional[int] = None) -> Content:
     """Returns what a symbol says. No errors are corrected: each codeword has to be as it was drawn.
 
-    modules  side * side bytes, row by row: 0 is light, all others are dark; bytes past the last module are ignored
-    side     modules on a side: 21, 25, and so on to SIDE_MAX; a Symbol has its own
+    modules  side * side bytes, row by row: 0 is light, all others are dark; bytes past the last module are ignored. A Symbol or a
+             Found; or a picture of one symbol, as find takes it
+    side     modules on a side: 21, 25, and so on to SIDE_MAX, if modules are bytes
 
     Raises SideError if no version has the side, RoomError if there are too few modules, FormatError if the first copy of the
     format information belongs to no level and mask, CheckError if a block does not match its error correction codewords,
-    SegmentsError if the data codewords cannot be parsed, and OutOfMemoryError.
+    SegmentsError if the data codewords cannot be parsed, and OutOfMemoryError. Raises ValueError for a picture without a symbol or
+    with several.
 
     The finder, timing and alignment patterns and the version information are not checked, so a symbol that is read here
     may not scan. mend checks each module.
     """
-    given, checked = _square("read", modules, side)
+    given, checked = _square("read", _chosen(modules, side), side)
     data, ecis, content = (ctypes.c_uint8 * BYTES_MAX)(), (_library.Eci * ECIS_MAX)(), _library.Content()
     raise_for(_calls.qrproved_read(given, len(given), checked, data, BYTES_MAX, ecis, ECIS_MAX, ctypes.byref(content)))
     return _content_of(content, data, ecis)
 
 
-def mend(modules: Union[Symbol, Bytes], side: Optional[int] = None) -> Mended:
+def mend(modules: Union[Symbol, Found, Bytes, Picture], side: Optional[int] = None) -> Mended:
     """Returns what a damaged symbol says, and how damaged it is.
 
-    modules  side * side bytes, row by row: 0 is light, 1 is dark, 2 is not known; bytes past the last module are ignored
-    side     modules on a side: 21, 25, and so on to SIDE_MAX; a Symbol has its own
+    modules  side * side bytes, row by row: 0 is light, 1 is dark, 2 is not known; bytes past the last module are ignored. A Symbol or
+             a Found; or a picture of one symbol, as find takes it
+    side     modules on a side: 21, 25, and so on to SIDE_MAX, if modules are bytes
 
     In each block at most changed_allowed codewords are mended. A codeword with a module that is not known takes half as much of
     the correction as a wrong one. Of the 30 modules of format information any six may be wrong, or 13 not known: the number not
-    known and twice the number of wrong ones are at most 13. No other module has to be right.
+    known and twice the number of wrong ones are at most 13. No other module has to be right. But of a square in a picture at most
+    one module in five may be wrong or not known, since other squares that are no symbols can now and then be mended.
 
     Raises SideError if no version has the side, RoomError if there are too few modules, SettingsError if one is more than 2,
     FormatError if both copies of the format information are too damaged, CheckError if a block is, SegmentsError if the data
-    codewords cannot be parsed, and OutOfMemoryError.
+    codewords cannot be parsed, and OutOfMemoryError. Raises ValueError for a picture without a symbol or with several.
     """
-    given, checked = _square("mend", modules, side)
+    chosen = _chosen(modules, side)
+    given, checked = _square("mend", chosen, side)
     data, ecis, mended = (ctypes.c_uint8 * BYTES_MAX)(), (_library.Eci * ECIS_MAX)(), _library.Mended()
     raise_for(_calls.qrproved_mend(given, len(given), checked, data, BYTES_MAX, ecis, ECIS_MAX, ctypes.byref(mended)))
     counts = (getattr(mended, name) for name, _ in _library.DAMAGED)
-    return Mended(_content_of(mended, data, ecis), Level(mended.level), mended.mask, mended.wrong_modules, *counts)
+    made = Mended(_content_of(mended, data, ecis), Level(mended.level), mended.mask, mended.wrong_modules, *counts)
+    if isinstance(chosen, Found) and not chosen.is_read:
+        raise CheckError(f"{made.wrong_modules} of its {checked * checked} modules are wrong or not known, and in a picture at most one in five may be")
+    return made
 
 
 def _listed(symbols: Union[Symbol, Iterable[Symbol]]) -> list[Symbol]:
@@ -1236,6 +1294,83 @@ def parse_drawing(text: Union[str, Bytes]) -> Drawn:
         if found is not None:
             return found
     return Drawn(found_by_look(given))
+
+
+def _squares_in(grey: Grey, unread: bool) -> list[Found]:
+    """Returns the squares that one call of the library finds."""
+    modules, found, count = (ctypes.c_uint8 * (FOUND_MAX * SYMBOL_MAX))(), (_library.Found * FOUND_MAX)(), ctypes.c_size_t()
+    raise_for(_calls.qrproved_find(grey.pixels, len(grey.pixels), grey.width, grey.height, grey.width, unread, modules, len(modules), found,
+                                   FOUND_MAX, ctypes.byref(count)))
+    view, made = memoryview(modules), []
+    for k, it in enumerate(found[:count.value]):
+        corners = tuple((getattr(it, f"x{corner}") / CORNER_STEPS, getattr(it, f"y{corner}") / CORNER_STEPS) for corner in range(4))
+        square = bytes(view[k * SYMBOL_MAX:k * SYMBOL_MAX + it.side ** 2])
+        made.append(Found(square, it.side, corners, it.quarter_turns, it.is_inverse != 0, it.is_mirrored != 0, it.is_read != 0))
+    return made
+
+
+def found_in(grey: Grey, unread: bool) -> list[Found]:
+    """Returns the squares of a picture in grey, those that are read first, and row by row. A search finds some 40 symbols at most. So after
+    one that finds many, these are covered, and the picture is searched again."""
+    if not (1 <= grey.width <= PICTURE_MAX and 1 <= grey.height <= PICTURE_MAX):
+        raise SettingsError(f"a picture is from 1 to {PICTURE_MAX} pixels wide and high, and not {grey.width} times {grey.height}")
+    squares, found = [], []
+    for _ in range(SEARCHES):
+        squares = _squares_in(grey, unread)
+        read = [it for it in squares if it.is_read]
+        found += read
+        if len(read) < MANY:
+            break
+        grey = grey.covered([(it.corners, 0 if it.is_inverse else 255) for it in read])
+    return _in_rows(found) + _in_rows([it for it in squares if not it.is_read])
+
+
+def _in_rows(squares: list[Found]) -> list[Found]:
+    """Returns squares row by row. A square is in the row of another one if its upper edge is above the middle of the other."""
+    rows: list[list[Found]] = []
+    middle = 0.0
+    for it in sorted(squares, key=lambda square: min(y for _, y in square.corners)):
+        top, bottom = min(y for _, y in it.corners), max(y for _, y in it.corners)
+        if not rows or top >= middle:
+            rows.append([])
+            middle = (top + bottom) / 2
+        rows[-1].append(it)
+    return [it for row in rows for it in sorted(row, key=lambda square: min(x for x, _ in square.corners))]
+
+
+def find(picture: Picture, *wrong: NoReturn, unread: bool = False, **others: NoReturn) -> list[Found]:
+    """Returns the symbols of a picture, row by row from the upper left. They may be turned, tilted, mirrored, light on dark, in shadow,
+    blurred or small. All three finder patterns have to be seen.
+
+    picture  the bytes of a PNG picture or of an SVG document, the path of a file with them, or an open binary file; an image of Pillow;
+             or an array of bytes, as numpy has them: rows of grey, or rows of RGB or RGBA. Of an SVG document rectangles and upright
+             lines are drawn, and texts are left out. What is transparent is taken for white, and if nothing is found, for black
+    unread   True: squares that look like symbols and cannot be mended are found too, after the others
+
+    Raises ValueError for what cannot be read as a picture, TypeError for an object of another type, OSError for a file that cannot be
+    read, SettingsError, which is a ValueError, for a picture that is more than PICTURE_MAX pixels wide or high, and OutOfMemoryError.
+    """
+    _no_more("find", "picture, ", wrong, others, "unread")
+    is_unread = _flag("unread", unread) == 1
+    found: list[Found] = []
+    for grey in greys_of(picture):
+        squares = found_in(grey, is_unread)
+        found = found or squares
+        if any(it.is_read for it in squares):
+            return squares
+    return found
+
+
+def parse_picture(picture: Picture) -> list[tuple[bytes, int]]:
+    """Returns the modules and the side of each symbol of a picture, in the order and with the errors of find. Raises ValueError if there
+    is no symbol.
+
+    A module is 0 for light, 1 for dark, and 2 if it is between them and so not known.
+    """
+    found = find(picture)
+    if not found:
+        raise ValueError(NO_SYMBOL)
+    return [(it.modules, it.side) for it in found]
 
 
 def _content_of(it: Union[_library.Content, _library.Mended], data: ctypes.Array[ctypes.c_uint8], ecis: ctypes.Array[_library.Eci]) -> Content:

@@ -15,19 +15,19 @@ from pathlib import Path
 from typing import NamedTuple, Optional, Union
 
 import qrproved
-from qrproved import Content, Error, Gs1Error, Mended
+from qrproved import Content, Error, Found, Gs1Error, Mended
 
 from ._console import INPUT, PROGRAM, is_printed, named, say
 from ._documents import pages_of
 from ._gs1 import data_of
-from ._pictures import is_picture, squares_of_rows
+from ._pictures import is_picture
 from ._sources import BINARY, SourceError, encoding_of
 from ._stream import DIGITS, Naming, Source, columns_of, labels_of
 
 SOUND, READABLE, NOT_READABLE = range(3)
 STATES = ("sound", "readable", "not scannable", "not readable")  # of a symbol, by the words of JSON
 
-Square = tuple[bytes, int]
+Square = Union[tuple[bytes, int], Found]  # of a drawing, and of a picture
 
 
 class Verdict(NamedTuple):
@@ -174,12 +174,13 @@ def state_of(it: Mended) -> tuple[int, str, str]:
     return NOT_READABLE, STATES[2], f"read here, but scanners will not: {why}"
 
 
-def mended_of(modules: bytes, side: int) -> Union[Mended, str]:
+def mended_of(square: Square) -> Union[Mended, str]:
     """Returns a symbol, or why it cannot be read."""
     try:
-        return qrproved.mend(modules, side)
+        return square.mend() if isinstance(square, Found) else qrproved.mend(*square)
     except Error as fault:
-        return "the symbol is mirrored" if is_mirrored(modules, side) else str(fault)
+        # (in a picture a symbol that is mirrored is read)
+        return "the symbol is mirrored" if not isinstance(square, Found) and is_mirrored(*square) else str(fault)
 
 
 def with_kanji(all_mended: list[Union[Mended, str]]) -> list[Union[Mended, str]]:
@@ -199,13 +200,16 @@ def joined(all_mended: list[Union[Mended, str]]) -> Optional[Content]:
     return dataclasses.replace(contents[0], data=b"".join(it.data for it in contents))
 
 
-def verdict(modules: bytes, it: Union[Mended, str], is_graded: bool) -> Verdict:
+def verdict(square: Square, it: Union[Mended, str], is_graded: bool) -> Verdict:
     """Returns what a symbol contains and how much of its correction is spent."""
-    unknown = modules.count(2)
+    unknown = (square.modules if isinstance(square, Found) else square[0]).count(2)
     of_unknown = f"{unknown} {'module is' if unknown == 1 else 'modules are'} not known"
     if isinstance(it, str):
         return Verdict(NOT_READABLE, [f"not readable: {it}" + (f"; {of_unknown}" if unknown else "")], {"state": STATES[3], "fault": it})
     status, state, said = state_of(it)
+    looks = looks_of(square)
+    if "mirrored" in looks and status == SOUND:
+        status, state, said = READABLE, STATES[1], "readable"
     lines = [f"{said}: {it.content.version}-{it.level.name}, mask {it.mask}"]
     if is_graded:
         lines.append(f"unused error correction {it.unused:.2f}, grade {it.unused_grade}: this one parameter of ISO/IEC 15415, and no grade of the symbol")
@@ -213,21 +217,37 @@ def verdict(modules: bytes, it: Union[Mended, str], is_graded: bool) -> Verdict:
         lines.append(f"symbol {it.content.header.position + 1} of {it.content.header.last + 1} of its series")
     if unknown:
         lines.append(f"{of_unknown}, and their codewords count as wrong")
+    lines += [f"{look}, which not every scanner reads" for look in looks.values()]
     numbers = {"version": it.content.version, "level": it.level.name, "mask": it.mask, "spent": round(it.spent, 4), "unused": round(it.unused, 4),
                "unused_grade": it.unused_grade, "wrong_modules": it.wrong_modules, "unknown_modules": unknown}
-    return Verdict(status, lines + list(said_of(it.content)), {"state": state, **numbers, **recorded(it.content)})
+    return Verdict(status, lines + list(said_of(it.content)), {"state": state, **numbers, **dict.fromkeys(looks, True), **recorded(it.content)})
+
+
+def looks_of(square: Square) -> dict[str, str]:
+    """Returns how a symbol of a picture looks other than most symbols: the names in JSON, and what is said."""
+    if not isinstance(square, Found):
+        return {}
+    looks = {"mirrored": (square.is_mirrored, "mirrored"), "light_on_dark": (square.is_inverse, "light on dark")}
+    return {name: said for name, (is_so, said) in looks.items() if is_so}
 
 
 def squares_of(data: bytes) -> list[Square]:
-    """Returns the modules and the side of each symbol of a drawing or of a picture. Raises ValueError if there is none."""
+    """Returns each symbol of a drawing or of a picture. Raises ValueError if there is none."""
     try:
         return qrproved.parse_drawing(data)
     except ValueError as fault:
         if is_picture(data):
-            return qrproved.parse_picture(data)
+            return seen(qrproved.find(data, unread=True))
         if not isinstance(fault, UnicodeDecodeError):
             raise
         raise ValueError("it is no PNG picture, no SVG document and no text in UTF-8") from None
+
+
+def seen(found: list[Found]) -> list[Found]:
+    """Returns the symbols that are found in a picture. Raises ValueError if there are none."""
+    if not found:
+        raise ValueError(qrproved.NO_SYMBOL)
+    return found
 
 
 def pages_in(data: bytes) -> Iterator[Page]:
@@ -238,9 +258,9 @@ def pages_in(data: bytes) -> Iterator[Page]:
             squares = squares_of(data)
             yield Page(None, squares, "", isinstance(squares, qrproved.Drawn) and squares.drawing is None)
             return
-        for number, rows in enumerate(pages, 1):
+        for number, page in enumerate(pages, 1):
             try:
-                yield Page(number, squares_of_rows(rows))
+                yield Page(number, seen(qrproved.found_in(page, True)))
             except ValueError as fault:
                 yield Page(number, [], str(fault))
     except ValueError as fault:
@@ -250,7 +270,7 @@ def pages_in(data: bytes) -> Iterator[Page]:
 def verdicts_of(path: str, data: bytes, expected: Optional[Expected], is_graded: bool) -> Iterator[Verdict]:
     """Yields what is said of each symbol of a file, and of pages without one."""
     pages = list(pages_in(data))
-    all_mended = with_kanji([mended_of(*it) for page in pages for it in page.squares])
+    all_mended = with_kanji([mended_of(it) for page in pages for it in page.squares])
     whole = joined(all_mended)
     wanted = expected.of(path) if expected and (whole is not None or len(all_mended) == 1) else None
     judged = expected.fault(whole, wanted) if expected and whole is not None else None
@@ -260,8 +280,8 @@ def verdicts_of(path: str, data: bytes, expected: Optional[Expected], is_graded:
         before = [f"page {page.number}"] if page.number is not None else []
         if page.fault:
             yield Verdict(NOT_READABLE, [*before, f"not readable: {page.fault}"], {**place, "status": NOT_READABLE, "state": STATES[3], "fault": page.fault})
-        for (modules, _), it in zip(page.squares, contents):
-            said = verdict(modules, it, is_graded)
+        for square, it in zip(page.squares, contents):
+            said = verdict(square, it, is_graded)
             status, lines, record = said.status, before + said.lines, {**place, "status": said.status, **said.record}
             if expected is not None and isinstance(it, Mended):
                 fault = judged if whole is not None else expected.fault(it.content, wanted)
@@ -339,8 +359,8 @@ def check(words: list[str]) -> int:
 def parsed(words: list[str]) -> argparse.Namespace:
     """Returns the arguments, or ends the program with their fault."""
     parser = argparse.ArgumentParser(prog=f"{PROGRAM} check", description="Checks the symbols of PNG pictures, of SVG documents, of drawings in"
-                                     " ASCII or in UTF8, and of the pages of PDF (if pdftoppm is installed) and of TIFF (if Pillow is). They are"
-                                     " upright; photographs are not read. The status is 0 if each is sound, 1 if scanners can read each, and 2"
+                                     " ASCII or in UTF8, and of the pages of PDF (if pdftoppm is installed) and of TIFF (if Pillow is). They may"
+                                     " be turned or seen at an angle. The status is 0 if each is sound, 1 if scanners can read each, and 2"
                                      " otherwise. Of several files the name stands before what is said of each.")
     parser.add_argument("file", nargs="*", default=["-"], help="files with pictures or drawings; without one, standard input")
     parser.add_argument("--expect", metavar="LIST", help="a list of labels, as for --batch: a file contains the text of the label by which --batch"

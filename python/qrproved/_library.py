@@ -18,6 +18,7 @@ VERSION_NUMBER = 200  # the structs and the calls may change with each version
 
 SIDE_MAX, COUNT_MAX, MARGIN_MAX = LIMITS["SIDE_MAX"], LIMITS["COUNT_MAX"], LIMITS["MARGIN_MAX"]
 SYMBOL_MAX, SERIES_MAX, BYTES_MAX, ECIS_MAX = LIMITS["SYMBOL_MAX"], LIMITS["SERIES_MAX"], LIMITS["BYTES_MAX"], LIMITS["ECIS_MAX"]
+FOUND_MAX, PICTURE_MAX = LIMITS["FOUND_MAX"], LIMITS["PICTURE_MAX"]
 
 DEFAULT, GS1 = INTERPRETATIONS["DEFAULT"], INTERPRETATIONS["GS1"]  # a smaller number is that of an ECI
 
@@ -55,6 +56,11 @@ class Sheet(ctypes.Structure):
     _fields_ = [(name, c_uint32) for name in ("width", "height", "left", "top", "across", "down", "columns", "rows", "first")]
 
 
+class Found(ctypes.Structure):
+    _fields_ = [*((f"{axis}{k}", c_uint32) for k in range(4) for axis in "xy"), ("side", c_uint32),
+                *((name, c_uint8) for name in ("quarter_turns", "is_inverse", "is_mirrored", "is_read"))]
+
+
 # A version, a level, an interpretation, a side or another number of 32 bits. ctypes cuts a larger one, so callers check it first.
 SETTING = c_uint32
 BYTES = [ctypes.c_char_p, c_size_t]
@@ -70,6 +76,7 @@ PARAMETERS = {
     "qrproved_sheets": [*BYTES, *[SETTING] * 4, ctypes.POINTER(Sheet), *BUFFER, ctypes.POINTER(c_size_t)],
     "qrproved_image": [*BYTES, *[SETTING] * 7, *BUFFER, ctypes.POINTER(c_size_t)],
     "qrproved_parse_drawing": [*BYTES, *BUFFER, ctypes.POINTER(Drawn)],
+    "qrproved_find": [*BYTES, *[SETTING] * 4, *BUFFER, *BUFFER, ctypes.POINTER(c_size_t)],
     "qrproved_room": [SETTING, SETTING, SETTING, SETTING, SETTING, ctypes.POINTER(c_uint32)],
 }
 

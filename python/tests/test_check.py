@@ -91,6 +91,18 @@ class Check(unittest.TestCase):
         self.assertEqual((found.count("not in the list"), found[-1]), (1, "1 file; symbols: 4 sound, 0 readable, 0 not scannable, 0 not readable;"
                                                                        " 1 not as expected; texts of the list: 1 not seen, 1 seen again"))
 
+    def test_a_label_of_a_sheet_that_cannot_be_read(self):
+        symbols = [qrproved.encode(f"Shelf {k}", version=3, level="m") for k in range(6)]
+        spoilt = bytearray(symbols[4].modules)
+        for row in range(9, 20):
+            spoilt[29 * row + 9:29 * row + 29] = bytes(1 - it for it in spoilt[29 * row + 9:29 * row + 29])
+        symbols[4] = qrproved.Symbol(3, 29, None, bytes(spoilt))
+        # (in another colour it is no drawing of the library)
+        sheet = self.put("a.svg", qrproved.document(symbols, kind="svg").replace(b'fill="#000000"', b'fill="#100000"'))
+        found = self.records("--expect", self.put("list", "".join(f"Shelf {k}\n" for k in range(6))), sheet, status=2)
+        self.assertEqual([it.get("contains") for it in found], [*(f"Shelf {k}" for k in (0, 1, 2, 3, 5)), None])
+        self.assertEqual(found[-1]["state"], "not readable")
+
     def test_json(self):
         symbol = qrproved.encode("Shelf 12", level="h")  # of 2-H, whose one block can have 14 wrong codewords
         spoilt = bytearray(symbol.modules)

@@ -306,14 +306,21 @@ class Command(unittest.TestCase):
                              "3 modules are not known, and their codewords count as wrong\ncontains Shelf 12\n"
                              "found by its look: the text is damaged, or another program drew it\n".encode())
 
-    def spotted(self, side, brightness=130):
-        """Returns a picture of a symbol of version 8-H, full of data, whose modules in the middle have another brightness."""
+    def spotted(self, side):
+        """Returns the modules of a symbol of version 8-H, full of data, of which those of a square in the middle are not known."""
         symbol = qrproved.encode("x" * 84, level="h", boost=False)  # Table 7
         self.assertEqual((symbol.version, symbol.side), (8, 49))
-        rows, first = shown(symbol, scale=4, margin=4), (49 - side) // 2
-        for row in rows[4 * (4 + first):4 * (4 + first + side)]:
-            row[4 * (4 + first):4 * (4 + first + side)] = [2] * (4 * side)
-        return png_of(numbers(rows, of_0=[20], of_1=[240], of_2=[brightness]), 8, GREY)
+        modules, first = bytearray(symbol.modules), (49 - side) // 2
+        for row in range(first, first + side):
+            modules[49 * row + first:49 * row + first + side] = bytes([2]) * side
+        return bytes(modules)
+
+    def pictured(self, side):
+        """Returns a picture of this symbol, in which the square is grey."""
+        modules = self.spotted(side)
+        rows = [[0] * 57] * 4 + [[0] * 4 + list(modules[at:at + 49]) + [0] * 4 for at in range(0, 49 * 49, 49)] + [[0] * 57] * 4
+        wide = [[it for it in row for _ in range(4)] for row in rows for _ in range(4)]
+        return png_of(numbers(wide, of_0=[240], of_1=[20], of_2=[130]), 8, GREY)
 
     # A square in the middle of a symbol of version 8-H, in which 13 codewords of each block may be wrong: its modules on a side, the most
     # codewords of a block that have a module in it (7.7.3), what is said, and whether zbar reads it.
@@ -323,20 +330,22 @@ class Command(unittest.TestCase):
 
     def test_check_of_a_spot_counts_for_scanners(self):
         for side, codewords, said, is_scannable in self.SPOTS:
-            picture = self.spotted(side)
-            ((modules, count),) = qrproved.parse_picture(picture)
-            self.assertEqual((modules.count(2), count), (side * side, 49))
-            it = qrproved.mend(modules, count)
+            modules = self.spotted(side)
+            it = qrproved.mend(modules, 49)
             self.assertEqual((it.worst_misread, it.worst_unknown, it.changed_allowed, it.spent_most, it.scannable),
                              (0, codewords, 13, codewords, is_scannable))
-            lines = run("check", given=picture, status=1 if is_scannable else 2)[0].decode().splitlines()
-            self.assertEqual([line[:len(said)] for line in lines[:1]] + lines[1:],
+            drawing = "\n".join("".join(("  ", "##", "??")[it] for it in modules[at:at + 49]) for at in range(0, 49 * 49, 49))
+            lines = run("check", given=drawing.encode(), status=1 if is_scannable else 2)[0].decode().splitlines()
+            self.assertEqual([line[:len(said)] for line in lines[:1]] + lines[1:3],
                              [said, f"{side * side} modules are not known, and their codewords count as wrong", f"contains {'x' * 84}"])
+            # In a picture some modules of the spot are taken for dark or for light ones.
+            text = run("check", given=self.pictured(side), status=1 if is_scannable else 2)[0].decode()
+            self.assertEqual(f"contains {'x' * 84}" in text, side < 31, side)  # more than a fifth of the modules of the largest spot are wrong
 
     @unittest.skipUnless(shutil.which("zbarimg"), "there is no zbarimg")
     def test_zbar_reads_what_check_says_that_scanners_read(self):
         for side, _, _, is_scannable in self.SPOTS:
-            (self.room / "a.png").write_bytes(self.spotted(side))
+            (self.room / "a.png").write_bytes(self.pictured(side))
             ran = subprocess.run(["zbarimg", "--quiet", "--raw", self.room / "a.png"], capture_output=True, text=True)
             self.assertEqual(ran.stdout, "x" * 84 + "\n" if is_scannable else "", side)
 
@@ -404,11 +413,16 @@ class Command(unittest.TestCase):
             run("Shelf 12", "-l", "h", "-o", self.room / name)
             self.assertEqual(run("check", self.room / name)[0], f"sound: {symbol.version}-H, mask {symbol.mask}\ncontains Shelf 12\n".encode())
         turned = qrproved.Symbol(symbol.version, symbol.side, symbol.mask, symbol.modules[::-1])
-        self.assertIn(b"not readable: a symbol of the picture is not upright", run("check", given=turned.png(), status=2)[0])
+        self.assertEqual(run("check", given=turned.png())[0], f"sound: {symbol.version}-H, mask {symbol.mask}\ncontains Shelf 12\n".encode())
         exchanged = bytes(symbol[x, y] for y in range(symbol.side) for x in range(symbol.side))
         mirrored = qrproved.Symbol(symbol.version, symbol.side, symbol.mask, exchanged)
-        for picture in (mirrored.png(), str(mirrored).encode()):
-            self.assertEqual(run("check", given=picture, status=2)[0], b"not readable: the symbol is mirrored\n")
+        self.assertEqual(run("check", given=mirrored.png(), status=1)[0],
+                         f"readable: {symbol.version}-H, mask {symbol.mask}\nmirrored, which not every scanner reads\ncontains Shelf 12\n".encode())
+        self.assertEqual(run("check", given=str(mirrored).encode(), status=2)[0], b"not readable: the symbol is mirrored\n")
+        inverse = png_of(numbers(shown(symbol, scale=4, margin=4), of_0=[1], of_1=[0]), 1, GREY)
+        self.assertEqual(run("check", given=inverse)[0],
+                         f"sound: {symbol.version}-H, mask {symbol.mask}\nlight on dark, which not every scanner reads\ncontains Shelf 12\n".encode())
+        self.assertEqual(run("check", given=png_of([[[1]] * 50] * 50, 1, GREY), status=2)[0], b"not readable: no symbol is found in the picture\n")
         self.assertEqual(run("check", given=b"\xff\xd8\xff\xe0", status=2)[0],
                          b"not readable: it is no PNG picture, no SVG document and no text in UTF-8\n")
 

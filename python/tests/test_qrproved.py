@@ -287,11 +287,16 @@ class Refusals(unittest.TestCase):
                 call()
             self.assertEqual(str(caught.exception), f"there is no option {wanted}")
 
-    def test_a_picture_is_no_modules(self):
+    def test_what_is_neither_modules_nor_a_picture(self):
         symbol = qrproved.encode("A")
         for call in (qrproved.read, qrproved.mend):
-            for given in (symbol.png(), symbol.svg(), b"", "label.png", pathlib.Path("label.png"), symbol.text(), None):
-                with self.assertRaisesRegex(TypeError, f"^{call.__name__}: .*; for a picture call parse_picture\\(picture\\), and for a drawing"):
+            for given in (symbol.png()[1:], b"", symbol.text().encode(), None, [1]):
+                with self.assertRaisesRegex(TypeError, f"^{call.__name__}: .*; .* picture.*, and for a drawing as text call parse_drawing"):
+                    call(given)
+            with self.assertRaisesRegex(TypeError, f"^{call.__name__}: modules are bytes, and not of type str; a picture is given alone"):
+                call("label.png", 21)
+            for given in ("no label.png", pathlib.Path("no label.png")):
+                with self.assertRaises(FileNotFoundError):
                     call(given)
         with self.assertRaisesRegex(TypeError, "^the drawing is a text or bytes, and not of type"):
             qrproved.parse_drawing(pathlib.Path("label.txt"))
