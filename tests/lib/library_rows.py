@@ -366,11 +366,13 @@ def parts(library, data, version, level, rule):
     if isinstance(got, int):
         return STATUSES[got]
     squares, side = got
-    read = [library.read(square, side) for square in squares]
+    found = [library.read(square, side) for square in squares]
+    if any(isinstance(it, int) for it in found):
+        return found
     parity = functools.reduce(operator.xor, data)
     headers = [(1, k, len(squares) - 1, parity) for k in range(len(squares))] if len(squares) > 1 else [(0, 0, 0, 0)]
-    is_whole = b"".join(it[0] for it in read) == data and [fields(it[1], *HEADER) for it in read] == headers
-    return [len(it[0]) for it in read] if is_whole else read
+    is_whole = b"".join(it[0] for it in found) == data and [fields(it[1], *HEADER) for it in found] == headers
+    return [len(it[0]) for it in found] if is_whole else found
 
 
 PARTS = [
@@ -997,12 +999,14 @@ PARSED_AGAIN = [(f"two squares, drawing {drawing}, margin {margin}", drawing, ma
 
 def parsed_and_read(library, data, version, level, drawing, margin):
     """Draws a series in byte mode, and parses the drawing. Returns what it shows, and the bytes that the squares contain."""
-    squares, side = library.encoded_series((data, version, LEVELS[level], BYTES_ONLY))
-    got = library.parsed(library.drawing(squares, side, drawing, margin))
+    encoded = library.encoded_series((data, version, LEVELS[level], BYTES_ONLY))
+    text = STATUSES[encoded] if isinstance(encoded, int) else library.drawing(*encoded, drawing, margin)
+    got = text if isinstance(text, str) else library.parsed(text)
     if isinstance(got, str):
         return got
-    shown, *others = got
-    return (len(shown), *others), b"".join(library.read(square, side)[0] for square in shown)
+    squares, side, *others = got
+    found = [library.read(square, side) for square in squares]
+    return (len(squares), side, *others), found if any(isinstance(it, int) for it in found) else b"".join(it[0] for it in found)
 
 
 PARSED_AND_READ = [
