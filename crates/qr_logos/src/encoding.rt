@@ -3,19 +3,19 @@
 //! fits and with which the logo is allowed. Which logos are allowed depends on nothing but the version, the level and
 //! the share, so no symbol is made before the search has ended.
 
-ghost use Rattle.std.specs.Prelude.{◌≡◌, ◌≢◌, ◌+◌, ◌<◌, ◌≤◌, ◌↔◌, ◌⊎◌, ℕ, false, [], length, Err, IfErr, IfOk, MatchOption};
+ghost use Rattle.std.specs.Prelude.{◌≡◌, ◌≢◌, ◌+◌, ◌-◌, ◌<◌, ◌≤◌, ◌↔◌, ◌⊎◌, ℕ, false, [], length, Err, IfErr, IfOk, MatchOption};
 ghost use Rattle.qr_bits.specs.Modes.{count_width};
 ghost use Rattle.qr_bits.specs.declared.modes.Mode.{Mode};
 ghost use Rattle.qr_bits.specs.Interpretation.{InterpretationFits, MayWrite};
 ghost use Rattle.qr_symbol.specs.Reading.{IsReadBack};
 ghost use Rattle.qr_symbol.specs.VersionChoice.{HasNoVersion, level_rank};
 ghost use Rattle.qr_logos.specs.Encoding.{IsLargestCarried, IsLogoSize, IsLogoSymbol};
+ghost use Rattle.qr_logos.specs.Logo.{IsAllowed};
 ghost use Rattle.qr_logos.specs.Steps.Encoding.{AreLogoFaults, AreNeeded, IsTriedAfter};
 ghost use Rattle.qr_logos.specs.declared.fault.LogoFault.{LogoFault};
 
 use crate::fault::LogoFault;
-use crate::laws::smaller_logos_are_allowed;
-use crate::logo::largest_logo;
+use crate::logo::is_allowed;
 use qr_bits::{INPUT_MAX, Writing, bit_len, interpretation_bits, segments};
 use qr_layout::{Level, Size, Version};
 use qr_symbol::{Asked, Symbol, encode_as};
@@ -107,17 +107,14 @@ fn size_with_logo(
     };
     let mut bits = needed_bits(alloc, input, writing, size.version)?;
     // One more than the side of the largest logo that is allowed in the sizes that were tried, or 0 if the input fits
-    // none of them.
-    let mut above = 0u8;
+    // none of them. A size is tried with this logo first: if it is not allowed, no larger one is.
+    let mut above = 0;
     loop {
         if bits <= size.version.capacity(size.level) {
-            let largest = largest_logo(size.version, size.level, logo.share);
-            if logo.side <= largest {
-                // A law, which is called for the prover.
-                smaller_logos_are_allowed(size.version, size.level, logo.side);
+            above = first_refused(size, logo, above);
+            if above > logo.side {
                 return Ok(size);
             }
-            above = above.max(largest + 1);
         }
         match size_after(size, least.level) {
             Some(next) => {
@@ -135,6 +132,26 @@ fn size_with_logo(
             }
         }
     }
+}
+
+// The side of the first logo that is not allowed in this size, of those from `from` on, or one more than the side of the
+// logo that is asked for if all up to it are allowed.
+fn first_refused(size: Size, logo: Logo, from: u8) -> u8
+    requires share { logo.share ≤ 75 }
+    requires from { from ≤ logo.side }
+    ensures least { from ≤ result }
+    ensures most { result ≤ logo.side + 1 }
+    ensures allowed { from < result → IsAllowed size.version size.level logo.share (result - 1) }
+    ensures refused { result ≤ logo.side → (other : ℕ) → IsAllowed size.version size.level logo.share other → other < result }
+{
+    let mut side = from;
+    while side <= logo.side {
+        if !is_allowed(size.version, size.level, logo.share, side) {
+            break;
+        }
+        side += 1;
+    }
+    side
 }
 
 // The number of bits that the input takes in this version, with the ECI header or FNC1 of the interpretation.

@@ -7,10 +7,10 @@
 //! one after the other. The error correction codewords come after all data codewords, and differ by the number of blocks
 //! too.
 
-ghost use Rattle.std.specs.Prelude.{◌≡◌, ◌<◌, ◌≤◌, ◌+◌, ◌-◌, ◌*◌, ◌&&◌, ℕ, false, length, nat_le, nat_lt, replicate};
+ghost use Rattle.std.specs.Prelude.{◌≡◌, ◌<◌, ◌≤◌, ◌+◌, ◌-◌, ◌*◌, ◌&&◌, ℕ, false, true, length, nat_le, nat_lt, replicate};
 ghost use Rattle.std.specs.List.{slice_index_or};
 ghost use Rattle.qr_layout.specs.Version.{side_of};
-ghost use Rattle.qr_logos.specs.Logo.{IsClear, IsLargestLogo, IsMostCovered, is_under};
+ghost use Rattle.qr_logos.specs.Logo.{IsAllowed, IsClear, IsLargestLogo, IsMostCovered, is_under};
 ghost use Rattle.qr_logos.specs.Steps.Logo.{AreMarks, data_len, marked_among, marked_in, with_mark};
 
 use qr_layout::{Blocks, Level, Version, walk};
@@ -141,16 +141,29 @@ pub fn largest_logo(version: Version, level: Level, share: u8) -> u8
     requires { share ≤ 75 }
     ensures { IsLargestLogo version level share result }
 {
-    let budget = u16::from(share) * u16::from(version.correctable(level));
     let mut side = 0;
     let mut above = largest_clear(version) + 1;
     while above - side > 1 {
         let middle = side + (above - side) / 2;
-        if 100 * u16::from(covered(version, level, middle)) > budget {
-            above = middle;
-        } else {
+        if is_allowed(version, level, share, middle) {
             side = middle;
+        } else {
+            above = middle;
         }
     }
     side
+}
+
+// Whether a logo is allowed, as `largest_logo` says. If it is not, no larger one is.
+pub(crate) fn is_allowed(version: Version, level: Level, share: u8, side: u8) -> bool
+    requires { share ≤ 75 }
+    ensures allowed { result ≡ true → IsAllowed version level share side }
+    ensures small { result ≡ true → side ≤ 159 }
+    ensures refused { result ≡ false → (other : ℕ) → IsAllowed version level share other → other < side }
+{
+    if side > largest_clear(version) {
+        return false;
+    }
+    let budget = u16::from(share) * u16::from(version.correctable(level));
+    100 * u16::from(covered(version, level, side)) <= budget
 }

@@ -5,7 +5,7 @@ use Rattle.qr_bits.specs.declared.{interpretation.Interpretation.Interpretation,
 use Rattle.qr_layout.{proofs.Facts.below-at, specs.{Blocks.{block_count_of, correction_len_of, data_codewords_of}, Version.total_codewords_of}}
 use Rattle.qr_layout.specs.declared.level.Level.{Level, TheVariants.{L, M, Q, H}}
 use Rattle.qr_logos.proofs.lemmas.logo.LargestLemmas.{allowed-none}
-use Rattle.qr_logos.specs.{Encoding.{IsLogoSize, IsLogoSymbol, MayCarry}, Logo.{IsAllowed, IsLargestLogo}, Steps.Encoding.{AreLogoFaults, AreNeeded, IsTriedAfter}}
+use Rattle.qr_logos.specs.{Encoding.{IsLogoSize, IsLogoSymbol, MayCarry}, Logo.{IsAllowed}, Steps.Encoding.{AreLogoFaults, AreNeeded, IsTriedAfter}}
 use Rattle.qr_logos.specs.declared.fault.LogoFault.{LogoFault}
 use Rattle.qr_matrix.specs.Grid.{Grid}
 use Rattle.qr_logos.specs.Fault.{encode_fault_of}
@@ -107,11 +107,11 @@ module _ (smallest : ℕ) (lowest : Level) (rule : Rule) (how : Interpretation) 
   through-unfit above v l all none k u m c (inl here) = absurd (none (rw (← here.0, ← here.1) c.fits))
   through-unfit above v l all none k u m c (inr before) = all k u m c before
 
-  -- the input fits the size, and its largest logo is known
-  pub through-fit : (above v : ℕ) (l : Level) (largest new : ℕ) → AreBelow above v l → IsLargestLogo v l share largest
-      → above ≤ new → largest < new → AreBelowThrough new v l
-  through-fit above v l largest new all most a b k u m c (inl here) = omega (arith, most.largest k (rw (← here.0, ← here.1) c.allowed))
-  through-fit above v l largest new all most a b k u m c (inr before) = omega (arith, all k u m c before)
+  -- the input fits the size, and its logos are smaller
+  pub through-fit : (above v : ℕ) (l : Level) (new : ℕ) → AreBelow above v l → above ≤ new
+      → ((other : ℕ) → IsAllowed v l share other → other < new) → AreBelowThrough new v l
+  through-fit above v l new all a most k u m c (inl here) = most k (rw (← here.0, ← here.1) c.allowed)
+  through-fit above v l new all a most k u m c (inr before) = omega (arith, all k u m c before)
 
   -- before the next size are this one and those before it
   before-next : (v u w : ℕ) (l m n : Level) → level_rank lowest ≤ level_rank l → level_rank lowest ≤ level_rank m
@@ -130,23 +130,23 @@ module _ (smallest : ℕ) (lowest : Level) (rule : Rule) (how : Interpretation) 
   pub all-below : (above : ℕ) → AreBelowThrough above 40 lowest → AreAllBelow above
   all-below above all k u m c = all k u m c (before-last u m c.most c.level)
 
-  -- the largest logo of a size that the input fits is reached
-  pub reached-next : (above v : ℕ) (l : Level) (largest new : ℕ) → IsReached above → smallest ≤ v → v ≤ 40 → level_rank lowest ≤ level_rank l
-      → FitsVersion v l rule how x → IsLargestLogo v l share largest → (new ≡ above) ⊎ (new ≡ largest + 1) → IsReached new
-  reached-next above v l largest new r a b low fits most (inl same) = rw same r
-  reached-next above v l largest new r a b low fits most (inr larger) =
-      let same : new - 1 ≡ largest = omega arith in
-      inr (
-        v,
-        l,
-        record {
-          least = a;
-          most = b;
-          level = low;
-          fits = fits;
-          allowed = rw same most.allowed;
-        },
-      )
+  -- the logo before the first that a size refuses is reached
+  pub reached-next : (above v : ℕ) (l : Level) (new : ℕ) → IsReached above → smallest ≤ v → v ≤ 40 → level_rank lowest ≤ level_rank l
+      → FitsVersion v l rule how x → above ≤ new → (above < new → IsAllowed v l share (new - 1)) → IsReached new
+  reached-next above v l new r a b low fits more allowed = elim (cases_lt above new) [
+    | inl less ↦ inr (
+      v,
+      l,
+      record {
+        least = a;
+        most = b;
+        level = low;
+        fits = fits;
+        allowed = allowed less;
+      },
+    )
+    | inr less ↦ let same : new ≡ above = omega arith in rw same r
+  ]
 
   -- a size is found if it allows the logo, and those before it do not
   pub size-found : (above k v : ℕ) (l : Level) → AreBelow above v l → above ≤ k → smallest ≤ v → v ≤ 40 → level_rank lowest ≤ level_rank l

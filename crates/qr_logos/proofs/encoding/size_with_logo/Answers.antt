@@ -2,9 +2,9 @@ use Rattle.qr_logos.proofs.lemmas.encoding.{all-below, AreAllBelow, AreBelowThro
 use Rattle.qr_logos.proofs.lemmas.encoding.{IsReached, needed-next, reached-next, size-found, through-fit, through-unfit}
 use Rattle.qr_logos.specs.{Encoding.IsLogoSize}
 use Rattle.{qr_symbol.specs.VersionChoice.{FitsVersion, level_rank}, std.proofs.lemmas.{Bool.{eqb-false, eqb-true}, List.nil_from_length, Result.err_from_is_err_and}}
-use Rattle.std.proofs.Common.{◌≡◌, ◌+◌, ◌≤◌, ◌⊎◌, [], length, max, refl, sym, ap, ◌∙◌, arith}
+use Rattle.std.proofs.Common.{◌≡◌, ◌-◌, ◌≤◌, [], length, refl, sym, ap, ◌∙◌, arith}
 use Rattle.qr_logos.proofs.encoding.size_with_logo.Goals as goal
-use Rattle.qr_logos.proofs.encoding.size_with_logo.Goals.{then-above-eq0, else-above-eq0, then-bits-capacity+else-logo-largest, else-bits-capacity, After-size_after, After-smaller_logos_are_allowed, Else-is_empty, In-None, In-Some, Then-is_empty}
+use Rattle.qr_logos.proofs.encoding.size_with_logo.Goals.{then-above-eq0, else-above-eq0, then-bits-capacity+else-above-logo, else-bits-capacity, After-size_after, Else-is_empty, In-None, In-Some, Then-above-logo, Then-is_empty}
 
 -- an input without bytes is empty
 none : (c : Then-is_empty) → c.args.input.now ≡ []
@@ -24,23 +24,24 @@ some c none = eqb-false (length c.args.input.now) 0 (sym c.is_empty.ensures ∙ 
 
 -- ---- a size that is found
 
-found : (c : After-smaller_logos_are_allowed) → IsLogoSize c.args.least.version c.args.least.level c.args.writing.rule c.args.writing.interpretation c.args.input.now c.args.logo.share c.args.logo.side c.loop-bits.size.version c.loop-bits.size.level
+found : (c : Then-above-logo) → IsLogoSize c.args.least.version c.args.least.level c.args.writing.rule c.args.writing.interpretation c.args.input.now c.args.logo.share c.args.logo.side c.loop-bits.size.version c.loop-bits.size.level
 found c =
     let w = c.loop-bits.invariant in
+    let new = c.first_refused-above.ensures in
     let fits : FitsVersion c.loop-bits.size.version c.loop-bits.size.level c.args.writing.rule c.args.writing.interpretation c.args.input.now =
     (w.needed c.loop-bits.size.version c.loop-bits.size.level (omega (arith, c.loop-bits.invariant.least)) c.loop-bits.invariant.most (λ m. refl)).1 (omega (arith, c.if-bits-capacity.true, c.capacity.ensures.value)) in
+    let last : c.first_refused-above.result - 1 ≡ c.args.logo.side = omega (arith, new.most, c.if-above-logo.true) in
     size-found c.args.least.version c.args.least.level c.args.writing.rule c.args.writing.interpretation c.args.input.now c.args.logo.share c.loop-bits.above c.args.logo.side c.loop-bits.size.version c.loop-bits.size.level
-    w.below w.few w.least w.most w.level fits
-    (c.smaller_logos_are_allowed.ensures c.args.logo.share c.largest_logo-largest.result c.if-logo-largest.true c.largest_logo-largest.ensures.allowed)
+    w.below w.few w.least w.most w.level fits (rw last at (new.allowed (omega (arith, w.few, c.if-above-logo.true))))
 
-pub returns-then-logo-largest-clause-size : goal.returns-then-logo-largest-clause-size
-returns-then-logo-largest-clause-size c = found (goal.at.returns-then-logo-largest-clause-size c).After-smaller_logos_are_allowed
+pub returns-then-above-logo-clause-size : goal.returns-then-above-logo-clause-size
+returns-then-above-logo-clause-size c = found (goal.at.returns-then-above-logo-clause-size c).Then-above-logo
 
-pub returns-then-logo-largest-clause-faults : goal.returns-then-logo-largest-clause-faults
-returns-then-logo-largest-clause-faults c =
-    let at = goal.at.returns-then-logo-largest-clause-faults c in
+pub returns-then-above-logo-clause-faults : goal.returns-then-above-logo-clause-faults
+returns-then-above-logo-clause-faults c =
+    let at = goal.at.returns-then-above-logo-clause-faults c in
     faults-none c.args.least.version c.args.least.level c.args.writing.rule c.args.writing.interpretation c.args.input.now c.args.logo.share c.args.logo.side c.loop-bits.size.version c.loop-bits.size.level c.loop-bits.size
-    (omega arith) (some at.Else-is_empty) c.if-input-gt-SYMBOL_BYTES_MAX.false (found at.After-smaller_logos_are_allowed)
+    (omega arith) (some at.Else-is_empty) c.if-input-gt-SYMBOL_BYTES_MAX.false (found at.Then-above-logo)
 
 -- ---- what is known once a size was tried
 
@@ -52,16 +53,15 @@ tried c =
     let size = c.loop-bits.size in
     let needed = w.needed size.version size.level (omega (arith, c.loop-bits.invariant.least)) c.loop-bits.invariant.most (λ m. refl) in
     elim c.if-bits-capacity.branch [
-      | then-bits-capacity+else-logo-largest h ↦
+      | then-bits-capacity+else-above-logo h ↦
           let fits = needed.1 (omega (arith, h.if-bits-capacity.true, c.capacity.ensures.value)) in
-          let largest = h.largest_logo-largest.result in
-          let more : c.if-bits-capacity.above ≡ max c.loop-bits.above (largest + 1) = h.above-is ∙ h.max-above.ensures in
-          let either : (c.if-bits-capacity.above ≡ c.loop-bits.above) ⊎ (c.if-bits-capacity.above ≡ largest + 1) = grind (arith, more) in (
-            through-fit c.args.least.version c.args.least.level c.args.writing.rule c.args.writing.interpretation c.args.input.now c.args.logo.share c.loop-bits.above size.version size.level largest c.if-bits-capacity.above
-                w.below h.largest_logo-largest.ensures (omega (arith, more)) (omega (arith, more)),
-            omega (arith, more, w.few, h.if-logo-largest.false),
-            reached-next c.args.least.version c.args.least.level c.args.writing.rule c.args.writing.interpretation c.args.input.now c.args.logo.share c.loop-bits.above size.version size.level largest c.if-bits-capacity.above
-                w.reached w.least w.most w.level fits h.largest_logo-largest.ensures either,
+          let new = h.first_refused-above.ensures in
+          let few : h.first_refused-above.result ≤ c.args.logo.side = omega (arith, h.if-above-logo.false) in
+          rw h.above-is (
+            through-fit c.args.least.version c.args.least.level c.args.writing.rule c.args.writing.interpretation c.args.input.now c.args.logo.share c.loop-bits.above size.version size.level h.first_refused-above.result w.below new.least (new.refused few),
+            few,
+            reached-next c.args.least.version c.args.least.level c.args.writing.rule c.args.writing.interpretation c.args.input.now c.args.logo.share c.loop-bits.above size.version size.level h.first_refused-above.result
+                w.reached w.least w.most w.level fits new.least new.allowed,
           )
       | else-bits-capacity h ↦ rw h.above-is (
         through-unfit c.args.least.version c.args.least.level c.args.writing.rule c.args.writing.interpretation c.args.input.now c.args.logo.share c.loop-bits.above size.version size.level w.below (λ fits. omega (arith, needed.0 fits, h.if-bits-capacity.false, c.capacity.ensures.value)),

@@ -1,5 +1,5 @@
-use Rattle.qr_logos.proofs.lemmas.logo.LargestLemmas.{allowed-next, allowed-none, largest-found, smaller-next, smaller-start}
-use Rattle.{qr_layout.specs.{Blocks.correctable_of, Version.side_of}, std.proofs.Common.{◌≡◌, ◌<◌, ◌≤◌, ◌+◌, ◌-◌, ◌*◌, ◌/◌, arith}}
+use Rattle.qr_logos.proofs.lemmas.logo.LargestLemmas.{allowed-none, largest-found, smaller-start}
+use Rattle.std.proofs.Common.{arith}
 use Rattle.qr_logos.proofs.logo.largest_logo.Goals as goal
 
 pub loop-above-init : goal.loop-above-init
@@ -12,34 +12,21 @@ loop-above-init c =
       small = omega (arith, made.ensures.value);
     }
 
-pub loop-above-preserved : goal.loop-above-preserved
-loop-above-preserved c =
-    let w = c.loop-above.invariant in
-    let middle = c.loop-above.side + (c.loop-above.above - c.loop-above.side) / 2 in
-    let within : 100 * c.covered.result ≤ c.from.result * c.from-2.result = omega (arith, c.if-from-budget.false, c.from-in-loop-above.ensures) in
-    let product : c.from.result * c.from-2.result ≡ c.args.share * correctable_of c.args.version c.args.level =
-    cc (c.from.ensures, c.from-2.ensures, c.correctable.ensures) in
-    let least : middle ≤ side_of c.args.version - 18 = omega (arith, w.small, w.apart, c.loop-above-test.true) in
-    record {
-      low = allowed-next c.args.version c.args.level c.args.share middle c.covered.result (c.from.result * c.from-2.result) (omega arith) least c.covered.ensures product within;
-      high = w.high;
-      apart = omega (arith, w.apart, c.loop-above-test.true);
-      small = w.small;
-    }
+pub loop-above-preserved-then-is_allowed : goal.loop-above-preserved-then-is_allowed
+loop-above-preserved-then-is_allowed c = let w = c.loop-above.invariant in record {
+  low = c.is_allowed.ensures.allowed c.if-is_allowed.true;
+  high = w.high;
+  apart = omega (arith, w.apart, c.loop-above-test.true);
+  small = w.small;
+}
 
-pub loop-above-preserved-then-from-budget : goal.loop-above-preserved-then-from-budget
-loop-above-preserved-then-from-budget c =
-    let w = c.loop-above.invariant in
-    let middle = c.loop-above.side + (c.loop-above.above - c.loop-above.side) / 2 in
-    let over : c.from.result * c.from-2.result < 100 * c.covered.result = omega (arith, c.if-from-budget.true, c.from-in-loop-above.ensures) in
-    let product : c.from.result * c.from-2.result ≡ c.args.share * correctable_of c.args.version c.args.level =
-    cc (c.from.ensures, c.from-2.ensures, c.correctable.ensures) in
-    record {
-      low = w.low;
-      high = smaller-next c.args.version c.args.level c.args.share middle c.covered.result (c.from.result * c.from-2.result) c.covered.ensures product over;
-      apart = omega (arith, w.apart, c.loop-above-test.true);
-      small = omega (arith, w.small, w.apart, c.loop-above-test.true);
-    }
+pub loop-above-preserved : goal.loop-above-preserved
+loop-above-preserved c = let w = c.loop-above.invariant in record {
+  low = w.low;
+  high = c.is_allowed.ensures.refused c.if-is_allowed.false;
+  apart = omega (arith, w.apart, c.loop-above-test.true);
+  small = omega (arith, w.small, w.apart, c.loop-above-test.true);
+}
 
 pub returns : goal.returns
 returns c =
