@@ -16,12 +16,14 @@ export const { load } = engine;
 /** Whether kanji mode is allowed beside an ECI; encodes an input, of bytes and their interpretation; and draws squares as a text. */
 export const { mayHaveKanji, encoded, drawn } = engine;
 
-const ECI_SIZE = 16;
+const ECI_SIZE = 16, FOUND_SIZE = 40;
 const FNC1_FIRST = 1, FNC1_SECOND = 2;
 // The last fields of the struct of mending, a byte each, and the offset of the first.
 const COUNTS = ['level', 'mask', 'wrongFormatModules', 'wrongFormatLeast', 'changedMost', 'changedAllowed', 'spentMost', 'worstMisread', 'worstUnknown',
   'worstUnknownWrong'];
 const COUNTS_AT = 28;
+const SIDE_AT = 32, LOOKS_AT = 36; // in the struct of a square that was found
+const CORNER_STEPS = 16; // of a pixel
 const IMAGE_LIKELY = 4096; // bytes, and for PNG 3 for each module: room for every PNG file up to scale 8, which is then written in one run
 
 /** Encodes an input as a symbol that may have a logo of so many modules. `asked` says how large it is. */
@@ -102,6 +104,29 @@ export function parsedOf(text) {
     throwFor(status);
     const [drawing, margin, count, side] = bytesAt(told, 4);
     return { drawing, margin, squares: Array.from({ length: count }, (_, k) => copied(to + k * side * side, side * side)) };
+  });
+}
+
+/** Returns a corner of a square that was found, in pixels. */
+function cornerAt(at, corner) {
+  return [0, 4].map((axis) => at.getUint32(8 * corner + axis, true) / CORNER_STEPS);
+}
+
+/** Returns the squares of a picture in grey, in the order in which they are found; with `unread` also those that cannot be mended. */
+export function foundIn(grey, width, height, unread) {
+  return run(() => {
+    const room = LIMITS.FOUND_MAX * LIMITS.SYMBOL_MAX;
+    const from = put(grey), to = take(room), structs = take(LIMITS.FOUND_MAX * FOUND_SIZE), told = take(8);
+    throwFor(call('qrproved_find', BigInt(from), BigInt(grey.length), width, height, width, unread ? 1 : 0, BigInt(to), BigInt(room), BigInt(structs),
+      BigInt(LIMITS.FOUND_MAX), BigInt(told)));
+    return Array.from({ length: Number(struct(told, 8).getBigUint64(0, true)) }, (_, k) => {
+      const at = struct(structs + k * FOUND_SIZE, FOUND_SIZE), side = at.getUint32(SIDE_AT, true);
+      const [quarterTurns, isInverse, isMirrored, isRead] = [0, 1, 2, 3].map((byte) => at.getUint8(LOOKS_AT + byte));
+      return {
+        modules: copied(to + k * LIMITS.SYMBOL_MAX, side * side), side, corners: [0, 1, 2, 3].map((corner) => cornerAt(at, corner)), quarterTurns,
+        isInverse: isInverse !== 0, isMirrored: isMirrored !== 0, isRead: isRead !== 0,
+      };
+    });
   });
 }
 

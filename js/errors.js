@@ -84,7 +84,7 @@ export class LogoError extends QRError {
   }
 }
 
-/** No upright symbol is found in a picture. It is no refusal of the library, which reads modules alone. */
+/** No symbol is found in a picture, or several where one is wanted. It is no refusal of the library, which finds none in such a picture. */
 export class PictureError extends Error {
   constructor(message) {
     super(message);

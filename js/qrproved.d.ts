@@ -273,16 +273,17 @@ export function encodeSeries(input: Input, options: Options & { version: number 
  * Returns what a symbol contains, whose modules are given row by row: 0 is light, any other byte is dark. Corrects no errors.
  * Throws SideError if no version has so many modules, FormatError if the first copy of the format information belongs to no level
  * and mask, CheckError if a block does not match its error correction codewords, and SegmentsError if the data codewords cannot
- * be parsed.
+ * be parsed. In place of the modules it takes a picture of one symbol; it throws PictureError if there is none, or if there are several.
  */
-export function read(square: QRSymbol | Uint8Array): Content;
+export function read(square: QRSymbol | Found | Uint8Array | Picture): Content;
 
 /**
  * Returns what a damaged symbol contains, and its damage. A module is 0 for light, 1 for dark, and 2 if it is not known: its
  * codeword spends half as much of the correction as a wrong one. Throws as read does, but FormatError and CheckError only if
- * there is more damage than can be mended; and SettingsError for another module.
+ * there is more damage than can be mended; and SettingsError for another module. Of a square in a picture at most one module in five may
+ * be wrong or not known, since other squares that are no symbols can now and then be mended.
  */
-export function mend(square: QRSymbol | Uint8Array): Mended;
+export function mend(square: QRSymbol | Found | Uint8Array | Picture): Mended;
 
 /** What a drawing shows. */
 export interface Drawn {
@@ -301,20 +302,56 @@ export interface Drawn {
  */
 export function parseDrawing(text: string): Drawn;
 
-/** An image of RGBA pixels, as a canvas returns it by getImageData. */
-export interface Picture {
+/** RGBA pixels, or in a page a canvas or what a canvas draws: an image, a video or a bitmap. */
+export type Picture = Pixels
+  | { readonly width: number; readonly height: number; getContext(kind: '2d'): unknown }
+  | { readonly naturalWidth: number; readonly naturalHeight: number }
+  | { readonly videoWidth: number; readonly videoHeight: number }
+  | { readonly width: number; readonly height: number; close(): void };
+
+/** RGBA pixels, row by row, as the method getImageData of a canvas's context returns them. */
+export interface Pixels {
   readonly data: Uint8ClampedArray | Uint8Array;
   readonly width: number;
   readonly height: number;
 }
 
+/** A square that was found in a picture. */
+export class Found {
+  private constructor();
+  /** Its modules, row by row: 0 is light, 1 is dark, 2 is not known. */
+  readonly modules: Uint8Array;
+  /** From 21 to 177. */
+  readonly side: number;
+  /**
+   * The x and the y of each of the four corners, in pixels from the upper left corner of the picture: of the first module, and then clockwise
+   * around the square.
+   */
+  readonly corners: readonly (readonly [x: number, y: number])[];
+  /** By how many quarter turns the symbol is turned clockwise, to the nearest one: from 0 to 3. */
+  readonly quarterTurns: number;
+  /** Whether it is light on dark. */
+  readonly isInverse: boolean;
+  /** Whether its first row goes from the first corner to the last one, and not to the second. */
+  readonly isMirrored: boolean;
+  /** Whether it can be mended, and at most one of its modules in five is wrong or not known. Only `unread: true` finds others. */
+  readonly isRead: boolean;
+  /** Returns what the symbol contains, as the function read does. */
+  read(): Content;
+  /** Returns what the symbol contains, and its damage, as the function mend does. */
+  mend(): Mended;
+}
+
 /**
- * Returns the squares of the symbols in an image, those above and at the left first, as mend takes them: a module between dark and
- * light is 2, not known. Symbols are upright, dark on light or light on dark, of any margin, and of any scale from 2.2 pixels a module
- * on, or 1 or 2. It is no reader of photographs: a label has to lie straight, in even light. Throws PictureError if it finds no
- * upright symbol that is large enough, or if the picture has so many marks like finder patterns that the search takes too much work.
+ * Returns the symbols of a picture, row by row from the upper left. They may be turned, tilted, mirrored, light on dark, in
+ * shadow, blurred or small. All three finder patterns have to be seen. With `unread: true` squares that look like symbols and cannot be
+ * mended are found too, after the others. What is transparent is taken for white, and if nothing is found, for black. Throws a TypeError
+ * for what is no picture, and SettingsError for one that is more than 32,767 pixels wide or high.
  */
-export function parsePicture(image: Picture): Uint8Array[];
+export function find(picture: Picture, options?: { unread?: boolean }): Found[];
+
+/** Returns the modules of the symbols that find finds, as mend takes them. Throws as find does, and PictureError if there is no symbol. */
+export function parsePicture(picture: Picture): Uint8Array[];
 
 /**
  * Returns a document for print with 1 to 16 symbols of one side: a PDF has a page for each, an EPS or an SVG has them one below the other.
@@ -405,7 +442,7 @@ export class SettingsError extends QRError {}
 export class RoomError extends QRError {}
 export class SideError extends QRError {}
 export class FormatError extends QRError {}
-/** No upright symbol is found in a picture. It is no refusal of the library, which reads modules alone. */
+/** No symbol is found in a picture, or several where one is wanted. It is no refusal of the library, which finds none in such a picture. */
 export class PictureError extends Error {
   protected constructor();
 }

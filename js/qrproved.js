@@ -2,9 +2,9 @@
  * QR Code symbols (ISO/IEC 18004:2015, QR Code Model 2) by the library libqrproved as WebAssembly, whose calls are proved to meet
  * their contracts. README.md shows the calls; qrproved.d.ts describes each.
  */
-import { drawn, encodedSeries, imageOf, mayHaveKanji, mendedOf, parsedOf, printed, readOf, sheetsBy } from './calls.js';
+import { drawn, encodedSeries, foundIn, imageOf, mayHaveKanji, mendedOf, parsedOf, printed, readOf, sheetsBy } from './calls.js';
 import { DOCUMENTS, GRADES, LABELS, LIMITS } from './common.js';
-import { Gs1Error, NoDrawingError, SettingsError, SideError } from './errors.js';
+import { CheckError, Gs1Error, NoDrawingError, PictureError, SettingsError, SideError } from './errors.js';
 import { dataOf, fieldsOf } from './gs1.js';
 import { LEVELS, OF_SERIES, inputAsked, symbolAsked } from './inputs.js';
 import { SHIFT_JIS, decodedText, encodedText } from './interpretation.js';
@@ -12,7 +12,7 @@ import { OF_LOGO, changedUnderLogo, drawnModules, encodedWithLogo, pictureBox, w
 import { chosen, length, named, warn, whole } from './options.js';
 import { FREE_ACROSS, LINE, checkCaption, linesOf, paperOf, roomOf, roomOfLabel, withCaptions } from './papers.js';
 import { undone } from './pasted.js';
-import { squaresIn } from './pictures.js';
+import { cover, greysOf, pixelsOf } from './pictures.js';
 import { DRAWINGS, OF_SVG, PIXELS, PlainSymbol, dressed } from './symbol.js';
 
 export { load } from './calls.js';
@@ -217,6 +217,26 @@ export class Mended {
   }
 }
 
+export class Found {
+  constructor({ modules, side, corners, quarterTurns, isInverse, isMirrored, isRead }) {
+    this.modules = modules;
+    this.side = side;
+    this.corners = corners;
+    this.quarterTurns = quarterTurns;
+    this.isInverse = isInverse;
+    this.isMirrored = isMirrored;
+    this.isRead = isRead;
+  }
+
+  read() {
+    return read(this);
+  }
+
+  mend() {
+    return mend(this);
+  }
+}
+
 const CALLS = { encoded: encodedWithLogo, mayHaveKanji, dataOf, encodedText, others: OF_LOGO };
 
 export function encode(input, options = {}) {
@@ -230,26 +250,46 @@ export function encodeSeries(input, options = {}) {
   return squares.map((modules) => new QRSymbol({ version, side, mask: null, level: LEVELS[level], modules }));
 }
 
-const OTHER_CALLS = 'for a picture call parsePicture(image), and for a drawing parseDrawing(text)';
+/** Returns the one symbol of a picture. If none can be mended, it is what looks most like one. */
+function onlyIn(pixels) {
+  const found = foundOf(pixels, true), read = found.filter((it) => it.isRead), symbols = read.length ? read : found.slice(0, 1);
+  if (symbols.length > 1) throw new PictureError(`the picture shows ${symbols.length} symbols: find(picture) returns all of them`);
+  if (symbols.length === 0) throw new PictureError(NO_SYMBOL);
+  return symbols[0];
+}
+
+/** Returns a symbol or a square as it is, and of a picture its one symbol. */
+function symbolOf(given) {
+  const pixels = given instanceof PlainSymbol || given instanceof Found || given instanceof Uint8Array ? null : pixelsOf(given);
+  return pixels === null ? given : onlyIn(pixels);
+}
+
+const OTHER_BYTES = 'a file of a picture is first drawn on a canvas, and for a drawing call parseDrawing(text)';
 
 /** Returns the modules of a symbol or of a square, and their side. */
 function squareOf(square) {
-  const modules = square instanceof QRSymbol ? square.modules : square;
-  if (!(modules instanceof Uint8Array)) throw new TypeError(`a square is a QRSymbol, or a Uint8Array of its modules, row by row; ${OTHER_CALLS}`);
+  const modules = square instanceof QRSymbol || square instanceof Found ? square.modules : square;
+  if (!(modules instanceof Uint8Array)) {
+    throw new TypeError(`a square is a QRSymbol, a Found, a picture, or a Uint8Array of its modules, row by row; ${OTHER_BYTES}`);
+  }
   const side = Math.sqrt(modules.length);
   if (!(side >= 21 && side <= LIMITS.SIDE_MAX && side % 4 === 1)) {
     throw new SideError('a square has 21 times 21 modules, 25 times 25, and so on to 177 times 177,'
-      + ` and not ${modules.length} in all; ${OTHER_CALLS}`);
+      + ` and not ${modules.length} in all; ${OTHER_BYTES}`);
   }
   return [modules, side];
 }
 
 export function read(square) {
-  return new Content(readOf(...squareOf(square)));
+  return new Content(readOf(...squareOf(symbolOf(square))));
 }
 
 export function mend(square) {
-  return new Mended(mendedOf(...squareOf(square)));
+  const symbol = symbolOf(square), [modules, side] = squareOf(symbol), mended = new Mended(mendedOf(modules, side));
+  if (symbol instanceof Found && !symbol.isRead) {
+    throw new CheckError(`${mended.wrongModules} of its ${side * side} modules are wrong or not known, and in a picture at most one in five may be`);
+  }
+  return mended;
 }
 
 export function parseDrawing(text) {
@@ -261,14 +301,70 @@ export function parseDrawing(text) {
   throw new NoDrawingError();
 }
 
-export function parsePicture(image) {
-  const { data, width, height } = image ?? {};
-  const isOfBytes = data instanceof Uint8ClampedArray || data instanceof Uint8Array;
-  if (!(isOfBytes && width > 0 && height > 0 && data.length === 4 * width * height)) {
-    throw new TypeError('an image has width, height and, as its data, four bytes for each pixel: a file of an image is first drawn on a canvas,'
-      + ' whose getImageData returns them');
+const NO_SYMBOL = 'no symbol is found in the picture';
+const MANY = 16; // symbols of a picture, after which there may be more of them than one search finds
+const SEARCHES = 32; // of a picture at most
+
+/** Returns squares row by row. A square is in the row of another one if its upper edge is above the middle of the other. */
+function inRows(squares) {
+  const edges = (square, axis) => [Math.min, Math.max].map((of) => of(...square.corners.map((corner) => corner[axis]))), rows = [];
+  let middle = 0;
+  for (const square of [...squares].sort((one, other) => edges(one, 1)[0] - edges(other, 1)[0])) {
+    const [top, bottom] = edges(square, 1);
+    if (rows.length === 0 || top >= middle) {
+      rows.push([]);
+      middle = (top + bottom) / 2;
+    }
+    rows.at(-1).push(square);
   }
-  return squaresIn(image);
+  return rows.flatMap((row) => row.sort((one, other) => edges(one, 0)[0] - edges(other, 0)[0]));
+}
+
+/**
+ * Returns the squares of a grey picture, those that are read first, and row by row. A search finds some 40 symbols at most. So after one that
+ * finds many, these are covered, and the picture is searched again.
+ */
+function searched(grey, width, height, unread) {
+  const all = [];
+  let squares = [];
+  for (let search = 0; search < SEARCHES; search++) {
+    squares = foundIn(grey, width, height, unread);
+    const found = squares.filter((it) => it.isRead);
+    all.push(...found);
+    if (found.length < MANY) break;
+    cover(grey, width, height, found);
+  }
+  return [...inRows(all), ...inRows(squares.filter((it) => !it.isRead))];
+}
+
+/** Returns the squares of RGBA pixels: those on a light ground, unless only on a dark one some are read. */
+function foundOf(pixels, unread) {
+  const { width, height } = pixels;
+  whole('the width of a picture', width, 1, LIMITS.PICTURE_MAX);
+  whole('the height of a picture', height, 1, LIMITS.PICTURE_MAX);
+  let found = [];
+  for (const grey of greysOf(pixels)) {
+    const squares = searched(grey, width, height, unread), isRead = squares.some((it) => it.isRead);
+    if (found.length === 0 || isRead) found = squares;
+    if (isRead) break;
+  }
+  return found.map((it) => new Found(it));
+}
+
+export function find(picture, options = {}) {
+  const { unread } = chosen(options, { unread: false }), pixels = pixelsOf(picture);
+  if (typeof unread !== 'boolean') throw new TypeError(`unread is true or false, and not of type ${typeof unread}`);
+  if (pixels === null) {
+    throw new TypeError('a picture has width, height and, as its data, four bytes for each pixel, or is a canvas, an image, a video or a bitmap of a'
+      + ' page: a file of an image is first drawn on a canvas, whose getImageData returns them');
+  }
+  return foundOf(pixels, unread);
+}
+
+export function parsePicture(picture) {
+  const found = find(picture);
+  if (found.length === 0) throw new PictureError(NO_SYMBOL);
+  return found.map((it) => it.modules);
 }
 
 /** Returns one symbol or several as an array. */

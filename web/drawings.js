@@ -1,7 +1,7 @@
 /** Drawings as text that are damaged, drawn by another program or copied by hand: the squares of symbols, found by their look. */
 import { LIMITS } from '../out/npm/package/common.js';
-import { UNKNOWN_MODULE, patternsOf } from '../out/npm/package/pictures.js';
 
+const UNKNOWN_MODULE = 2;
 const HALVES = { ' ': [1, 1], '\u2580': [0, 1], '\u2584': [1, 0], '\u2588': [0, 0] };
 const PLACES_LIMIT = 5000000; // characters of all lines: 16 of the largest symbols, each with as much around it
 
@@ -36,9 +36,21 @@ function cutsOf(box) {
   return ways;
 }
 
+/** Returns whether a module of a finder pattern is dark. */
+function isDarkIn(row, column) {
+  return Math.max(Math.abs(row - 3), Math.abs(column - 3)) !== 2;
+}
+
 /** Returns how many modules of the three finder patterns are right. */
 function likeness({ side, modules }) {
-  return patternsOf(side).slice(0, 147).filter(([row, column, dark]) => modules[row * side + column] === Number(dark)).length;
+  let right = 0;
+  for (const [top, left] of [[0, 0], [0, side - 7], [side - 7, 0]]) {
+    for (let place = 0; place < 49; place++) {
+      const row = Math.floor(place / 7), column = place % 7;
+      right += modules[(top + row) * side + left + column] === Number(isDarkIn(row, column)) ? 1 : 0;
+    }
+  }
+  return right;
 }
 
 /** Returns the mean likeness of squares. */

@@ -1,7 +1,7 @@
 /** The page: draws each symbol as its text is typed, a sheet of labels, and what a drawing contains. */
 import {
-  CheckError, EciError, FormatError, Gs1Error, NoDrawingError, PictureError, QRError, SideError, TooLongError, TooManyError, documentOf, draw,
-  PAPERS, encode, encodeSeries, labels, mend, paper, parseDrawing, parsePicture, read, sheetsOf,
+  CheckError, EciError, FormatError, Gs1Error, NoDrawingError, QRError, SideError, TooLongError, TooManyError, documentOf, draw,
+  Found, PAPERS, encode, encodeSeries, find, labels, mend, paper, parseDrawing, read, sheetsOf,
 } from '../out/npm/package/qrproved.js';
 import { LIMITS } from '../out/npm/package/common.js';
 import { PAPER_DATA } from '../out/npm/package/paper_data.js';
@@ -771,9 +771,9 @@ function percentOf(part, whole) {
 }
 
 /** Returns what a shop has to know of a label, as `qrproved check` says it, and how good that is. */
-function verdictOf({ isSound, scannable, worstMisread, worstUnknown, changedAllowed }) {
+function verdictOf({ isSound, scannable, worstMisread, worstUnknown, changedAllowed }, { isMirrored }) {
   const wrong = worstMisread + worstUnknown, spent = `${percentOf(wrong, changedAllowed)} % of its correction spent`;
-  if (isSound) return ['Sound', 'good'];
+  if (isSound) return isMirrored ? ['Readable', ''] : ['Sound', 'good'];
   if (scannable) return [`Readable, ${spent}`, ''];
   return [`Read here, but scanners will not: ${wrong > changedAllowed ? spent : 'its format information is damaged too much'}`, 'fault'];
 }
@@ -789,8 +789,14 @@ function spentOf({ spent, spentMost, worstMisread, worstUnknown, changedAllowed 
   return [[scanner, ...(spentMost < 2 * wrong ? [here] : [])].join(' '), meter];
 }
 
+/** Returns how a symbol of a picture looks other than most symbols. */
+function looksOf({ isMirrored, isInverse }) {
+  const looks = [...(isMirrored ? ['mirrored'] : []), ...(isInverse ? ['light on dark'] : [])];
+  return looks.length ? [['Looks', [`It is ${looks.join(' and ')}, which not every scanner reads.`]]] : [];
+}
+
 /** Returns whether a square that cannot be read is that of a symbol with rows and columns exchanged. */
-function isMirrored({ modules, side }) {
+function isTransposed({ modules, side }) {
   try {
     mend(modules.map((_, place) => modules[place % side * side + Math.floor(place / side)]));
     return true;
@@ -804,9 +810,9 @@ function isMirrored({ modules, side }) {
 function contentOf(square) {
   const { modules } = square;
   try {
-    const found = mend(modules), { version, header } = found.content;
+    const found = mend(square instanceof Found ? square : modules), { version, header } = found.content;
     const place = header ? `, ${header.position + 1} of ${header.last + 1} of a series` : '';
-    const [verdict, kind] = verdictOf(found);
+    const [verdict, kind] = verdictOf(found, square);
     const rows = [
       ['Verdict', [`${verdict}.`]],
       ['Contains', [textOf(found.content)]],
@@ -814,6 +820,7 @@ function contentOf(square) {
       ['Symbol', [`Version ${version}-${found.level}, mask ${found.mask}${place}`]],
       ['Damage', [damageOf(found, modules)]],
       ['Spent', spentOf(found)],
+      ...looksOf(square),
     ];
     const list = made('dl', ...rows.flatMap(([name, inside]) => [made('dt', name), made('dd', ...inside)]));
     list.className = kind;
@@ -821,7 +828,9 @@ function contentOf(square) {
   } catch (error) {
     if (!(error instanceof QRError)) throw error;
     const [, reason] = REASONS.find(([kind]) => error instanceof kind) ?? [null, 'what it says cannot be parsed.'];
-    const paragraph = made('p', `Not readable: ${isMirrored(square) ? 'the symbol is mirrored.' : reason}`);
+    // (of a picture a symbol that is mirrored is read)
+    const isOther = !(square instanceof Found) && isTransposed(square);
+    const paragraph = made('p', `Not readable: ${isOther ? 'the symbol is mirrored.' : reason}`);
     paragraph.className = 'fault';
     return paragraph;
   }
@@ -892,12 +901,9 @@ async function showImage(file) {
   if (shows !== before) return;
   if (exact) return showSquares(exact);
   if (!pixels) return say(on('found'), 'Not readable: this browser cannot open the file as an image.', 'fault');
-  try {
-    return showSquares(parsePicture(pixels).map((modules) => ({ modules, side: Math.sqrt(modules.length) })));
-  } catch (error) {
-    if (!(error instanceof PictureError)) throw error;
-    return say(on('found'), `Not readable: ${error.message}.`, 'fault');
-  }
+  const squares = find(pixels, { unread: true });
+  if (squares.length === 0) return say(on('found'), 'Not readable: no symbol is found in the picture.', 'fault');
+  return showSquares(squares);
 }
 
 /** Takes an image that is dropped or pasted, while labels are checked; and any other file that is dropped, to say that it is none. */

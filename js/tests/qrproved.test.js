@@ -11,7 +11,7 @@ import { inflateSync } from 'node:zlib';
 const folder = process.env.QRPROVED ?? fileURLToPath(new URL('../../out/npm/package', import.meta.url));
 const at = pathToFileURL(resolve(folder, 'qrproved.js')).href;
 const {
-  PAPERS, documentOf, draw, encode, encodeSeries, labels, load, mend, paper, parseDrawing, parsePicture, read, sheetsOf, ...errors
+  PAPERS, Found, documentOf, draw, encode, encodeSeries, find, labels, load, mend, paper, parseDrawing, parsePicture, read, sheetsOf, ...errors
 } = await import(at);
 
 // The memory of the module, which the package keeps to itself.
@@ -141,13 +141,15 @@ test('refusals', () => {
   for (const wrong of [undefined, 'text', [1], new ArrayBuffer(441)]) assert.throws(() => read(wrong), TypeError);
 });
 
-test('a picture that is read as a square', () => {
-  const symbol = encode('A'), image = { data: new Uint8ClampedArray(4), width: 1, height: 1 };
+test('what is neither a square nor a picture', () => {
+  const symbol = encode('A');
   for (const call of [read, mend]) {
-    for (const given of ['label.png', image, image.data, symbol.svg()]) assert.throws(() => call(given), { name: 'TypeError', message: /for a picture call parsePicture\(image\)/ });
-    for (const given of [symbol.png(), new Uint8Array(0)]) assert.throws(() => call(given), { name: 'SideError', message: /for a picture call parsePicture\(image\)/ });
+    for (const given of ['label.png', new Uint8ClampedArray(4), symbol.svg(), { width: 1, height: 1 }]) assert.throws(() => call(given), { name: 'TypeError', message: /a file of a picture is first drawn on a canvas/ });
+    for (const given of [symbol.png(), new Uint8Array(0)]) assert.throws(() => call(given), { name: 'SideError', message: /a file of a picture is first drawn on a canvas/ });
   }
-  for (const given of [symbol.png(), 'label.png', symbol.svg()]) assert.throws(() => parsePicture(given), { name: 'TypeError', message: /canvas/ });
+  for (const call of [find, parsePicture]) {
+    for (const given of [symbol.png(), 'label.png', symbol.svg(), symbol]) assert.throws(() => call(given), { name: 'TypeError', message: /canvas/ });
+  }
 });
 
 test('a refusal says how many bytes there were, and how many fit', () => {
@@ -336,20 +338,57 @@ test('modules of an image between dark and light are not known', () => {
   assert.deepEqual([mend(modules).content.text(), mend(modules).wrongModules], ['Shelf 12', 3]);
 });
 
-test('images without an upright symbol', () => {
-  const symbol = encode('Shelf 12', { version: 2 });
-  const refused = (why) => (error) => error instanceof errors.PictureError && why.test(error.message);
-  for (const turn of [(x, y, size) => [y, size - 1 - x], (x, y, size) => [size - 1 - x, size - 1 - y], (x, y, size) => [size - 1 - y, x]]) {
-    assert.throws(() => parsePicture(imageOf([symbol], { turn })), refused(/not upright/));
+test('symbols that are turned, mirrored, or light on dark', () => {
+  const symbol = encode('Shelf 12', { version: 2 }), edge = 12, end = 12 + 3 * 25, corners = [[edge, edge], [end, edge], [end, end], [edge, end]];
+  const turns = [(x, y) => [x, y], (x, y, size) => [y, size - 1 - x], (x, y, size) => [size - 1 - x, size - 1 - y], (x, y, size) => [size - 1 - y, x]];
+  for (const [k, turn] of turns.entries()) {
+    for (const isMirrored of [false, true]) {
+      for (const isInverse of [false, true]) {
+        const colours = isInverse ? { dark: WHITE, light: [0, 0, 0, 255] } : {};
+        const [found, ...others] = find(imageOf([symbol], { ...colours, turn: (x, y, size) => (isMirrored ? turn(x, y, size).reverse() : turn(x, y, size)) }));
+        assert.ok(found instanceof Found && others.length === 0);
+        assert.deepEqual([found.modules, found.side, found.isMirrored, found.isInverse, found.isRead], [symbol.modules, 25, isMirrored, isInverse, true]);
+        assert.deepEqual([found.quarterTurns, found.corners], [k, [...corners.slice(k), ...corners.slice(0, k)]]);
+        assert.deepEqual([found.read().text(), found.mend().isSound], ['Shelf 12', true]);
+      }
+    }
   }
-  const slanted = (x, y, size) => [(x + y) % size, (y - x + size) % size];
-  assert.throws(() => parsePicture(imageOf([symbol], { turn: slanted })), refused(/no upright symbol/));
-  assert.throws(() => parsePicture(imageOf([symbol], { scale: 1.6 })), refused(/less than two pixels/));
-  assert.throws(() => parsePicture({ data: new Uint8ClampedArray(400).fill(255), width: 10, height: 10 }), refused(/no upright symbol/));
+});
+
+test('images without a symbol', () => {
+  const symbol = encode('Shelf 12', { version: 2 }), none = { name: 'PictureError', message: 'no symbol is found in the picture' };
+  const white = { data: new Uint8ClampedArray(400).fill(255), width: 10, height: 10 };
+  for (const image of [imageOf([symbol], { scale: 0.6 }), white]) {
+    assert.deepEqual(find(image), []);
+    for (const call of [parsePicture, read, mend]) assert.throws(() => call(image), none);
+  }
   const sized = { width: 1, height: 1 };
   for (const wrong of [undefined, null, {}, symbol, { data: new Uint8Array(3), ...sized }, { data: [0, 0, 0, 0], ...sized }]) {
-    assert.throws(() => parsePicture(wrong), TypeError);
+    for (const call of [find, parsePicture]) assert.throws(() => call(wrong), TypeError);
   }
+  assert.throws(() => find({ data: new Uint8Array(4 * 32768), width: 32768, height: 1 }), refused('SettingsError', 5, 'SETTINGS'));
+  assert.throws(() => find(white, { unread: 1 }), { name: 'TypeError', message: /unread is true or false/ });
+  assert.throws(() => find(white, { all: true }), { name: 'TypeError', message: 'there is no option all; there are unread' });
+});
+
+test('a picture is read in place of a square', () => {
+  const symbol = encode('Shelf 12'), image = imageOf([symbol]);
+  assert.deepEqual([read(image).text(), mend(image).content.text(), mend(find(image)[0]).isSound], ['Shelf 12', 'Shelf 12', true]);
+  const why = { name: 'PictureError', message: 'the picture shows 2 symbols: find(picture) returns all of them' };
+  for (const call of [read, mend]) assert.throws(() => call(imageOf([symbol, symbol])), why);
+});
+
+test('a symbol that cannot be mended', () => {
+  const symbol = encode('Shelf 12', { version: 3 }), { side } = symbol, spoilt = symbol.modules.slice();
+  spoilt.forEach((module, place) => {
+    const row = Math.floor(place / side), column = place % side;
+    if (row > 8 && column > 8 && row < 20) spoilt[place] = 1 - module;
+  });
+  const image = imageOf([{ side, dark: (row, column) => spoilt[row * side + column] === 1 }]);
+  assert.deepEqual(find(image), []);
+  const [found] = find(image, { unread: true });
+  assert.deepEqual([found.modules, found.isRead], [spoilt, false]);
+  for (const call of [() => found.mend(), () => mend(image), () => mend(spoilt)]) assert.throws(call, refused('CheckError', 9, 'CHECK'));
 });
 
 /** Returns images beside each other on white. */
@@ -381,33 +420,21 @@ d126e1f46b7dffd126e1f46b7dffd126e1f46b7d
 c225e1f46b6bffc225e1f46b6bffc225e1f46b6b
 fe72140a43e4fffe72140a43e4fffe72140a43e4`.trim().split('\n');
 
-test('what looks like a symbol beside one is left out', () => {
+test('what looks like a symbol beside one is left out, and what is one is read', () => {
   const symbol = encode('Shelf 12'), label = imageOf([symbol], { scale: 4 }), two = encode('two');
   const caption = imageBy(40, label.height, (row, column) => {
     const place = 2 * (column - 10), line = CAPTION[row - 50] ?? '';
     return place >= 0 && place < line.length ? parseInt(line.slice(place, place + 2), 16) : 255;
   });
-  const turned = imageOf([two], { turn: (x, y, size) => [size - 1 - y, x] }), coarse = imageOf([two], { scale: 1.6 });
-  for (const other of [caption, turned, coarse]) {
-    assert.deepEqual(parsePicture(beside(label, other)), [symbol.modules]);
-    assert.deepEqual(parsePicture(beside(other, label)), [symbol.modules]);
-    assert.throws(() => parsePicture(other), errors.PictureError);
-  }
-  assert.deepEqual(parsePicture(beside(label, turned, coarse, imageOf([two], { scale: 4 }))), [symbol.modules, two.modules]);
-  assert.throws(() => parsePicture(beside(turned, coarse)), { name: 'PictureError', message: /not upright/ });
+  assert.deepEqual(parsePicture(beside(label, caption)), [symbol.modules]);
+  assert.deepEqual(parsePicture(beside(caption, label)), [symbol.modules]);
+  assert.throws(() => parsePicture(caption), errors.PictureError);
+  const turned = imageOf([two], { turn: (x, y, size) => [size - 1 - y, x] });
+  const all = find(beside(label, turned, imageOf([two], { scale: 1.6 })));
+  assert.deepEqual(all.map((it) => [it.mend().content.text(), it.quarterTurns]), [['Shelf 12', 0], ['two', 3], ['two', 0]]);
 });
 
-test('a picture with many marks like finder patterns is given up', () => {
-  const why = { name: 'PictureError', message: 'the picture has too many marks that look like finder patterns: cut out the symbol' };
-  const isDark = (row, column) => Math.max(Math.abs(row % 8 - 3), Math.abs(column % 8 - 3)) !== 2 && row % 8 < 7 && column % 8 < 7;
-  const marks = (side) => imageBy(8 * side, 8 * side, (row, column) => (isDark(row, column) ? 0 : 255));
-  assert.throws(() => parsePicture(marks(40)), why);
-  assert.throws(() => parsePicture(marks(2)), { message: /no upright symbol/ });
-  // 20,000,000 comparisons suffice for some 200 symbols, and for a symbol in noise
-  const sheet = imageOf(Array.from({ length: 20 }, (_, k) => encode(`${k}`, { level: 'H' })), { scale: 2 }), many = { ...sheet, height: 10 * sheet.height };
-  many.data = new Uint8Array(10 * sheet.data.length);
-  for (let k = 0; k < 10; k++) many.data.set(sheet.data, k * sheet.data.length);
-  assert.equal(parsePicture(many).length, 200);
+test('a symbol in noise, and more symbols than one search finds', () => {
   const symbol = encode('Shelf 12'), label = imageOf([symbol]), size = 300, from = 100;
   let state = 1;
   const noise = imageBy(size, size, (row, column) => {
@@ -416,20 +443,22 @@ test('a picture with many marks like finder patterns is given up', () => {
     return isLabel ? label.data[4 * (y * label.width + x)] : state >>> 31 ? 0 : 255;
   });
   assert.deepEqual(parsePicture(noise), [symbol.modules]);
+  const many = Array.from({ length: 72 }, (_, k) => encode(`Shelf ${k}`, { version: 1, level: 'M' })), rows = [];
+  for (let k = 0; k < 72; k += 8) rows.push(imageOf(many.slice(k, k + 8), { margin: 6 }));
+  const data = Uint8ClampedArray.from(rows.flatMap((row) => [...row.data]));
+  assert.deepEqual(parsePicture({ data, width: rows[0].width, height: 9 * rows[0].height }), many.map((it) => it.modules));
 });
 
-test('the brightness of a colour is rounded once', () => {
-  // 0.299, 0.587 and 0.114 of red, green and blue (ITU-R BT.601); a module is dark below 95.625, which is 0.375 of the difference of dark and light
-  const symbol = encode('Shelf 12', { level: 'H' }), colours = [
-    [[0, 114, 250, 255], 95.418, 1], [[0, 117, 235, 255], 95.469, 1], [[0, 123, 205, 255], 95.571, 2], [[0, 125, 195, 255], 95.605, 2],
-    [[0, 0, 0, 160], 95, 1], [[0, 0, 0, 159], 96, 2], // over white
-  ];
-  for (const [colour, bright, module] of colours) {
-    const image = imageOf([symbol], { scale: 1, margin: 4 }), place = 15 * symbol.side + 15, wanted = symbol.modules.slice();
-    image.data.set(colour, 4 * (19 * image.width + 19));
-    wanted[place] = module;
-    assert.deepEqual(parsePicture(image), [wanted], `${colour}: ${bright}`);
-  }
+test('the brightness of a colour is rounded once', async () => {
+  const { greysOf } = await import(new URL('pictures.js', at)), steps = [0, 1, 15, 60, 127, 128, 195, 250, 254, 255];
+  const colours = steps.flatMap((red) => steps.flatMap((green) => steps.flatMap((blue) => [[red, green, blue, 255], [red, green, blue, (red + 7 * green) % 256]])));
+  const [onLight, onDark] = greysOf({ data: Uint8Array.from(colours.flat()) });
+  colours.forEach(([red, green, blue, alpha], k) => {
+    // (ITU-R BT.601; the shares have 16 bits)
+    const bright = (0.299 * red + 0.587 * green + 0.114 * blue) * alpha / 255, ground = 255 - alpha;
+    for (const [grey, wanted] of [[onLight, bright + ground], [onDark, bright]]) assert.ok(Math.abs(grey[k] - wanted) <= 0.503, `${colours[k]}: ${grey[k]}`);
+  });
+  assert.equal([...greysOf({ data: Uint8Array.of(1, 2, 3, 255) })].length, 1);
 });
 
 test('files for printers and for print', () => {

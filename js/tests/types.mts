@@ -1,5 +1,5 @@
 // What the declarations allow and refuse, for the TypeScript compiler.
-import { documentOf, draw, encode, encodeSeries, labels, load, mend, paper, parseDrawing, parsePicture, read, sheetsOf, PAPERS, QRSymbol, LogoError, NoDrawingError, TooLongError, FieldsError, QRError, type Eci, type Header, type Level } from 'qrproved';
+import { documentOf, draw, encode, encodeSeries, find, labels, load, mend, paper, parseDrawing, parsePicture, read, sheetsOf, Found, PAPERS, QRSymbol, LogoError, NoDrawingError, TooLongError, FieldsError, QRError, type Eci, type Header, type Level } from 'qrproved';
 import { encode as encodeAlone, load as loadAlone, QRSymbol as SymbolAlone } from 'qrproved/encode';
 import { ContentError, PAYMENT, contact, event, geo, gs1Of, link, mail, payment, paymentBytes, sms, tel, wifi } from 'qrproved/contents';
 
@@ -18,7 +18,11 @@ const shares: number[] = [spent, spentHere, spentMost, worstMisread, worstUnknow
 const ecis: readonly Eci[] = read(symbol).ecis;
 const fields: [string, string][] = read(symbol).gs1 ? read(symbol).fields() : [];
 const shown: Uint8Array[] = parseDrawing(draw(series)).squares;
-const squares: Uint8Array[] = parsePicture({ data: new Uint8ClampedArray(4), width: 1, height: 1 });
+const pixels = { data: new Uint8ClampedArray(4), width: 1, height: 1 };
+const squares: Uint8Array[] = parsePicture(pixels);
+const found: Found[] = [...find(pixels, { unread: true }), ...find({ width: 9, height: 9, getContext: () => null })];
+const places: number[] = found.flatMap((it) => [it.side, it.quarterTurns, it.corners[0][1], Number(it.isInverse && it.isMirrored && it.isRead), it.mend().spent, it.read().version]);
+const ofPicture: number[] = [read(pixels).version, mend(found[0]).wrongModules, mend(pixels).spent];
 const image: Uint8Array = symbol.png({ fitMm: 20, dpi: 300 });
 const canvas = symbol.toCanvas({ width: 0, height: 0, getContext: () => null }, { dark: 'navy', light: null }).width + symbol.svg({ title: 'a', className: 'b', inverse: false });
 const logo = encode('a', { logo: 0.2, share: 0.25 }), marked: string = logo.svg({ logo: new Uint8Array(3) }) + logo.logoBox?.row + logo.logoSpent + logo.logo;
@@ -26,7 +30,7 @@ const files: Uint8Array[] = [labels(series, { type: 'tspl', mm: 20, dpi: 300, x:
 const sheets: Uint8Array = sheetsOf([symbol], paper(PAPERS[0], { first: 3 }), { mm: 20, captions: ['a'] });
 const text: string = read(symbol).text() + mend(symbol.modules).content.text() + symbol.toJSON().rows[0] + draw(series, { type: 'SVG' }) + symbol.dataURL({ type: 'svg' }) + symbol.svg({ inline: true }) + shares;
 try {
-  console.log(canvas, marked, level, header, fieldsOfGs1, ecis, fields, image, files, sheets, drawings, text, squares, shown);
+  console.log(canvas, marked, level, header, fieldsOfGs1, ecis, fields, image, files, sheets, drawings, text, squares, shown, places, ofPicture);
 } catch (error) {
   if (error instanceof TooLongError || error instanceof NoDrawingError || error instanceof FieldsError) {
     const refusal: QRError = error, status: number = error.status;

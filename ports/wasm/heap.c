@@ -1,6 +1,8 @@
 /* What the library takes of the heap as WebAssembly. Each block begins where the last one ended, and none is freed by itself: a
  * call of the library frees all that it takes before it returns, and the caller gives back everything by heap_reset before it
- * takes the buffers of its next call by heap_take. ports/heap.c says what the kit's contracts ask of blocks. */
+ * takes the buffers of its next call by heap_take. (A search for symbols mends some squares, one after the other. In the pictures that
+ * were tried it took up to 15 MB for them. If blocks were freed, the module would have 7,000 bytes more.) ports/heap.c says what the
+ * kit's contracts ask of blocks. */
 typedef __SIZE_TYPE__ size_t; /* the kit's clang has no headers */
 typedef __UINT64_TYPE__ uint64_t;
 

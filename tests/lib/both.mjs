@@ -64,6 +64,12 @@ const CALLS = {
     const { type, margin, squares } = qr.parseDrawing(text);
     return [type, margin, squares.map((it) => [hashOf(it), Math.sqrt(it.length)])];
   },
+  find: ({ grey, width, height, table, unread }) => {
+    const pixels = bytesOf(grey), data = new Uint8Array(4 * pixels.length);
+    table.map(bytesOf).forEach((channel, k) => pixels.forEach((bright, at) => { data[4 * at + k] = channel[bright]; }));
+    return qr.find({ data, width, height }, { unread }).map((it) => [hashOf(it.modules), it.side, it.corners, it.quarterTurns, it.isInverse, it.isMirrored,
+      it.isRead, tried(() => it.mend().content.text())]);
+  },
   content: ({ kind, fields }) => {
     const text = contents[kind](fields);
     return [text, kind === 'payment' ? Buffer.from(contents.paymentBytes(text)).toString('hex') : null];

@@ -132,8 +132,6 @@ PARAMETERS = {
 
 # The calls that serve machines with little memory alone. The crate for Rust and the WebAssembly module do not have them.
 FOR_LITTLE_MEMORY = {"qrproved_draw_row", "qrproved_encode_bits"}
-# The WebAssembly module does not have this call either.
-NOT_IN_WASM = {*FOR_LITTLE_MEMORY, "qrproved_find"}
 
 
 class Library:

@@ -1,7 +1,7 @@
 /**
- * Tries the heap of ports/wasm/heap.c, linked alone: node wasm_heap.mjs MODULE. Prints 'heap: as wanted', or the first
- * fault. Blocks are taken, grown and freed at random, as compiled Rattle does it. Each is filled with bytes of its own.
- * At last the engine refuses more memory.
+ * Tries the heap of ports/wasm/heap.c and the product of multi3.c, linked alone: node wasm_heap.mjs MODULE. Prints 'heap: as wanted', or the
+ * first fault. Blocks are taken, grown and freed at random, as compiled Rattle does it. Each is filled with bytes of its own. At last
+ * the engine refuses more memory.
  */
 import fs from 'node:fs';
 import { limited } from './wasm_memory.mjs';
@@ -87,6 +87,19 @@ for (let round = 0; round < 40; round++) {
     if (blocks.length === 0) place(alloc(8, 8), 8, 8);
   }
   check();
+}
+
+// Products of two numbers of 128 bits.
+const parts = [0n, 1n, 2n, 0xffffffffn, 0x100000000n, 0x7fffffffffffffffn, 0x8000000000000000n, 0xffffffffffffffffn];
+for (let k = 0; k < 60; k++) parts.push(BigInt.asUintN(64, BigInt(below(2 ** 24)) << BigInt(below(44)) | BigInt(below(2 ** 24))));
+for (const a of parts) {
+  for (const b of parts) {
+    for (const [high, other] of [[0n, 0n], [-1n, 3n]]) {
+      exports.__multi3(BigInt(TOLD), a, high, b, other);
+      const view = new DataView(exports.memory.buffer), got = view.getBigUint64(TOLD, true) | view.getBigUint64(TOLD + 8, true) << 64n;
+      if (got !== BigInt.asUintN(128, (a | high << 64n) * (b | other << 64n))) fault('a wrong product');
+    }
+  }
 }
 
 // The engine refuses: nothing that was there changes, and smaller blocks are to be had.
