@@ -107,7 +107,7 @@ fn size_with_logo(
     };
     let mut bits = needed_bits(alloc, input, writing, size.version)?;
     // One more than the side of the largest logo that is allowed in the sizes that were tried, or 0 if the input fits
-    // none of them. A size is tried with this logo first: if it is not allowed, no larger one is.
+    // none of them. In each size the logo with this side is tried first: if it is not allowed, no larger one is.
     let mut above = 0;
     loop {
         if bits <= size.version.capacity(size.level) {
