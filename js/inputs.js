@@ -45,10 +45,10 @@ export function inputAsked(input, asked, calls) {
   return [{ data, interpretation }, version, level, isBytes ? RULES.indexOf('bytes_only') : rule];
 }
 
-/** Returns the symbol of an input. The options of `calls.others` are passed to `calls.encoded`. */
+/** Returns the symbol of an input. */
 export function symbolAsked(input, options, calls) {
-  const asked = chosen(options, { ...OF_SYMBOL, ...calls.others });
+  const asked = chosen(options, OF_SYMBOL);
   if (typeof asked.boost !== 'boolean') throw new TypeError(`boost is true or false, and not of type ${typeof asked.boost}`);
-  const symbol = calls.encoded(...inputAsked(input, asked, calls), asked.boost, asked);
+  const symbol = calls.encoded(...inputAsked(input, asked, calls), asked.boost);
   return { ...symbol, level: LEVELS[symbol.level] };
 }
