@@ -3,8 +3,8 @@
 //!
 //! CRC-32 is the remainder of a division of polynomials. The eight steps for a byte are linear, so a table has what
 //! they make of each byte. Adler-32 has two sums: `low` is the sum of the bytes, and `high` the sum of all values of
-//! `low`. Both are remainders of a division by 65,521. What a line adds to them follows from the line's own two sums,
-//! so a copy of the line costs one step, and not one step a byte.
+//! `low`. Both are remainders of a division by 65,521. What a line and its copies add to them follows from the line's
+//! own two sums, so all of them cost one step, and not one step a byte.
 
 ghost use Rattle.std.specs.Prelude.{◌≡◌, ◌<◌, ◌≤◌, ◌^◌, ◌*◌, ◌+◌, ◌-◌, ◌∷◌, [], ℕ, List};
 ghost use Rattle.qr_images.specs.Image.{repeated};
