@@ -20,7 +20,7 @@ from qrproved.contents import ContentError
 from qrproved._sources import BINARY, SourceError, decoded, encoding_of, is_text
 from qrproved._stream import (DIGITS, DIGITS_OF_SHARD, LABELS_OF_ARCHIVE, Naming, Source, columns_of, labels_of, parts_of, processors, progress_of,
                               spread)
-from qrproved.batch import BESIDE, REFUSALS, Done, Label, Part, Settings, Unreadable, largest, placed, write
+from qrproved.batch import BESIDE, LOGO_SIDE, REFUSALS, Done, Label, Part, Settings, Unreadable, largest, placed, write
 
 if TYPE_CHECKING:
     from collections.abc import Iterator
@@ -321,6 +321,14 @@ def size_of(text: str) -> Optional[tuple[float, float]]:
         return None
 
 
+def side_of(text: str) -> float:
+    """Returns the side of a logo: modules as a whole number, or a fraction of the symbol's side."""
+    try:
+        return int(text) if text.isdecimal() else float(text)
+    except ValueError:
+        raise argparse.ArgumentTypeError(f"it is a number of modules, as 7, or a fraction of the side, as 0.2, and not {text!r}") from None
+
+
 def add_drawing(parser: argparse.ArgumentParser, of_batch: str) -> None:
     """Adds the options that say where a symbol is written, and how."""
     parser.add_argument("-o", "--output", metavar="FILE", help="the file to write, .png, .svg, .pdf, .eps, .txt, .pbm, .zpl, .tspl or .bin, which is"
@@ -342,6 +350,11 @@ def add_drawing(parser: argparse.ArgumentParser, of_batch: str) -> None:
     parser.add_argument("--light", metavar="COLOUR", help="that of its ground, or 'none' for a transparent one; white. Colours that scanners do not"
                         " tell apart are refused")
     parser.add_argument("--inverse", action="store_true", help="allow dark modules that are lighter than the ground, which many scanners do not read")
+    parser.add_argument("--logo", metavar="PICTURE", help="draw this PNG or SVG file into the middle of an SVG, or this PNG file into that of a PNG. The"
+                        " symbol gets the least version, and of it the highest level, with which the logo is allowed")
+    parser.add_argument("--logo-side", type=side_of, metavar="N", help="the side of the logo with the light ring around it: a number of modules, as 7, or a"
+                        f" fraction of the symbol's side; {LOGO_SIDE}")
+    parser.add_argument("--share", type=float, metavar="N", help="how much of what can be corrected the logo may use up, from 0 to 0.75; 0.5")
     parser.add_argument("-q", "--quiet", action="store_true", help="do not warn of small margins and modules, nor of bytes"
                         " that are no UTF-8")
     parser.add_argument("-S", "--series", action="store_true", help="write a series of up to 16 symbols of the version -v: the pages of a PDF, the"
@@ -383,6 +396,8 @@ def of_content(kind: str, words: list[str]) -> argparse.Namespace:
     given = parser.parse_intermixed_args(words)
     if kind == "payment" and (given.version or 1) > VERSION_OF_PAYMENTS:
         parser.error(f"a payment has a version from 1 to {VERSION_OF_PAYMENTS}")
+    if kind == "payment" and given.logo is not None:
+        parser.error("a payment has level M, and with a logo it may have another one")
     values = {name: list(getattr(given, f"field_{name}") or []) for name in fields if fields[name].get("is") != "flag"}
     values.update({name: ["true"] for name in fields if getattr(given, f"field_{name}") == "true"})
     for pair in given.pairs:
@@ -456,7 +471,8 @@ def completed_sheet(parser: argparse.ArgumentParser, given: argparse.Namespace) 
     if given.type != "pdf":
         parser.error("sheets of label paper are a PDF: -o sheet.pdf")
     others = {"--scale": given.scale, "--dpi": given.dpi, "--fit-mm": given.fit_mm, "-x": given.x, "-y": given.y, "--series": given.series, "--jobs": given.jobs,
-              "--names": given.names != "number", "--start": given.start > 1, "--shard": given.shard, "--tar": given.tar, "--resume": given.resume}
+              "--names": given.names != "number", "--start": given.start > 1, "--shard": given.shard, "--tar": given.tar, "--resume": given.resume,
+              "--logo": given.logo}
     for name, value in others.items():
         if value:
             parser.error(f"{name} is not of --sheet")
@@ -465,6 +481,17 @@ def completed_sheet(parser: argparse.ArgumentParser, given: argparse.Namespace) 
         parser.error("pdf is not written to a terminal: name a file by -o")
     given.size, given.is_one_file = size_of(given.paper), True
     return given
+
+
+def check_logo(parser: argparse.ArgumentParser, given: argparse.Namespace) -> None:
+    """Ends the program if a drawing of this type has no logo."""
+    if given.logo is None:
+        if given.logo_side is not None or given.share is not None:
+            parser.error("--logo-side and --share are of --logo")
+    elif given.type not in ("png", "svg"):
+        parser.error(f"--logo is of a PNG or an SVG, and not of {given.type.upper()}")
+    elif given.series:
+        parser.error("--logo is of one symbol, and not of a series")
 
 
 def check_colours(parser: argparse.ArgumentParser, given: argparse.Namespace) -> None:
@@ -502,6 +529,7 @@ def completed(parser: argparse.ArgumentParser, given: argparse.Namespace) -> arg
         parser.error("--names is of the files of a folder, and all labels go to one file")
     check_list(parser, given)
     check_colours(parser, given)
+    check_logo(parser, given)
     if (given.batch is None or given.is_one_file) and given.output in (None, "-") and given.type in BINARIES and sys.stdout.isatty():
         parser.error(f"{given.type} is not written to a terminal: name a file by -o")
     if given.series:
@@ -552,6 +580,13 @@ def check_columns(parser: argparse.ArgumentParser, given: argparse.Namespace) ->
         parser.error(str(fault))
 
 
+def picture_of(path: Optional[str]) -> Optional[bytes]:
+    if path is None:
+        return None
+    with open(path, "rb") as file:
+        return file.read()
+
+
 def main(words: Optional[list[str]] = None) -> int:
     words = sys.argv[1:] if words is None else words
     if words in (["--version"], ["-V"]):
@@ -567,7 +602,8 @@ def main(words: Optional[list[str]] = None) -> int:
         version = 1 if given.version is None else given.version
         settings = Settings(given.type, version, Level[given.level], rule, given.margin, given.scale, given.mm, given.dpi,
                             given.eci, given.gs1, given.boost, given.x, given.y, given.series, given.is_one_file, given.fit_mm,
-                            given.dark, given.light, given.inverse)
+                            given.dark, given.light, given.inverse, picture_of(given.logo), LOGO_SIDE if given.logo_side is None else given.logo_side,
+                            given.share)
         told = set()  # the warnings that were said
 
         def warn(message: Union[Warning, str], *_: object) -> None:

@@ -28,6 +28,7 @@ __all__ = ["Done", "Label", "Part", "Settings", "Unreadable", "write"]
 
 DRAWINGS = {"txt": Drawing.UTF8, "utf8": Drawing.UTF8, "ascii": Drawing.ASCII, "asciii": Drawing.ASCII_INVERSE}
 REFUSALS = (Error, EciError, Gs1Error)  # of one label, after which others are written
+LOGO_SIDE = 0.2  # of a symbol's side, if nothing else is said
 BESIDE, FAULTS = "~", ".faults"  # what the name of a file ends in before it is whole, and that of the faults of an archive
 WRITING = os.O_WRONLY | os.O_CREAT | os.O_TRUNC | getattr(os, "O_BINARY", 0)
 
@@ -56,6 +57,10 @@ class Settings(NamedTuple):
     """The colours of an SVG."""
     light: Optional[str] = _colours.LIGHT
     inverse: bool = False
+    logo: Optional[bytes] = None
+    """The picture in the middle of a PNG or SVG."""
+    logo_side: float = LOGO_SIDE
+    share: Optional[float] = None
 
     def encoded(self, data: Union[str, bytes]) -> list[Symbol]:
         """Returns the symbol of a text or of some bytes, or their series. GS1 data are a text of ASCII: other bytes are refused with it."""
@@ -64,14 +69,17 @@ class Settings(NamedTuple):
         else:
             given = {"data": data, "eci": self.eci}
         settings = {"version": self.version, "level": self.level, "rule": self.rule}
-        return qrproved.encode_series(**given, **settings) if self.is_series else [qrproved.encode(**given, **settings, boost=self.boost)]
+        if self.is_series:
+            return qrproved.encode_series(**given, **settings)
+        of_logo = {} if self.logo is None else {"logo": self.logo_side, "share": self.share}
+        return [qrproved.encode(**given, **settings, boost=self.boost, **of_logo)]
 
     def drawn(self, symbols: list[Symbol], caption: Optional[str] = None) -> bytes:
         """Returns the drawing of a symbol or of a series, or the modules of a symbol that gets a page of a PDF. An SVG may have a caption."""
         if caption is not None:
             if self.kind != "svg" or self.is_series:
                 raise qrproved.SettingsError("only an SVG of one symbol has a caption")
-            return symbols[0].svg(margin=self.margin, mm=self.mm, caption=caption, **self.colours())
+            return symbols[0].svg(margin=self.margin, mm=self.mm, caption=caption, logo=self.logo, **self.colours())
         if self.kind == "pdf" and self.is_label:
             return symbols[0].modules
         sizes = {"scale": self.scale, "margin": self.margin, "mm": self.mm, "dpi": self.dpi, "x": self.x, "y": self.y, "fit_mm": self.fit_mm}
@@ -82,9 +90,9 @@ class Settings(NamedTuple):
         if self.is_series:
             return self.document(symbols)
         if self.kind == "svg" and self.is_coloured():
-            return symbols[0].svg(margin=self.margin, mm=self.mm, **self.colours())
+            return symbols[0].svg(margin=self.margin, mm=self.mm, logo=self.logo, **self.colours())
         file = io.BytesIO()
-        symbols[0].save(file, kind=self.kind, **sizes)
+        symbols[0].save(file, kind=self.kind, logo=self.logo, **sizes)
         return file.getvalue()
 
     def document(self, symbols: list[Symbol]) -> bytes:

@@ -9,6 +9,7 @@ import unittest
 
 import qrproved
 from qrproved import contents
+from test_logos import FOUR
 from test_reading import GREY, numbers, png_of, shown
 
 
@@ -77,6 +78,34 @@ class Command(unittest.TestCase):
             for words in (["--dark", "navy"], ["--light", "none"], ["--inverse"]):
                 said = run("A", "-t", kind, "-o", self.room / "a", *words, status=2)[1]
                 self.assertIn(f"{words[0]} is of an SVG, as with -t svg: {why}", " ".join(said.split()))
+
+    def test_a_logo(self):
+        picture, other = self.room / "logo.png", self.room / "logo.svg"
+        picture.write_bytes(FOUR)
+        other.write_bytes(b'<svg xmlns="http://www.w3.org/2000/svg" viewBox="0 0 1 1"><circle r="1"/></svg>')
+        fifth, nine = qrproved.encode("Shelf 12", logo=0.2), qrproved.encode("Shelf 12", logo=9, share=0.75, level="M")
+        rows = {"a.png": ([picture], fifth.png(logo=FOUR)), "a.svg": ([other], fifth.svg(logo=other.read_bytes())),
+                "b.png": ([picture, "--logo-side", "9", "--share", "0.75", "-l", "M", "-s", "3"], nine.png(logo=FOUR, scale=3)),
+                "b.svg": ([picture, "--logo-side", "9", "--share", "0.75", "-l", "M", "--dark", "navy"], nine.svg(logo=FOUR, dark="navy"))}
+        for name, (words, wanted) in rows.items():
+            self.assertEqual(run("Shelf 12", "-o", self.room / name, "--logo", *words), (b"", ""))
+            self.assertEqual((self.room / name).read_bytes(), wanted)
+        run("--batch", "-", "-o", self.room / "many", "--logo", picture, given=b"Shelf 12\nShelf 13\n")
+        self.assertEqual((self.room / "many" / "00001.png").read_bytes(), fifth.png(logo=FOUR))
+        run("wifi", "ssid=Guests", "-o", self.room / "wifi.svg", "--logo", other)
+        self.assertEqual((self.room / "wifi.svg").read_bytes(), qrproved.encode("WIFI:T:nopass;S:Guests;;", logo=0.2).svg(logo=other.read_bytes()))
+        rows = {"a logo of 177 by 177 modules": ([*("A", "-t", "svg", "--logo"), picture, "--logo-side", "177"], 1),
+                "share is from 0 to 0.75": (["A", "-t", "svg", "--logo", picture, "--share", "0.8"], 1),
+                "into a PNG file a logo is drawn that is one too": (["A", "-t", "png", "--logo", other], 1),
+                "--logo is of a PNG or an SVG, and not of PDF": (["A", "-t", "pdf", "--logo", picture], 2),
+                "a number of modules, as 7, or a fraction": (["A", "-t", "svg", "--logo", picture, "--logo-side", "x"], 2),
+                "--logo-side and --share are of --logo": (["A", "-t", "svg", "--share", "0.5"], 2),
+                "not of a series": (["A", "-t", "svg", "-S", "-v", "1", "--logo", picture], 2),
+                "--logo is not of --sheet": (["--sheet", "-", "-o", self.room / "a.pdf", "--logo", picture], 2),
+                "a payment has level M": (["payment", "name=A", "iban=DE33100205000001194700", "-t", "svg", "--logo", picture], 2),
+                "No such file": (["A", "-t", "svg", "--logo", self.room / "none.png"], 1)}
+        for said, (words, status) in rows.items():
+            self.assertIn(said, " ".join(run(*words, status=status)[1].split()))
 
     def test_contents(self):
         wanted = qrproved.encode(contents.wifi("Caf\u00e9; 1", "correct horse", hidden=True), level="q")
