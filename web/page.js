@@ -7,11 +7,13 @@ import { LIMITS } from '../out/npm/package/common.js';
 import { PAPER_DATA } from '../out/npm/package/paper_data.js';
 import { FREE_ACROSS, LINE, SYMBOL_MIN, checkCaption, linesOf, roomOf, roomOfLabel } from '../out/npm/package/papers.js';
 import { ContentError, KINDS, PAYMENT, contentText } from '../out/npm/package/contents.js';
+import { CameraError, Labels, squaresSeen } from './camera.js';
 import { squaresInText } from './drawings.js';
 import { zipOf } from './zip.js';
 
 const on = (id) => document.getElementById(id);
 const MOST_SHOWN = 200; // characters of a text in a name for screen readers
+const MOST_MARKED = 40; // characters of a text below the mark of its symbol
 const MODULE_LEAST = 0.25; // mm
 
 /** Returns a new element with a text or with elements in it. */
@@ -838,14 +840,19 @@ function contentOf(square) {
 
 let shows = 0; // how often squares were shown
 
+/** Says what each of several squares contains. */
+function tellContents(squares) {
+  say(on('found'), '');
+  on('found').append(...squares.flatMap((square, k) => [...(squares.length > 1 ? [made('h2', `${k + 1} of ${squares.length}`)] : []), contentOf(square)]));
+}
+
 /** Shows squares that were found, and what each contains. */
 function showSquares(squares) {
   shows += 1;
   const caption = (k) => (squares.length > 1 ? `${k + 1} of ${squares.length}` : '');
   on('found-drawing').replaceChildren(...squares.map((square, k) => figureOf(picture(square), 'what was found', caption(k))));
   on('found-drawing').classList.toggle('many', squares.length > 1);
-  say(on('found'), '');
-  on('found').append(...squares.flatMap((square, k) => [...(squares.length > 1 ? [made('h2', caption(k))] : []), contentOf(square)]));
+  tellContents(squares);
 }
 
 /** Returns the squares of which a text is exactly the drawing; or null. */
@@ -859,6 +866,7 @@ function squaresOfDrawing(text) {
 }
 
 function showFound() {
+  closeCamera();
   const drawing = on('pasted').value, exact = squaresOfDrawing(drawing), squares = exact ?? squaresInText(drawing);
   showSquares(squares);
   if (!exact) on('found').append(made('p', 'Found by its look: the text is damaged, or another program drew it.'));
@@ -893,6 +901,7 @@ async function pixelsOf(file) {
 /** Shows what the symbols of an image contain, unless something else was shown while the file was opened. */
 async function showImage(file) {
   if (!file) return;
+  closeCamera();
   showSquares([]);
   const before = shows;
   // An SVG document that the library has drawn is parsed; others are read as images.
@@ -932,6 +941,68 @@ function pasteSample() {
   showFound();
 }
 
+// ---- the camera
+
+let scan = null; // what closes the camera, while it is open or the browser asks whether it may be
+let scanned = []; // the best square of each label that the camera has seen lately
+
+/** Marks the symbols of a frame, and writes below each what it contains. */
+function mark(squares) {
+  const { videoWidth: width, videoHeight: height } = on('film'), size = width / 32;
+  const drawn = (tag, attributes, text) => {
+    const element = document.createElementNS('http://www.w3.org/2000/svg', tag);
+    for (const [name, value] of Object.entries(attributes)) element.setAttribute(name, value);
+    element.textContent = text;
+    return element;
+  };
+  on('marks').setAttribute('viewBox', `0 0 ${width} ${height}`);
+  on('marks').replaceChildren(...squares.flatMap((square) => {
+    const [xs, ys] = [0, 1].map((k) => square.corners.map((it) => it[k])), text = textOf(mend(square).content).slice(0, MOST_MARKED);
+    const place = { x: Math.min(...xs), y: Math.min(Math.max(...ys) + 1.5 * size, height - size / 2), 'font-size': size };
+    return [drawn('polygon', { points: square.corners.join(' ') }, ''), drawn('text', place, text)];
+  }));
+}
+
+/** Closes the camera, for a fault if there is one. What it has seen stays. */
+function closeCamera(fault = '') {
+  if (!scan) return;
+  scan.abort();
+  scan = null;
+  on('film').srcObject = null;
+  on('camera').hidden = true;
+  on('check').classList.remove('scanning');
+  on('scan').textContent = 'Scan a printed label';
+  showSquares(scanned);
+  if (fault) on('found').append(Object.assign(made('p', fault), { className: 'fault' }));
+  else if (scanned.length === 0) say(on('found'), 'The camera has seen no label that can be read.');
+}
+
+/** Opens the camera, and shows what is on labels until it is closed. */
+async function openCamera() {
+  const mine = new AbortController(), labels = new Labels();
+  [scan, scanned] = [mine, []];
+  on('scan').textContent = 'Close the camera';
+  showSquares([]);
+  mark([]);
+  on('camera').hidden = false;
+  on('check').classList.add('scanning');
+  say(on('found'), 'Hold a label before the camera.');
+  try {
+    for await (const squares of squaresSeen(on('film'), mine.signal)) {
+      if (mine.signal.aborted) return;
+      const before = scanned;
+      mark(squares);
+      // what was seen last stays until another label is seen
+      if (squares.length > 0) scanned = labels.take(squares, performance.now());
+      if (scanned.length !== before.length || scanned.some((it, k) => it !== before[k])) tellContents(scanned);
+    }
+  } catch (error) {
+    if (mine.signal.aborted) return;
+    closeCamera(`No camera: ${error.message}. You can choose a photograph of the label instead.`);
+    if (!(error instanceof CameraError)) throw error;
+  }
+}
+
 // ---- the tabs
 
 const TABS = [...document.querySelectorAll('[role=tab]')];
@@ -943,6 +1014,7 @@ function choose(tab) {
     on(it.getAttribute('aria-controls')).hidden = it !== tab;
   }
   if (!on('labels').hidden) arrange();
+  if (on('check').hidden) closeCamera();
 }
 
 for (const tab of TABS) {
@@ -1002,6 +1074,10 @@ window.addEventListener('resize', () => {
 for (const form of document.forms) form.addEventListener('submit', (event) => event.preventDefault());
 on('pasted').addEventListener('input', showFound);
 on('paste-sample').addEventListener('click', pasteSample);
+on('scan').addEventListener('click', () => (scan ? closeCamera() : openCamera()));
+document.addEventListener('visibilitychange', () => {
+  if (document.hidden) closeCamera();
+});
 on('image').addEventListener('change', () => showImage(on('image').files[0]));
 // A browser would open a file that is dropped, or a link that no field takes as a text; some would do so in place of the page.
 for (const kind of ['dragover', 'drop']) {

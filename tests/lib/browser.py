@@ -111,10 +111,10 @@ class Page:
 
 
 @contextlib.contextmanager
-def opened(chromium, room):
-    """Yields a page of a Chromium that is started with a profile of its own, and ends it."""
+def opened(chromium, room, *more):
+    """Yields a page of a Chromium that is started with a profile of its own, and with more words, and ends it."""
     (theirs_at, to), (at, theirs_to) = os.pipe(), os.pipe()
-    words = ["sh", "-c", f'exec "$@" 3<&{theirs_at} 4>&{theirs_to}', "sh", chromium, *WORDS, f"--user-data-dir={room}/profile"]
+    words = ["sh", "-c", f'exec "$@" 3<&{theirs_at} 4>&{theirs_to}', "sh", chromium, *WORDS, *more, f"--user-data-dir={room}/profile"]
     silent = {"stdin": subprocess.DEVNULL, "stdout": subprocess.DEVNULL, "stderr": subprocess.DEVNULL}
     ran = subprocess.Popen(words, pass_fds=[theirs_at, theirs_to], **silent)
     os.close(theirs_at)

@@ -178,6 +178,20 @@ def turned_corners(middle, size, angle):
                  for x, y in ((-1, -1), (1, -1), (1, 1), (-1, 1)))
 
 
+def lit(pixels, width, dark):
+    """Returns a picture that is lit from the right: its left edge has so large a share of the light."""
+    return bytearray(int(it * (dark + (1 - dark) * (k % width) / width)) for k, it in enumerate(pixels))
+
+
+def write_film(path, frames, width, height, rate):
+    """Writes pictures as a film without colours in the format YUV4MPEG2, of so many pictures a second."""
+    with open(path, "wb") as it:
+        it.write(f"YUV4MPEG2 W{width} H{height} F{rate}:1\n".encode())
+        for pixels in frames:
+            # (brightness goes from 16 to 235)
+            it.write(b"FRAME\n" + pixels.translate(bytes(16 + 219 * grey // 255 for grey in range(256))) + bytes([128]) * (width * height // 2))
+
+
 # ---- the kinds: each returns pixels, a width, a height, and what is shown
 
 def of_clean(numbers):
@@ -336,8 +350,65 @@ def of_camera(numbers):
     corners = turned_corners(width / 2, size, numbers.below(360))
     corners = tuple((x * (0.85 + 0.15 * y / width) + width * 0.05, y) for x, y in corners)
     pixels = blurred(seen(symbol, corners, width, width, ground=190, light=230, dark=40), width, width, 1)
-    lit = bytearray(int(it * (0.55 + 0.45 * (k % width) / width)) for k, it in enumerate(pixels))
-    return noisy(numbers, lit, 6), width, width, [Shown(symbol.text, corners, symbol.side)]
+    return noisy(numbers, lit(pixels, width, 0.55), 6), width, width, [Shown(symbol.text, corners, symbol.side)]
+
+
+class Camera(NamedTuple):
+    """How a camera sees a label. Its paper lies on a cylinder, of which it takes an angle in radians, so that its left and right edges are
+    straight. They are seen as the sides of four corners, and then a lens moves each place from the middle or to it."""
+
+    size: int  # pixels of the photograph, which is a square
+    curl: float
+    corners: tuple
+    lens: float
+
+    def place(self, u, v):
+        """Returns where a place of the label is seen. On the paper u and v go from 0 to 1."""
+        a, b, c, d, e, f, g, h, i = map_to(self.corners)
+        u = 0.5 + math.sin((u - 0.5) * self.curl) / (2 * math.sin(self.curl / 2))
+        w, half = g * u + h * v + i, self.size / 2
+        wanted = x, y = (a * u + b * v + c) / w / half - 1, (d * u + e * v + f) / w / half - 1
+        for _ in range(30):
+            bend = 1 + self.lens * (x * x + y * y)
+            x, y = wanted[0] / bend, wanted[1] / bend
+        return half * (1 + x), half * (1 + y)
+
+    def sees(self, label, width, height, ground, lamp):
+        """Returns a photograph. The lamp stands at an angle, in radians, from the middle of the paper."""
+        a, b, c, d, e, f, g, h, i = back(map_to(self.corners))
+        pixels, half, edge = bytearray(), self.size / 2, math.sin(self.curl / 2)
+        for y in range(self.size):
+            for x in range(self.size):
+                total = 0
+                for more in (0.25, 0.75):
+                    p, q = (x + more) / half - 1, (y + more) / half - 1
+                    bend = half * (1 + self.lens * (p * p + q * q))
+                    p, q = half + p * bend, half + q * bend
+                    w = g * p + h * q + i
+                    u, v = (a * p + b * q + c) / w, (d * p + e * q + f) / w
+                    if 0 <= u < 1 and 0 <= v < 1:
+                        angle = math.asin((2 * u - 1) * edge)
+                        total += (0.4 + 0.6 * math.cos(angle - lamp)) * label[int(v * height) * width + int((0.5 + angle / self.curl) * width)]
+                    else:
+                        total += ground
+                pixels.append(int(total / 2))
+        return pixels
+
+
+def of_photographs(numbers):
+    """A printed label on curled paper, seen at an angle through a lens, lit from one side, a little out of focus, and with noise."""
+    symbol, label, wide, high, (shown,) = labelled(numbers, numbers.below(3), 1 + numbers.below(2), dark=20 + numbers.below(40), light=225)
+    size, turn = 340, math.radians(numbers.below(360))
+    # how long the sides of the label are in the photograph, along which its corners are turned and moved
+    scale = (0.52 + numbers.below(10) / 100) * size / max(wide, high)
+    corners = []
+    for x, y in ((-1, -1), (1, -1), (1, 1), (-1, 1)):
+        x, y = (it * scale / 2 + (numbers.below(201) - 100) / 100 * 0.05 * size for it in (x * wide, y * high))
+        corners.append((size / 2 + x * math.cos(turn) - y * math.sin(turn), size / 2 + x * math.sin(turn) + y * math.cos(turn)))
+    camera = Camera(size, 0.2 + numbers.below(80) / 100, tuple(corners), (numbers.below(201) - 100) / 1000)
+    pixels = camera.sees(label, wide, high, 60 + numbers.below(80), (numbers.below(201) - 100) / 100)
+    pixels = noisy(numbers, lit(blurred(pixels, size, size, 1), size, 0.5 + numbers.below(50) / 100), 2 + numbers.below(5))
+    return pixels, size, size, [shown._replace(corners=tuple(camera.place(x / wide, y / high) for x, y in shown.corners))]
 
 
 # How many pictures there are of each kind.
@@ -346,7 +417,7 @@ KINDS = {
     "noise alone": (of_noise_alone, 2), "noise": (of_noise, 6), "blur": (of_blur, 6), "low contrast": (of_low_contrast, 5),
     "wrong modules": (of_wrong_modules, 8), "turned": (of_turned, 10), "quarter turns": (of_quarter_turns, 4), "perspective": (of_perspective, 8),
     "shadow": (of_shadow, 6), "mirrored": (of_mirrored, 4), "several": (of_several, 4), "light on dark": (of_light_on_dark, 5), "logo": (of_logo, 6),
-    "scaled": (of_scaled, 6), "as a camera sees it": (of_camera, 6),
+    "scaled": (of_scaled, 6), "as a camera sees it": (of_camera, 6), "photographs": (of_photographs, 12),
 }
 
 
