@@ -421,9 +421,14 @@ KINDS = {
 }
 
 
-def scenes(kinds=KINDS, most=None):
-    """Yields the pictures of some kinds, at most so many of each."""
+def scene_of(kind, k):
+    """Returns a picture of a kind. There is one for each number."""
+    make, _ = KINDS[kind]
+    return Scene(kind, *make(Numbers("scenes", kind, k)))
+
+
+def scenes(kinds=KINDS):
+    """Yields the pictures of some kinds."""
     for kind in kinds:
-        make, count = KINDS[kind]
-        for k in range(count if most is None else min(count, most)):
-            yield Scene(kind, *make(Numbers("scenes", kind, k)))
+        _, count = KINDS[kind]
+        yield from (scene_of(kind, k) for k in range(count))
