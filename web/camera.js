@@ -63,8 +63,8 @@ export class Labels {
   take(squares, now) {
     for (const [content, { last }] of this.#seen) if (now - last > KEPT) this.#seen.delete(content);
     for (const square of squares) {
-      const mended = mend(square), { data, header } = mended.content, content = JSON.stringify([...data, header]), before = this.#seen.get(content);
-      const best = before && !isBetter(mended, before.mended) ? before : { square, mended };
+      const mended = mend(square), { data, header, ecis } = mended.content, content = JSON.stringify([...data, header, ecis]);
+      const before = this.#seen.get(content), best = before && !isBetter(mended, before.mended) ? before : { square, mended };
       this.#seen.set(content, { ...best, last: now });
     }
     return [...this.#seen.values()].map(({ square }) => square);

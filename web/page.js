@@ -998,8 +998,9 @@ async function openCamera() {
     }
   } catch (error) {
     if (mine.signal.aborted) return;
-    closeCamera(`No camera: ${error.message}. You can choose a photograph of the label instead.`);
-    if (!(error instanceof CameraError)) throw error;
+    const isNone = error instanceof CameraError;
+    closeCamera(isNone ? `No camera: ${error.message}. You can choose a photograph of the label instead.` : '');
+    if (!isNone) throw error;
   }
 }
 
