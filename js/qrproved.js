@@ -252,7 +252,7 @@ export function read(square) {
 export function mend(square) {
   const symbol = symbolOf(square), [modules, side] = squareOf(symbol), mended = new Mended(mendedOf(modules, side));
   if (symbol instanceof Found && !symbol.isRead) {
-    throw new CheckError(`${mended.wrongModules} of its ${side * side} modules are wrong or not known, and in a picture at most one in five may be`);
+    throw new CheckError(`${mended.wrongModules} of its ${side * side} modules are wrong or not known, and in a picture fewer have to be`);
   }
   return mended;
 }

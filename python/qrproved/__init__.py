@@ -611,8 +611,8 @@ class Found:
     is_mirrored: bool
     """True if its first row goes from the first corner to the last one, and not to the second."""
     is_read: bool
-    """True if it can be mended, and at most one of its modules in five is wrong or not known. Only find(picture, unread=True) finds
-    others."""
+    """True if it can be mended, and at most one of its modules in five is wrong or not known, or one in ten if the timing patterns
+    are damaged. Only find(picture, unread=True) finds others."""
 
     def read(self) -> Content:
         """Returns what the symbol says, as the function read does."""
@@ -963,7 +963,8 @@ def mend(modules: Union[Symbol, Found, Bytes, Picture], side: Optional[int] = No
     In each block at most changed_allowed codewords are mended. A codeword with a module that is not known takes half as much of
     the correction as a wrong one. Of the 30 modules of format information any six may be wrong, or 13 not known: the number not
     known and twice the number of wrong ones are at most 13. No other module has to be right. But of a square in a picture at most
-    one module in five may be wrong or not known, since other squares that are no symbols can now and then be mended.
+    one module in five may be wrong or not known, or one in ten if the timing patterns are damaged, since other squares that are
+    no symbols can now and then be mended.
 
     Raises SideError if no version has the side, RoomError if there are too few modules, SettingsError if one is more than 2,
     FormatError if both copies of the format information are too damaged, CheckError if a block is, SegmentsError if the data
@@ -976,7 +977,7 @@ def mend(modules: Union[Symbol, Found, Bytes, Picture], side: Optional[int] = No
     counts = (getattr(mended, name) for name, _ in _library.DAMAGED)
     made = Mended(_content_of(mended, data, ecis), Level(mended.level), mended.mask, mended.wrong_modules, *counts)
     if isinstance(chosen, Found) and not chosen.is_read:
-        raise CheckError(f"{made.wrong_modules} of its {checked * checked} modules are wrong or not known, and in a picture at most one in five may be")
+        raise CheckError(f"{made.wrong_modules} of its {checked * checked} modules are wrong or not known, and in a picture fewer have to be")
     return made
 
 

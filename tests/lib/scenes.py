@@ -411,6 +411,19 @@ def of_photographs(numbers):
     return pixels, size, size, [shown._replace(corners=tuple(camera.place(x / wide, y / high) for x, y in shown.corners))]
 
 
+def grid(symbols, columns, scale, margin):
+    """Returns a picture of small symbols that are close to each other, all of one side, row by row."""
+    rows, shown = bytearray(), []
+    for k, symbol in enumerate(symbols):
+        inner, size = drawn(symbol, scale, margin)
+        if k % columns == 0:
+            rows += plain(columns * size, size)
+        paste(rows, columns * size, inner, size, k % columns * size, k // columns * size)
+        first = (k % columns * size + scale * margin, k // columns * size + scale * margin)
+        shown.append(Shown(symbol.text, upright(*first, scale * symbol.side), symbol.side))
+    return Scene("grid", rows, columns * size, len(symbols) // columns * size, shown)
+
+
 # How many pictures there are of each kind.
 KINDS = {
     "clean": (of_clean, 12), "captions": (of_captions, 10), "a page of text": (of_page, 6), "text alone": (of_text_alone, 3),

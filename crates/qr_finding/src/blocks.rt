@@ -120,7 +120,7 @@ fn block_of(picture: &Picture, column: usize, row: usize) -> Block {
         let pixels = part(picture.row(y), left, right);
         count = count.saturating_add(BLOCK.min(pixels.len()) as u32);
         for pixel in pixels {
-            sum = sum.saturating_add(u32::from(*pixel));
+            sum = sum.wrapping_add(u32::from(*pixel));
             least = least.min(*pixel);
             most = most.max(*pixel);
         }
@@ -192,12 +192,12 @@ fn mean_around(levels: &[u8], grid: Grid, around: usize, column: usize, row: usi
 
 // Writes which pixels of a row are dark.
 fn write_row(pixels: &[u8], thresholds: &[u8], dark: &mut [u8]) {
-    for (x, slot) in dark.iter_mut().enumerate() {
-        *slot = if byte_at(pixels, x) <= byte_at(thresholds, x / BLOCK) {
-            DARK
-        } else {
-            LIGHT
-        };
+    let count = dark.len().min(pixels.len());
+    for (block, threshold) in thresholds.iter().enumerate() {
+        let start = block.saturating_mul(BLOCK);
+        for x in start..start.saturating_add(BLOCK).min(count) {
+            dark[x] = if pixels[x] <= *threshold { DARK } else { LIGHT };
+        }
     }
 }
 

@@ -3,10 +3,13 @@
 ghost use Rattle.std.specs.Prelude.{◌≤◌, ◌<◌, ◌*◌, ◌+◌};
 
 use crate::number::Number;
-use crate::view::{OUTSIDE, View};
+use crate::view::View;
 
 /// A longer run is taken to be so long.
 const RUN_MAX: u32 = 32_767;
+
+/// More pixels than a line has.
+const LINE_MAX: usize = 65_535;
 
 /// Five runs, one after the other.
 #[derive(Clone, Copy)]
@@ -16,10 +19,17 @@ pub(crate) struct Runs {
     pub(crate) core: u32,
     pub(crate) other: u32,
     pub(crate) last: u32,
+    ghost first_in: { first ≤ 32767 },
+    ghost one_in: { one ≤ 32767 },
+    ghost core_in: { core ≤ 32767 },
+    ghost other_in: { other ≤ 32767 },
+    ghost last_in: { last ≤ 32767 },
 }
 
 // Returns the length of a run.
-fn capped(n: Number) -> u32 {
+fn capped(n: Number) -> u32
+    ensures { result ≤ 32767 }
+{
     n.index().min(RUN_MAX as usize) as u32
 }
 
@@ -64,7 +74,7 @@ impl Runs {
     fn inner(self) -> u32
         ensures { result ≤ 3 * 32767 }
     {
-        self.one.min(RUN_MAX) + self.core.min(RUN_MAX) + self.other.min(RUN_MAX)
+        self.one + self.core + self.other
     }
 
     // Returns the length of a module in sixteenths, if the inner three runs are five modules.
@@ -77,11 +87,11 @@ impl Runs {
     pub(crate) fn is_middle(self) -> bool {
         let inner = self.inner();
         let slack = 5 * inner + 9;
-        10 * (5 * self.one.min(RUN_MAX)).abs_diff(inner) <= slack
-            && 10 * (5 * self.other.min(RUN_MAX)).abs_diff(inner) <= slack
-            && (5 * self.core.min(RUN_MAX)).abs_diff(3 * inner) <= inner
-            && 10 * self.first.min(RUN_MAX) + 4 >= inner
-            && 10 * self.last.min(RUN_MAX) + 4 >= inner
+        (5 * self.core).abs_diff(3 * inner) <= inner
+            && 10 * (5 * self.one).abs_diff(inner) <= slack
+            && 10 * (5 * self.other).abs_diff(inner) <= slack
+            && 10 * self.first + 4 >= inner
+            && 10 * self.last + 4 >= inner
     }
 }
 
@@ -105,17 +115,37 @@ pub(crate) struct Line {
     pub(crate) dy: i64,
 }
 
-impl Line {
-    fn moved(self, steps: u32) -> Line {
-        let n = i64::from(steps);
-        Line {
-            x: self.x.saturating_add(self.dx.saturating_mul(n)),
-            y: self.y.saturating_add(self.dy.saturating_mul(n)),
-            dx: self.dx,
-            dy: self.dy,
-        }
+// Returns how many pixels of a row, or of a column, are in a picture from one of them on, in one direction.
+fn steps_inside(at: i64, step: i64, count: usize) -> u32 {
+    if at < 0 || at as usize >= count {
+        return 0;
     }
+    let index = at as usize;
+    let all = if step > 0 {
+        count - index
+    } else if step < 0 {
+        index.saturating_add(1)
+    } else {
+        LINE_MAX
+    };
+    all.min(LINE_MAX) as u32
+}
 
+// Returns how many pixels have a colour, from one of them on, up to `most`.
+fn run_len(pixels: &[u8], start: usize, step: usize, colour: u8, most: u32) -> u32
+    ensures { result ≤ most }
+{
+    let mut at = start;
+    for k in 0..most {
+        if at >= pixels.len() || pixels[at] != colour {
+            return k;
+        }
+        at = at.wrapping_add(step);
+    }
+    most
+}
+
+impl Line {
     fn back(self) -> Line {
         Line {
             x: self.x,
@@ -125,20 +155,25 @@ impl Line {
         }
     }
 
-    // Returns the number of pixels of a colour from the first one on, and `most + 1` if there are more than `most`.
-    fn run(self, view: &View, colour: u8, most: u32) -> u32
-        requires { most < 8191 }
-        ensures { result ≤ most + 1 }
-    {
-        let (mut x, mut y) = (self.x, self.y);
-        for k in 0..most + 1 {
-            if view.at(x, y) != colour {
-                return k;
-            }
-            x = x.saturating_add(self.dx);
-            y = y.saturating_add(self.dy);
+    // Returns how many pixels of the line are in the picture.
+    fn inside(self, view: &View) -> u32 {
+        steps_inside(self.x, self.dx, view.width).min(steps_inside(self.y, self.dy, view.height))
+    }
+
+    // Returns the distance from the index of a pixel to that of the next one. Below 0 it wraps.
+    fn index_step(self, view: &View) -> usize {
+        let across = if self.dx < 0 {
+            0usize.wrapping_sub(1)
+        } else {
+            usize::from(self.dx > 0)
+        };
+        if self.dy > 0 {
+            across.wrapping_add(view.width)
+        } else if self.dy < 0 {
+            across.wrapping_sub(view.width)
+        } else {
+            across
         }
-        most + 1
     }
 
     // Counts the runs from the first pixel on. The first two have limits, past which there is no finder pattern. The third
@@ -146,20 +181,33 @@ impl Line {
     fn half(self, view: &View, limit: u32) -> Option<Half>
         requires { limit < 4000 }
     {
-        let colour = view.at(self.x, self.y);
-        if colour == OUTSIDE {
+        let start = view.index_of(self.x, self.y)?;
+        if start >= view.pixels.len() {
             return None;
         }
-        let own = self.run(view, colour, (2 * limit + 2) / 3);
-        if own == 0 || own > (2 * limit + 2) / 3 {
+        let colour = view.pixels[start];
+        let (step, left) = (self.index_step(view), self.inside(view));
+        let own_max = (2 * limit + 2) / 3;
+        let own = run_len(view.pixels, start, step, colour, left.min(own_max + 1));
+        if own == 0 || own > own_max {
             return None;
         }
-        let line = self.moved(own);
-        let next = line.run(view, 1 - colour.min(1), limit / 2 + 1);
-        if next == 0 || next > limit / 2 + 1 {
+        let left = left - own;
+        let start = start.wrapping_add(step.wrapping_mul(own as usize));
+        let next_max = limit / 2 + 1;
+        let next = run_len(
+            view.pixels,
+            start,
+            step,
+            1 - colour.min(1),
+            left.min(next_max + 1),
+        );
+        if next == 0 || next > next_max {
             return None;
         }
-        let last = line.moved(next).run(view, colour, limit);
+        let left = left - next;
+        let start = start.wrapping_add(step.wrapping_mul(next as usize));
+        let last = run_len(view.pixels, start, step, colour, left.min(limit + 1));
         if last == 0 {
             return None;
         }

@@ -5,14 +5,26 @@ ghost use Rattle.std.specs.Prelude.{◌≤◌, ◌<◌};
 use crate::tables::{byte_at, part, put};
 use qr_sampling::Picture;
 
-// Returns the sum of up to three pixels of a row, around a column.
-fn three(row: &[u8], x: usize) -> u32
-    ensures { result ≤ 765 }
-{
-    let last = row.len().saturating_sub(1);
-    u32::from(byte_at(row, x.saturating_sub(1)))
-        + u32::from(byte_at(row, x.min(last)))
-        + u32::from(byte_at(row, x.saturating_add(1).min(last)))
+fn ninth(sum: u32) -> u8 {
+    (sum / 9).min(255) as u8
+}
+
+// Writes the means of three by three pixels of three rows that follow each other.
+fn smooth_row(rows: [&[u8]; 3], to: &mut [u8]) {
+    let [above, here, below] = rows;
+    let count = to.len().min(above.len()).min(here.len()).min(below.len());
+    if count == 0 {
+        return;
+    }
+    let mut middle = u32::from(above[0]) + u32::from(here[0]) + u32::from(below[0]);
+    let mut before = middle;
+    for x in 1..count {
+        let after = u32::from(above[x]) + u32::from(here[x]) + u32::from(below[x]);
+        to[x - 1] = ninth(before.wrapping_add(middle).wrapping_add(after));
+        before = middle;
+        middle = after;
+    }
+    to[count - 1] = ninth(before.wrapping_add(middle).wrapping_add(middle));
 }
 
 /// Writes a picture in which each pixel is the mean of three by three pixels.
@@ -23,13 +35,9 @@ pub(crate) fn smooth(picture: &Picture, to: &mut [u8]) {
         let above = picture.row(y.saturating_sub(1));
         let here = picture.row(y);
         let below = picture.row(y.saturating_add(1).min(height.saturating_sub(1)));
-        for x in 0..width {
-            let sum = three(above, x) + three(here, x) + three(below, x);
-            put(
-                to,
-                y.saturating_mul(width).saturating_add(x),
-                (sum / 9).min(255) as u8,
-            );
+        let from = y.saturating_mul(width);
+        if let Some(row) = to.get_mut(from..from.saturating_add(width)) {
+            smooth_row([above, here, below], row);
         }
     }
 }

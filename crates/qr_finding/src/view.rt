@@ -70,20 +70,23 @@ impl Point {
 }
 
 impl View<'_> {
-    // Returns what a pixel is.
-    pub(crate) fn at(&self, x: i64, y: i64) -> u8 {
+    // Returns the index of a pixel, if it is in the picture.
+    pub(crate) fn index_of(&self, x: i64, y: i64) -> Option<usize> {
         if x < 0 || y < 0 {
-            return OUTSIDE;
+            return None;
         }
         let (column, row) = (x as usize, y as usize);
         if column >= self.width || row >= self.height {
-            return OUTSIDE;
+            return None;
         }
-        let index = row.saturating_mul(self.width).saturating_add(column);
-        if index < self.pixels.len() {
-            self.pixels[index]
-        } else {
-            OUTSIDE
+        Some(row.wrapping_mul(self.width).wrapping_add(column))
+    }
+
+    // Returns what a pixel is.
+    pub(crate) fn at(&self, x: i64, y: i64) -> u8 {
+        match self.index_of(x, y) {
+            Some(index) if index < self.pixels.len() => self.pixels[index],
+            _ => OUTSIDE,
         }
     }
 

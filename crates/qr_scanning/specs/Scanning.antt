@@ -1,5 +1,6 @@
 -- Squares that were found in a picture.
-use Rattle.std.specs.Prelude.{◌≡◌, ◌⊎◌, ℕ, ◌+◌, ◌*◌, ◌<◌, ◌≤◌, Bool, true, false, nat_lt, List, [], ◌∷◌, length, slice_index_or}
+use Rattle.std.specs.Prelude.{◌≡◌, ◌⊎◌, ℕ, ◌+◌, ◌*◌, ◌<◌, ◌≤◌, Bool, true, false, nat_lt, List, [], ◌∷◌, ◌++◌, length, slice_index_or}
+use Rattle.std.specs.List.{All}
 use Rattle.qr_finding.specs.Offers.{corners_of}
 use Rattle.qr_matrix.specs.Bytes.{byte_of, square_of_bytes}
 use Rattle.qr_matrix.specs.Grid.{Grid, colour, light, transposed}
@@ -11,11 +12,11 @@ use Rattle.qr_pictures.specs.declared.turn.Turn.{Turn}
 use Rattle.qr_pictures.specs.declared.turn.Turn.TheVariants.{Upright, Quarter, Half, ThreeQuarters}
 use Rattle.qr_sampling.specs.{Brightness.shown, Sampling.sampled, Tables.{IsTable, entry}}
 use Rattle.qr_sampling.specs.declared.{picture.Picture.Picture, sampling.Sampling.Sampling}
-use Rattle.qr_scanning.specs.Reading.{IsReadable, IsReadableSquare}
+use Rattle.qr_scanning.specs.Reading.{IsReadable, IsReadableSquare, IsSurelyRead}
 use Rattle.qr_scanning.specs.declared.scanning.Scanned.{Scanned}
 
--- The modules are what sampling gives for the picture, by a map that takes the corners of the symbol to those of the square
--- [own]
+-- The modules are what sampling gives for the picture, by a map that takes the corners of the symbol to those of the square. If the
+-- square counts as read, its timing patterns are right, but for one module in eight, or hardly any module is wrong [own]
 pub record IsSampled (picture : Picture) (s : Scanned) : Type 0 where
   pub how : Sampling
   pub side : s.side ≡ how.side
@@ -23,6 +24,7 @@ pub record IsSampled (picture : Picture) (s : Scanned) : Type 0 where
   pub corners : s.corners ≡ corners_of how.map (8 * s.side)
   pub inverse : s.is_inverse ≡ how.is_inverse
   pub mirrored : s.is_mirrored ≡ how.is_mirrored
+  pub sure : s.is_read ≡ true → IsSurelyRead s.side s.modules.items
 
 -- The picture as `qr_pictures` sees it [own]
 abbrev pub pixels_in : Picture → Pixels
@@ -98,3 +100,11 @@ pub record IsSymbolIn (square : CleanSquare) (mirrored : Bool) (grid : Grid) (s 
 abbrev pub FindsSymbol : Picture → (most : ℕ) → List Scanned → Type 0
 FindsSymbol picture most found = (square : CleanSquare) (mirrored : Bool) (grid : Grid) → ShowsSymbol picture square mirrored grid → 1 ≤ most
     → (s : Scanned) × (found ≡ s ∷ []) × IsSymbolIn square mirrored grid s
+
+-- The squares that count as read come first [own]
+pub record AreReadFirst (all : List Scanned) : Type 0 where
+  pub read : List Scanned
+  pub others : List Scanned
+  pub parts : all ≡ read ++ others
+  pub are_read : All (λ s. s.is_read ≡ true) read
+  pub are_not : All (λ s. s.is_read ≡ false) others

@@ -8,7 +8,7 @@ ghost use Rattle.qr_scanning.specs.Reading.{IsReadable};
 ghost use Rattle.qr_scanning.specs.Scanning.{ArePlaced, IsScanned, IsSymbolIn, ShowsSymbol, frame_corners, pixels_in};
 ghost use Rattle.qr_pictures.specs.declared.clean.CleanSquare.{CleanSquare};
 
-use crate::reading::is_symbol;
+use crate::reading::{SHARE, is_symbol};
 use crate::scanning::Scanned;
 use qr_pictures::laws::clean_pictures_are_one;
 use qr_pictures::{CleanSquare, Turn, clean_square, write_modules};
@@ -64,11 +64,11 @@ fn placed(alloc: Global, drawn: Vec<u8>, side: u8) -> Result<Option<(bool, Vec<u
         → ((other : List ℕ) → IsTable side (λ column row. entry side drawn.items row column) other → IsReadable side other)
         → MatchOption found ⊥ (λ s. s.0 ≡ true)) }
 {
-    if is_symbol(alloc, &drawn, side)? {
+    if is_symbol(alloc, &drawn, side, SHARE)? {
         return Ok(Some((false, drawn)));
     }
     let other = exchanged(alloc, &drawn, side)?;
-    if is_symbol(alloc, &other, side)? {
+    if is_symbol(alloc, &other, side, SHARE)? {
         return Ok(Some((true, other)));
     }
     Ok(None)

@@ -2,7 +2,9 @@
 //! tried first, by `qr_pictures`. If it is no clean picture of a symbol, `qr_finding` offers squares, and each is mended.
 //!
 //! A square counts as a symbol if it can be mended and at most one of its modules in five is wrong or not known. Without
-//! this limit, squares of noise with modules that are not known are now and then mended to some text.
+//! this limit, squares of noise with modules that are not known are now and then mended to some text. In a picture that is
+//! not clean, at most one module in ten may be wrong if the timing patterns do not show that the square has the right
+//! side: three finder patterns may be of several symbols.
 //!
 //! The files of `src`:
 //!

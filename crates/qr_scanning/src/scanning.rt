@@ -2,7 +2,7 @@
 
 ghost use Rattle.std.specs.Prelude.{◌≡◌, ◌≤◌, true, false, length, IfOk};
 ghost use Rattle.std.specs.List.{All};
-ghost use Rattle.qr_scanning.specs.Scanning.{FindsSymbol, IsScanned};
+ghost use Rattle.qr_scanning.specs.Scanning.{AreReadFirst, FindsSymbol, IsScanned};
 
 use crate::clean::scan_clean;
 use crate::search::{Memory, next_square};
@@ -77,10 +77,13 @@ fn joined(
     picture: &Picture,
 ) -> Result<Vec<Scanned>, AllocError>
     requires read { All (IsScanned picture.now) read.items }
+    requires are_read { All (λ s. s.is_read ≡ true) read.items }
     requires unread { All (IsScanned picture.now) unread.items }
+    requires are_unread { All (λ s. s.is_read ≡ false) unread.items }
     requires most { length read.items ≤ most }
     ensures squares { IfOk result (λ all. All (IsScanned picture.now) all.items) }
     ensures count { IfOk result (λ all. length all.items ≤ most) }
+    ensures order { IfOk result (λ all. AreReadFirst all.items) }
 {
     let mut all = read;
     for square in unread {
@@ -101,6 +104,7 @@ fn search(
     ensures squares { IfOk result (λ all. All (IsScanned picture.now) all.items) }
     ensures count { IfOk result (λ all. length all.items ≤ most) }
     ensures read { IfOk result (λ all. with_unread ≡ false → All (λ s. s.is_read ≡ true) all.items) }
+    ensures order { IfOk result (λ all. AreReadFirst all.items) }
 {
     let mut memory = Memory::new(alloc, picture)?;
     let mut finder = Finder::new(picture);
@@ -135,7 +139,8 @@ fn search(
 /// cannot be read are among them too, after those that are read.
 ///
 /// If the picture is a clean picture of a symbol that can be read, or of the mirror image of one, exactly this symbol is
-/// returned, with exactly its modules. The modules of any other square are what sampling gives for the picture.
+/// returned, with exactly its modules. The modules of any other square are what sampling gives for the picture. The squares
+/// that are read come first.
 ///
 /// # Errors
 ///
@@ -149,6 +154,7 @@ pub fn scan(
     ensures squares { IfOk result (λ all. All (IsScanned picture.now) all.items) }
     ensures count { IfOk result (λ all. length all.items ≤ most) }
     ensures read { IfOk result (λ all. with_unread ≡ false → All (λ s. s.is_read ≡ true) all.items) }
+    ensures order { IfOk result (λ all. AreReadFirst all.items) }
     ensures symbol { IfOk result (λ all. FindsSymbol picture.now most all.items) }
 {
     if most == 0 {

@@ -4,7 +4,7 @@ ghost use Rattle.std.specs.Prelude.{◌≡◌, ◌*◌, ◌≤◌, length, IfOk,
 ghost use Rattle.qr_finding.specs.Offers.{IsOffer};
 ghost use Rattle.qr_scanning.specs.Scanning.{IsScanned};
 
-use crate::reading::is_symbol;
+use crate::reading::{is_symbol, share_of};
 use crate::scanning::Scanned;
 use qr_finding::{Finder, Found, Pattern, Quad, Triple, Work};
 use qr_sampling::Picture;
@@ -74,12 +74,13 @@ fn scanned(
 {
     let area = usize::from(side) * usize::from(side);
     let own = Vec::from_slice(alloc, &modules[..area])?;
+    let share = share_of(&own, side);
     Ok(Scanned {
         side,
         corners: found.corners,
         is_inverse: found.how.is_inverse,
         is_mirrored: found.how.is_mirrored,
-        is_read: is_symbol(alloc, &own, side)?,
+        is_read: is_symbol(alloc, &own, side, share)?,
         looks_like_symbol: found.looks_like_symbol,
         modules: own,
     })

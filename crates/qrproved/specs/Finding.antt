@@ -4,7 +4,7 @@ use Rattle.std.specs.Prelude.{◌≡◌, ℕ, ◌+◌, ◌-◌, ◌*◌, ◌<◌
 use Rattle.std.specs.List.{All}
 use Rattle.qr_sampling.specs.Between.{CanBePicture}
 use Rattle.qr_sampling.specs.declared.picture.Picture.{Picture}
-use Rattle.qr_scanning.specs.Scanning.{FindsSymbol, IsScanned}
+use Rattle.qr_scanning.specs.Scanning.{AreReadFirst, FindsSymbol, IsScanned}
 use Rattle.qr_scanning.specs.declared.scanning.Scanned.{Scanned}
 use Rattle.qrproved.specs.declared.finding.QrprovedFound.{QrprovedFound}
 
@@ -67,8 +67,8 @@ pub record HoldAllScanned (squares : List Scanned) (before after : List ℕ) : T
   pub others : (i : ℕ) → length squares * 31329 ≤ i → slice_index_or after i 0 ≡ slice_index_or before i 0
 
 -- Squares that are in the picture were written: their modules to one buffer, and their corners and the other numbers to the other.
--- If only squares that were read are asked for, there are no others. If the picture is the drawing of a symbol that can be read, and
--- nothing else, exactly this symbol is found. No square is found exactly if `count` is 0 [own]
+-- Those that were read come first, and if only these are asked for, there are no others. If the picture is the drawing of a symbol that
+-- can be read, and nothing else, exactly this symbol is found. No square is found exactly if `count` is 0 [own]
 pub record IsGivenFound (pixels : List ℕ) (width height stride unread : ℕ) (before after : List ℕ) (found_before found_after : List QrprovedFound) (count : ℕ) : Type 0 where
   pub picture : Picture
   pub same_pixels : picture.pixels.now ≡ pixels
@@ -78,6 +78,7 @@ pub record IsGivenFound (pixels : List ℕ) (width height stride unread : ℕ) (
   pub squares : List Scanned
   pub scanned : All (IsScanned picture) squares
   pub read : unread ≡ 0 → All (λ s. s.is_read ≡ true) squares
+  pub order : AreReadFirst squares
   pub few : length squares ≤ most_found found_before
   pub symbol : FindsSymbol picture (most_found found_before) squares
   pub counted : count ≡ length squares

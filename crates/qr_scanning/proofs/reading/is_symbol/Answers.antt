@@ -12,7 +12,7 @@ returns-in-Ok c =
     let m = c.in-Ok.mended in
     let read : IsMendedReading u g m.version m.level m.mask m.parsed m.changed.items = search rules in
     let counted : HasWrongModules u g m.version m.level m.mask m.changed.items m.wrong_modules = search rules in
-    rw (c.from.ensures, c.from-in-Ok.ensures, c.from-in-Ok-2.ensures) (told-by-count u g m.version m.level m.mask m.parsed m.changed.items m.wrong_modules read counted)
+    rw (c.from.ensures, c.from-in-Ok.ensures, c.from-in-Ok-2.ensures, c.from-in-Ok-3.ensures) (told-by-count c.args.share u g m.version m.level m.mask m.parsed m.changed.items m.wrong_modules read counted)
 
 pub returns : goal.returns
 returns c =

@@ -1,7 +1,7 @@
-use Rattle.std.proofs.Common.{arith, ap, ◌≡◌, length, true, List}
+use Rattle.std.proofs.Common.{arith, ap, ◌≡◌, length, false, true, List}
 use Rattle.qr_scanning.specs.Scanning.{IsScanned}
 use Rattle.qr_scanning.specs.declared.scanning.Scanned.{Scanned}
-use Rattle.qr_scanning.proofs.lemmas.scanning.{one-more}
+use Rattle.qr_scanning.proofs.lemmas.scanning.{all-read-first, one-more}
 use Rattle.qr_scanning.proofs.scanning.search.Goals.{then-was_read+in_ok-push, else-was_read+then-with_unread+then-square+then-len-most-2+then-not-is_among+in_ok-push-2, else-was_read+else-with_unread}
 use Rattle.qr_scanning.proofs.scanning.search.Goals as goal
 
@@ -19,6 +19,7 @@ offers-preserved c =
             are_read = one-more (λ (z : Scanned). z.is_read ≡ true) s c.offers.read.items w.push.new.self.items more here.are_read w.if-was_read.true;
             few = omega (arith, ap (λ (xs : List Scanned). length xs) more, c.len.ensures, c.if-len-most.false);
             others = here.others;
+            are_unread = here.are_unread;
           })
       | else-was_read+then-with_unread+then-square+then-len-most-2+then-not-is_among+in_ok-push-2 w ↦
           let more = w.in_ok-push-2.ensures.items in
@@ -27,11 +28,16 @@ offers-preserved c =
             are_read = here.are_read;
             few = here.few;
             others = one-more P s c.offers.unread.items w.push-then-not-is_among.new.self.items more here.others is;
+            are_unread = one-more (λ (z : Scanned). z.is_read ≡ false) s c.offers.unread.items w.push-then-not-is_among.new.self.items more here.are_unread w.if-was_read.false;
           })
       | else-was_read+else-with_unread w ↦ rw (w.read-is, w.unread-is) (record {
         there = here.there;
         are_read = here.are_read;
         few = here.few;
         others = here.others;
+        are_unread = here.are_unread;
       })
     ]
+
+pub returns-then-not-with_unread-clause-order : goal.returns-then-not-with_unread-clause-order
+returns-then-not-with_unread-clause-order c = all-read-first c.offers.read.items c.offers.invariant.are_read

@@ -13,6 +13,7 @@ returns-clause-done c _ =
       squares = c.in-Ok-scan.squares.items;
       scanned = found.squares;
       read = λ none. found.read (ap (λ (n : ℕ). nat_eq n 1) none);
+      order = found.order;
       few = search rules;
       symbol = λ s mirrored g shows some. found.symbol s mirrored g shows (search rules);
       counted = search rules;
