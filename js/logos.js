@@ -10,7 +10,7 @@ const RING = 1; // modules that stay light around the picture, if the logo has a
 /** The options of encode that a logo has. */
 export const OF_LOGO = { logo: undefined, share: undefined };
 
-function percentOf(share) {
+function wholePercent(share) {
   if (typeof share !== 'number') throw new TypeError(`share is a number, and not of type ${typeof share}`);
   if (!(share >= 0 && share <= LIMITS.SHARE_MAX / 100)) throw new SettingsError(`share is from 0 to ${LIMITS.SHARE_MAX / 100}, and not ${share}`);
   return Math.floor(100 * share + 1e-9);
@@ -26,7 +26,7 @@ export function encodedWithLogo(given, version, level, rule, boost, { logo, shar
     return encoded(given, version, level, rule, boost);
   }
   if (typeof logo !== 'number') throw new TypeError(`logo is a number, and not of type ${typeof logo}`);
-  const percent = percentOf(share ?? LIMITS.SHARE / 100);
+  const percent = wholePercent(share ?? LIMITS.SHARE / 100);
   if (!(logo > 0 && logo < 1)) {
     return encodedForLogo(given, version, level, rule, whole('logo', logo, 0, LIMITS.SIDE_MAX), percent, `${logo} by ${logo} modules`);
   }
@@ -46,7 +46,7 @@ export function changedUnderLogo({ modules, side, logoBox }, change) {
 }
 
 /** Returns the modules that are drawn: the place of a logo stays light. */
-export function shownOf(symbol) {
+export function drawnModules(symbol) {
   return changedUnderLogo(symbol, () => 0);
 }
 

@@ -8,7 +8,7 @@ import { CheckError, Gs1Error, NoDrawingError, PictureError, SettingsError, Side
 import { dataOf, fieldsOf } from './gs1.js';
 import { LEVELS, OF_SERIES, inputAsked, symbolAsked } from './inputs.js';
 import { SHIFT_JIS, decodedText, encodedText } from './interpretation.js';
-import { OF_LOGO, changedUnderLogo, encodedWithLogo, pictureBox, shownOf, withPicture } from './logos.js';
+import { OF_LOGO, changedUnderLogo, drawnModules, encodedWithLogo, pictureBox, withPicture } from './logos.js';
 import { chosen, length, named, warn, whole } from './options.js';
 import { FREE_ACROSS, LINE, checkCaption, linesOf, paperOf, roomOf, roomOfLabel, withCaptions } from './papers.js';
 import { undone } from './pasted.js';
@@ -66,7 +66,7 @@ export class QRSymbol extends PlainSymbol {
 
   toCanvas(canvas, options = {}) {
     const { logo, ...others } = chosen(options, { logo: undefined, scale: PIXELS, margin: 4, quiet: false, dark: undefined, light: undefined, inverse: undefined });
-    super.toCanvas(canvas, others, shownOf(this));
+    super.toCanvas(canvas, others, drawnModules(this));
     if (logo !== undefined) {
       const { first, side } = pictureBox(this, others.margin), { width, height } = logo, wide = others.scale * side, longest = Math.max(width, height);
       if (!(longest > 0)) throw new TypeError('the logo of a canvas is an image that is loaded, or another canvas');
@@ -93,7 +93,7 @@ export class QRSymbol extends PlainSymbol {
       throw new SettingsError(`${pixels} pixels cannot be ${Number(size.toPrecision(3))} mm wide in a PNG image`);
     }
     warn(quiet, margin, (size ?? Infinity) / modules);
-    return imageOf(shownOf(this), this.side, 'png', scale, margin, Math.round(density), 0, 0);
+    return imageOf(drawnModules(this), this.side, 'png', scale, margin, Math.round(density), 0, 0);
   }
 
   pdf(options = {}) {
@@ -133,7 +133,7 @@ export class QRSymbol extends PlainSymbol {
     const { dots, module } = dotsOf(this, format, sizes, margin);
     warn(quiet, margin, format === 'pbm' && sizes.fitMm === undefined ? Infinity : module);
     const left = whole('x', x, 0, LIMITS.PLACE_MAX), top = whole('y', y, 0, LIMITS.PLACE_MAX);
-    return imageOf(shownOf(this), this.side, format, dots, margin, 0, left, top);
+    return imageOf(drawnModules(this), this.side, format, dots, margin, 0, left, top);
   }
 
   dataURL(options = {}) {
@@ -379,7 +379,7 @@ function joined(list, most = LIMITS.COUNT_MAX) {
   whole('the number of symbols', list.length, 1, most);
   const { side } = list[0], modules = new Uint8Array(list.length * side * side);
   if (list.some((it) => it.side !== side)) throw new SettingsError('the symbols have one side');
-  list.forEach((it, k) => modules.set(shownOf(it), k * side * side));
+  list.forEach((it, k) => modules.set(drawnModules(it), k * side * side));
   return modules;
 }
 
@@ -493,7 +493,7 @@ export function labels(symbols, options = {}) {
   const left = whole('x', x, 0, LIMITS.PLACE_MAX), top = whole('y', y, 0, LIMITS.PLACE_MAX);
   const list = symbolsOf(symbols), sizes = list.map((it) => dotsOf(it, format, asked, margin));
   if (list.length) warn(quiet, margin, sizes.reduce((least, { module }) => Math.min(least, module), Infinity));
-  const parts = list.flatMap((it, k) => [before, imageOf(shownOf(it), it.side, format, sizes[k].dots, margin, 0, left, top), after]);
+  const parts = list.flatMap((it, k) => [before, imageOf(drawnModules(it), it.side, format, sizes[k].dots, margin, 0, left, top), after]);
   const file = new Uint8Array(parts.reduce((sum, part) => sum + part.length, 0));
   parts.reduce((at, part) => (file.set(part, at), at + part.length), 0);
   return file;
