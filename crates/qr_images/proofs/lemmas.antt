@@ -8,6 +8,7 @@ pub mod lines
 pub mod quads
 pub mod sums
 pub mod png
+pub mod target
 pub mod texts
 pub mod bitmap_lines
 pub mod printing

@@ -24,6 +24,7 @@
 //! - `quads`: the codes of four modules beside each other
 //! - `runs`: runs of hexadecimal digits, as ZPL packs them
 //! - `stream`: the compressed bits, handed on in parts
+//! - `target`: a device that counts the bytes of a file, or writes them into a buffer
 //! - `texts`: texts and numbers, of which commands of printers are made
 //! - `tspl`: writes an image in TSPL, for label printers
 //! - `zpl`: writes an image in ZPL, for label printers
@@ -46,6 +47,7 @@ mod png;
 mod quads;
 mod runs;
 mod stream;
+mod target;
 mod texts;
 mod tspl;
 mod zpl;
