@@ -1,6 +1,7 @@
 /* Prints the symbol of its words as text, with the quiet zone: label [-a] WORD...
  *
- * The words are in UTF-8, which the symbol says if they have a character that is not in ASCII. By half blocks in UTF-8, light on a dark terminal, or with -a by two characters a module in ASCII. */
+ * The words are in UTF-8, which the symbol says if they have a character that is not in ASCII; words in another encoding are refused, as
+ * `main` gets them on Windows. By half blocks in UTF-8, light on a dark terminal, or with -a by two characters a module in ASCII. */
 #include "qrproved.h"
 #include <stdio.h>
 #include <string.h>
@@ -17,6 +18,20 @@ static const char *reason(uint8_t status)
 	case QRPROVED_MEMORY: return "out of memory";
 	default: return "not encoded";
 	}
+}
+
+/* Each character is one byte below 80, or one from C2 to F4 and then up to three from 80 to BF. */
+static int is_utf8(const uint8_t *input, size_t len)
+{
+	size_t more = 0;
+	for (size_t i = 0; i < len; i++)
+		if (more && input[i] >= 0x80 && input[i] < 0xC0)
+			more--;
+		else if (more || (input[i] >= 0x80 && input[i] < 0xC2) || input[i] > 0xF4)
+			return 0;
+		else
+			more = (size_t)(input[i] >= 0xC2) + (input[i] >= 0xE0) + (input[i] >= 0xF0);
+	return more == 0;
 }
 
 /* Text of ASCII alone reads the same in every reader, so the symbol says nothing of it. */
@@ -50,6 +65,10 @@ int main(int argc, char **argv)
 	size_t len = joined(argv + (argc > 0) + is_ascii, input, sizeof input), written;
 	uint8_t status = QRPROVED_TOO_LONG;
 
+	if (len <= sizeof input && !is_utf8(input, len)) {
+		fputs("label: the words are not in UTF-8\n", stderr);
+		return 1;
+	}
 	if (len <= sizeof input)
 		status = qrproved_encode(input, len, 1, QRPROVED_LEVEL_M, QRPROVED_RULE_AUTO, interpretation_of(input, len), 0, modules,
 					 sizeof modules, &symbol);

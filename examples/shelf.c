@@ -1,6 +1,6 @@
 /* Prints a label as an SVG document, the symbol of the words and the words below it: shelf WORDS
  *
- * The words are one argument, in UTF-8. */
+ * The words are one argument, in UTF-8. On Windows `main` gets them in another encoding, so there they have to be of ASCII. */
 #include "qrproved.h"
 #include <stdio.h>
 #include <string.h>
