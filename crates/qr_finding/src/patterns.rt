@@ -120,6 +120,19 @@ impl Patterns<'_> {
         );
     }
 
+    fn is_full(&self) -> bool {
+        self.count >= self.list.len() || self.count >= 65_535
+    }
+
+    // Returns the row after the last one that may go through one of the patterns.
+    fn end(&self) -> usize {
+        let mut end = Number(0);
+        for pattern in self.list.iter() {
+            end = end.most(pattern.middle.y + pattern.unit * 4);
+        }
+        Number(end.pixel()).index().saturating_add(2)
+    }
+
     fn add(&mut self, cell: usize, seen: &Pattern) {
         if self.count >= self.list.len() || self.count >= 65_535 {
             return;
@@ -245,7 +258,8 @@ fn scan_row(view: &View, y: usize, found: &mut Patterns) {
     }
 }
 
-/// Writes the patterns of a picture, and returns their number. The cells are 0 at first.
+/// Writes the patterns of a picture, and returns their number. The cells are 0 at first. Once the list is full, only the rows are
+/// scanned that may go through one of its patterns.
 pub(crate) fn scan(view: &View, list: &mut [Pattern], cells: &mut [u16]) -> usize {
     let mut found = Patterns {
         list,
@@ -254,8 +268,16 @@ pub(crate) fn scan(view: &View, list: &mut [Pattern], cells: &mut [u16]) -> usiz
         columns: (view.width / CELL).saturating_add(1),
         rows: (view.height / CELL).saturating_add(1),
     };
+    let mut end = view.height;
     for y in 0..view.height {
+        if y >= end {
+            break;
+        }
+        let was_full = found.is_full();
         scan_row(view, y, &mut found);
+        if found.is_full() && !was_full {
+            end = found.end();
+        }
     }
     found.count
 }
