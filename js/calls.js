@@ -3,13 +3,13 @@
  */
 import { DOCUMENTS, FORMATS, LIMITS } from './common.js';
 import { MODULE_LIKELY, engineOf } from './engine.js';
-import { nameOf, throwFor, tooMany } from './errors.js';
+import { nameOf, noLogo, throwFor, tooMany } from './errors.js';
 import { base64 } from './module.js';
 
 // The fields of the struct for label paper, of 4 bytes each.
 const SHEET_FIELDS = ['width', 'height', 'left', 'top', 'across', 'down', 'columns', 'rows', 'first'];
 
-const engine = engineOf(() => Uint8Array.from(atob(base64), (character) => character.charCodeAt(0))), { bytesAt, call, copied, put, run, struct, take, written } = engine;
+const engine = engineOf(() => Uint8Array.from(atob(base64), (character) => character.charCodeAt(0))), { bytesAt, call, copied, put, run, struct, symbolIn, take, throwForInput, written } = engine;
 
 /** Compiles the module before the first call, without blocking: older browsers refuse to compile it in a call. */
 export const { load } = engine;
@@ -25,6 +25,19 @@ const COUNTS_AT = 28;
 const SIDE_AT = 32, LOOKS_AT = 36; // in the struct of a square that was found
 const CORNER_STEPS = 16; // of a pixel
 const IMAGE_LIKELY = 4096; // bytes, and for PNG 3 for each module: room for every PNG file up to scale 8, which is then written in one run
+
+/** Encodes an input as a symbol that may have a logo of so many modules. `asked` says how large it is. */
+export function encodedForLogo(given, version, level, rule, logo, share, asked) {
+  const { data, interpretation } = given;
+  return run(() => {
+    const from = put(data), to = take(LIMITS.SYMBOL_MAX), told = take(4), largest = take(1);
+    const status = call('qrproved_encode_logo', BigInt(from), BigInt(data.length), version, level, rule, interpretation, logo, share, BigInt(to),
+      BigInt(LIMITS.SYMBOL_MAX), BigInt(told), BigInt(largest));
+    if (nameOf(status) === 'LOGO') throw noLogo(asked, bytesAt(largest, 1)[0]);
+    throwForInput(status, given, level, rule);
+    return { ...symbolIn(told, to), logo };
+  });
+}
 
 export function encodedSeries({ data, interpretation }, version, level, rule) {
   return run(() => {

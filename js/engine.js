@@ -105,19 +105,30 @@ export function engineOf(code) {
     return nameOf(room(0, MODES.kanji, eci)[0]) !== 'SETTINGS';
   }
 
+  /** Throws the error of a status of a call that encodes an input as one symbol, and returns for 0. */
+  function throwForInput(status, { data, interpretation }, level, rule) {
+    if (nameOf(status) === 'TOO_LONG') {
+      const modes = Object.entries(MODES).slice(0, MODES_OF_RULES[rule]);
+      throw tooLong(data.length, level, modes.map(([name, mode]) => [name, room(level, mode, interpretation)[1]]));
+    }
+    throwFor(status);
+  }
+
+  /** Returns a symbol, whose struct and modules are in memory. */
+  function symbolIn(told, to) {
+    const [version, side, level, mask] = bytesAt(told, 4);
+    return { version, side, level, mask, modules: copied(to, side * side) };
+  }
+
   /** Encodes an input, of bytes and their interpretation. */
-  function encoded({ data, interpretation }, version, level, rule, boost) {
+  function encoded(given, version, level, rule, boost) {
+    const { data, interpretation } = given;
     return run(() => {
       const from = put(data), to = take(LIMITS.SYMBOL_MAX), told = take(4);
       const status = call('qrproved_encode', BigInt(from), BigInt(data.length), version, level, rule, interpretation, boost ? 1 : 0, BigInt(to),
         BigInt(LIMITS.SYMBOL_MAX), BigInt(told));
-      if (nameOf(status) === 'TOO_LONG') {
-        const modes = Object.entries(MODES).slice(0, MODES_OF_RULES[rule]);
-        throw tooLong(data.length, level, modes.map(([name, mode]) => [name, room(level, mode, interpretation)[1]]));
-      }
-      throwFor(status);
-      const [found, side, used, mask] = bytesAt(told, 4);
-      return { version: found, side, level: used, mask, modules: copied(to, side * side) };
+      throwForInput(status, given, level, rule);
+      return symbolIn(told, to);
     });
   }
 
@@ -129,5 +140,5 @@ export function engineOf(code) {
     });
   }
 
-  return { bytesAt, call, copied, drawn, encoded, load, mayHaveKanji, put, run, struct, take, written };
+  return { bytesAt, call, copied, drawn, encoded, load, mayHaveKanji, put, run, struct, symbolIn, take, throwForInput, written };
 }

@@ -76,6 +76,14 @@ export class FieldsError extends QRError {
   constructor(message = STATUSES.FIELDS) { super(message, 'FIELDS'); }
 }
 
+/** The input fits, but no symbol of it may have a logo of this size. `largest` is the side of the largest that one may have, in modules. */
+export class LogoError extends QRError {
+  constructor(message = STATUSES.LOGO, largest = 0) {
+    super(message, 'LOGO');
+    this.largest = largest;
+  }
+}
+
 /** No symbol is found in a picture, or several where one is wanted. It is no refusal of the library, which finds none in such a picture. */
 export class PictureError extends Error {
   constructor(message) {
@@ -133,6 +141,12 @@ export function tooMany(count, version, level) {
   return new TooManyError(`the input has ${counted(count)} bytes and takes more than 16 symbols of version ${version}-${'LMQH'[level]}`);
 }
 
+/** Returns the refusal of a logo. `asked` says how large it is. */
+export function noLogo(asked, largest) {
+  const may = largest ? `a logo of at most ${largest} by ${largest} modules` : 'no logo';
+  return new LogoError(`no symbol of the input may have a logo of ${asked}: one may have ${may}`, largest);
+}
+
 const CLASSES = {
   EMPTY: EmptyError, TOO_LONG: TooLongError, TOO_MANY: TooManyError, MEMORY: OutOfMemoryError, SETTINGS: SettingsError, ROOM: RoomError,
   SIDE: SideError, FORMAT: FormatError, CHECK: CheckError, SEGMENTS: SegmentsError, NO_DRAWING: NoDrawingError, FIELDS: FieldsError,
@@ -143,7 +157,7 @@ export function nameOf(status) {
   return NAMES[status];
 }
 
-/** Throws the error of a status, and returns for 0. */
+/** Throws the error of a status, and returns for 0. (The call that returns LOGO says more, by noLogo.) */
 export function throwFor(status) {
   if (status) throw new CLASSES[NAMES[status]]();
 }

@@ -45,10 +45,10 @@ export function inputAsked(input, asked, calls) {
   return [{ data, interpretation }, version, level, isBytes ? RULES.indexOf('bytes_only') : rule];
 }
 
-/** Returns the symbol of an input. */
+/** Returns the symbol of an input. The options of `calls.others` are passed to `calls.encoded`. */
 export function symbolAsked(input, options, calls) {
-  const asked = chosen(options, OF_SYMBOL);
+  const asked = chosen(options, { ...OF_SYMBOL, ...calls.others });
   if (typeof asked.boost !== 'boolean') throw new TypeError(`boost is true or false, and not of type ${typeof asked.boost}`);
-  const symbol = calls.encoded(...inputAsked(input, asked, calls), asked.boost);
+  const symbol = calls.encoded(...inputAsked(input, asked, calls), asked.boost, asked);
   return { ...symbol, level: LEVELS[symbol.level] };
 }

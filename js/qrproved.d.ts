@@ -63,6 +63,12 @@ export class QRSymbol {
   readonly level: Level;
   /** side * side bytes, row by row from the top left, without a margin: 1 is dark, 0 is light. */
   readonly modules: Uint8Array;
+  /** The modules on a side of the logo for which the symbol was encoded; or null. Drawings leave its place light. */
+  readonly logo: number | null;
+  /** The first row and column of the logo, and its side. A light ring around the picture belongs to the logo. */
+  readonly logoBox: { row: number; column: number; side: number } | null;
+  /** The share of the correction that the logo uses up at most, whatever it shows, in the block where it is most. */
+  readonly logoSpent: number;
   /**
    * Returns whether a module is dark; both numbers are from 0 to side - 1, from the top left. Throws SettingsError for others.
    */
@@ -72,14 +78,16 @@ export class QRSymbol {
    * micrometres, as in pdf. If `inline` is true, the document has no XML declaration, which HTML does not allow inside a page.
    * `title` is what the drawing is called by programs that read it aloud; it has then the role of an image. `className` is its class. `caption`
    * is a line of text below the symbol and its margin, which makes the drawing four modules higher. Throws
-   * SettingsError for colours with a contrast under 3 (WCAG 2.1), and for an order of them that `inverse` does not say.
+   * SettingsError for colours with a contrast under 3 (WCAG 2.1), and for an order of them that `inverse` does not say. `logo` is a PNG or SVG
+   * file, which becomes a part of the document, in the place of the logo for which the symbol was encoded, within a light ring of one module.
    */
-  svg(options?: Colours & { margin?: number; mm?: number; quiet?: boolean; inline?: boolean; title?: string; className?: string; caption?: string }): string;
+  svg(options?: Colours & { margin?: number; mm?: number; quiet?: boolean; inline?: boolean; title?: string; className?: string; caption?: string; logo?: Uint8Array }): string;
   /**
    * Draws the symbol on a canvas, which becomes as large as it, and returns the canvas. `scale` is the number of pixels of a module on a side,
-   * 8 unless given.
+   * 8 unless given. `logo` is an image that is loaded, or another canvas, which is drawn in the place of the logo, within a light ring of one
+   * module.
    */
-  toCanvas<Canvas extends { width: number; height: number; getContext(kind: '2d'): unknown }>(canvas: Canvas, options?: Colours & { scale?: number; margin?: number; quiet?: boolean }): Canvas;
+  toCanvas<Canvas extends { width: number; height: number; getContext(kind: '2d'): unknown }>(canvas: Canvas, options?: Colours & { scale?: number; margin?: number; quiet?: boolean; logo?: { readonly width: number; readonly height: number } }): Canvas;
   /** Returns a drawing as text, of type 'UTF8' unless given. */
   text(options?: { margin?: number; type?: Drawing }): string;
   /**
@@ -129,6 +137,18 @@ export interface Colours {
   light?: string | null;
   /** Whether dark modules may be lighter than the others, which many scanners do not read. */
   inverse?: boolean;
+}
+
+/** A logo in the middle of a symbol. */
+export interface LogoOptions {
+  /**
+   * Leaves place for a logo: its side in modules, or a number between 0 and 1 for a fraction of the symbol's side. The symbol has the least
+   * version from `version` on with which, at some level from `level` on, the logo is allowed, and the highest such level, whatever `boost` is.
+   * With the logo, whatever it shows, the library is proved to mend the symbol to exactly its content.
+   */
+  logo?: number;
+  /** How much the logo may use up of what can be corrected in a block, from 0 to 0.75: 0.5 unless given. The rest is left for dirt and wear. */
+  share?: number;
 }
 
 /** What a symbol of a series says about its series. */
@@ -237,9 +257,10 @@ export class Mended {
  * Returns the symbol of an input, of the least version from `version` on that it fits. It has the highest level from `level` on that fits
  * this version; with `boost: false` it has `level`. Throws EmptyError if the input has no byte, TooLongError if it fits none of these
  * versions, and SettingsError if a value is out of its range. Throws EciError for a character that is not in the character set, and
- * for a string in a set that is not known; Gs1Error for a string that is no GS1 data, and FieldsError for such bytes.
+ * for a string in a set that is not known; Gs1Error for a string that is no GS1 data, and FieldsError for such bytes. Throws LogoError if no
+ * symbol of the input may have the logo.
  */
-export function encode(input: Input, options?: Options & { boost?: boolean }): QRSymbol;
+export function encode(input: Input, options?: Options & LogoOptions & { boost?: boolean }): QRSymbol;
 
 /**
  * Returns the symbols of a series (structured append), all of one version and level: from 1 to 16. An input that fits one symbol is one
@@ -441,3 +462,7 @@ export class SegmentsError extends QRError {}
 export class NoDrawingError extends QRError {}
 /** The bytes are no GS1 data: the byte 1D comes directly before another or before %. */
 export class FieldsError extends QRError {}
+/** The input fits, but no symbol of it may have a logo of this size. `largest` is the side of the largest that one may have, in modules. */
+export class LogoError extends QRError {
+  readonly largest: number;
+}

@@ -2,12 +2,13 @@
  * QR Code symbols (ISO/IEC 18004:2015, QR Code Model 2) by the library libqrproved as WebAssembly, whose calls are proved to meet
  * their contracts. README.md shows the calls; qrproved.d.ts describes each.
  */
-import { drawn, encoded, encodedSeries, foundIn, imageOf, mayHaveKanji, mendedOf, parsedOf, printed, readOf, sheetsBy } from './calls.js';
+import { drawn, encodedSeries, foundIn, imageOf, mayHaveKanji, mendedOf, parsedOf, printed, readOf, sheetsBy } from './calls.js';
 import { DOCUMENTS, GRADES, LABELS, LIMITS } from './common.js';
 import { CheckError, Gs1Error, NoDrawingError, PictureError, SettingsError, SideError } from './errors.js';
 import { dataOf, fieldsOf } from './gs1.js';
 import { LEVELS, OF_SERIES, inputAsked, symbolAsked } from './inputs.js';
 import { SHIFT_JIS, decodedText, encodedText } from './interpretation.js';
+import { OF_LOGO, changedUnderLogo, drawnModules, encodedWithLogo, pictureBox, withPicture } from './logos.js';
 import { chosen, length, named, warn, whole } from './options.js';
 import { FREE_ACROSS, LINE, checkCaption, linesOf, paperOf, roomOf, roomOfLabel, withCaptions } from './papers.js';
 import { undone } from './pasted.js';
@@ -17,7 +18,7 @@ import { DRAWINGS, OF_SVG, PIXELS, PlainSymbol, dressed } from './symbol.js';
 export { load } from './calls.js';
 export { PAPERS } from './papers.js';
 export {
-  CheckError, EciError, EmptyError, FieldsError, FormatError, Gs1Error, NoDrawingError, OutOfMemoryError, PictureError, QRError, RoomError, SegmentsError,
+  CheckError, EciError, EmptyError, FieldsError, FormatError, Gs1Error, LogoError, NoDrawingError, OutOfMemoryError, PictureError, QRError, RoomError, SegmentsError,
   SettingsError, SideError, TooLongError, TooManyError,
 } from './errors.js';
 
@@ -35,10 +36,44 @@ const OF_RECEIPT = { scale: undefined, margin: 4, mm: undefined, dpi: LIMITS.DPI
 const OF_LABEL = { ...OF_RECEIPT, x: 0, y: 0 };
 
 export class QRSymbol extends PlainSymbol {
+  #logo;
+
+  constructor({ logo = null, ...symbol }) {
+    super(symbol);
+    this.#logo = logo;
+  }
+
+  get logo() {
+    return this.#logo;
+  }
+
+  get logoBox() {
+    if (this.logo === null) return null;
+    const first = Math.floor((this.side - this.logo) / 2);
+    return { row: first, column: first, side: this.logo };
+  }
+
+  get logoSpent() {
+    return mend(changedUnderLogo(this, (module) => 1 - module)).spent;
+  }
+
   svg(options = {}) {
-    const { mm, ...others } = chosen(options, { margin: 4, mm: undefined, ...OF_SVG }), { margin, quiet } = others;
+    const { mm, logo, ...others } = chosen(options, { margin: 4, mm: undefined, ...OF_SVG, logo: undefined }), { margin, quiet } = others;
     const drawing = mm === undefined ? draw(this, { margin, type: 'SVG' }) : new TextDecoder().decode(documentFor([this], 'svg', { margin, mm, quiet }));
-    return dressed(this, drawing, others, mm !== undefined);
+    const document = dressed(this, drawing, others, mm !== undefined);
+    return logo === undefined ? document : withPicture(document, logo, pictureBox(this, margin));
+  }
+
+  toCanvas(canvas, options = {}) {
+    const { logo, ...others } = chosen(options, { logo: undefined, scale: PIXELS, margin: 4, quiet: false, dark: undefined, light: undefined, inverse: undefined });
+    super.toCanvas(canvas, others, drawnModules(this));
+    if (logo !== undefined) {
+      const { first, side } = pictureBox(this, others.margin), { width, height } = logo, wide = others.scale * side, longest = Math.max(width, height);
+      if (!(longest > 0)) throw new TypeError('the logo of a canvas is an image that is loaded, or another canvas');
+      const [across, down] = [wide * width / longest, wide * height / longest], at = others.scale * first;
+      canvas.getContext('2d').drawImage(logo, at + (wide - across) / 2, at + (wide - down) / 2, across, down);
+    }
+    return canvas;
   }
 
   text(options = {}) {
@@ -58,7 +93,7 @@ export class QRSymbol extends PlainSymbol {
       throw new SettingsError(`${pixels} pixels cannot be ${Number(size.toPrecision(3))} mm wide in a PNG image`);
     }
     warn(quiet, margin, (size ?? Infinity) / modules);
-    return imageOf(this.modules, this.side, 'png', scale, margin, Math.round(density), 0, 0);
+    return imageOf(drawnModules(this), this.side, 'png', scale, margin, Math.round(density), 0, 0);
   }
 
   pdf(options = {}) {
@@ -98,7 +133,7 @@ export class QRSymbol extends PlainSymbol {
     const { dots, module } = dotsOf(this, format, sizes, margin);
     warn(quiet, margin, format === 'pbm' && sizes.fitMm === undefined ? Infinity : module);
     const left = whole('x', x, 0, LIMITS.PLACE_MAX), top = whole('y', y, 0, LIMITS.PLACE_MAX);
-    return imageOf(this.modules, this.side, format, dots, margin, 0, left, top);
+    return imageOf(drawnModules(this), this.side, format, dots, margin, 0, left, top);
   }
 
   dataURL(options = {}) {
@@ -202,7 +237,7 @@ export class Found {
   }
 }
 
-const CALLS = { encoded, mayHaveKanji, dataOf, encodedText };
+const CALLS = { encoded: encodedWithLogo, mayHaveKanji, dataOf, encodedText, others: OF_LOGO };
 
 export function encode(input, options = {}) {
   return new QRSymbol(symbolAsked(input, options, CALLS));
@@ -344,7 +379,7 @@ function joined(list, most = LIMITS.COUNT_MAX) {
   whole('the number of symbols', list.length, 1, most);
   const { side } = list[0], modules = new Uint8Array(list.length * side * side);
   if (list.some((it) => it.side !== side)) throw new SettingsError('the symbols have one side');
-  list.forEach((it, k) => modules.set(it.modules, k * side * side));
+  list.forEach((it, k) => modules.set(drawnModules(it), k * side * side));
   return modules;
 }
 
@@ -458,7 +493,7 @@ export function labels(symbols, options = {}) {
   const left = whole('x', x, 0, LIMITS.PLACE_MAX), top = whole('y', y, 0, LIMITS.PLACE_MAX);
   const list = symbolsOf(symbols), sizes = list.map((it) => dotsOf(it, format, asked, margin));
   if (list.length) warn(quiet, margin, sizes.reduce((least, { module }) => Math.min(least, module), Infinity));
-  const parts = list.flatMap((it, k) => [before, imageOf(it.modules, it.side, format, sizes[k].dots, margin, 0, left, top), after]);
+  const parts = list.flatMap((it, k) => [before, imageOf(drawnModules(it), it.side, format, sizes[k].dots, margin, 0, left, top), after]);
   const file = new Uint8Array(parts.reduce((sum, part) => sum + part.length, 0));
   parts.reduce((at, part) => (file.set(part, at), at + part.length), 0);
   return file;

@@ -23,7 +23,8 @@ export class PlainSymbol {
     return this.modules[row * this.side + column] !== 0;
   }
 
-  toCanvas(canvas, options = {}) {
+  /** Draws the symbol on a canvas. The modules that are drawn may be others than its own. */
+  toCanvas(canvas, options = {}, shown = this.modules) {
     const { scale, margin, quiet, ...others } = chosen(options, { scale: PIXELS, margin: 4, quiet: false, ...COLOURS_OF_DRAWING }), colours = coloursOf(others);
     const side = this.side + 2 * whole('margin', margin, 0, LIMITS.MARGIN_MAX), pixels = side * whole('scale', scale, 1, LIMITS.SCALE_MAX);
     if (typeof canvas?.getContext !== 'function') throw new TypeError('toCanvas draws on a canvas: toCanvas(document.querySelector(\'canvas\'))');
@@ -35,7 +36,7 @@ export class PlainSymbol {
       context.fillRect(0, 0, pixels, pixels);
     }
     context.fillStyle = colours.dark;
-    this.modules.forEach((module, k) => {
+    shown.forEach((module, k) => {
       if (module) context.fillRect(scale * (margin + k % this.side), scale * (margin + Math.floor(k / this.side)), scale, scale);
     });
     return canvas;

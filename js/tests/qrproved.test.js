@@ -1077,3 +1077,89 @@ test('an application indicator, and JSON', () => {
   const label = labelled('zint --binary --eci=128 -d abc --secure=3');
   assert.deepEqual(JSON.parse(JSON.stringify(label)), { ...wanted, data: [97, 98, 99], ecis: [{ begin: 0, number: 128 }], application: null });
 });
+
+// The versions and levels were worked out by hand, as tests/lib/library_rows.py says.
+test('a logo decides on the version and the level', () => {
+  const letters = 'a'.repeat(17);
+  for (const [input, logo, share, version, level] of [['A', 3, 0.5, 1, 'H'], [letters, 2, 0.5, 1, 'L'], [letters, 3, 0.5, 2, 'Q'], [letters, 2, 0.49, 2, 'Q'],
+    ['A', 4, undefined, 2, 'H'], ['A', 5, 0, 7, 'H']]) {
+    const symbol = encode(input, { logo, share });
+    assert.deepEqual([symbol.version, symbol.level, symbol.logo], [version, level, logo]);
+  }
+  assert.equal(encode(letters, { level: 'H', logo: 2 }).version, 3);
+  assert.deepEqual(encode('A', { logo: 2 }).logoBox, { row: 9, column: 9, side: 2 });
+  assert.deepEqual([encode('A').logo, encode('A').logoBox, encode('A', { logo: 3 }).logoSpent, encode('A').logoSpent], [null, null, 0.25, 0]);
+});
+
+test('a logo that is a fraction of the side', () => {
+  for (const logo of [0.05, 0.2, 0.3]) {
+    const symbol = encode('Shelf 12', { logo });
+    assert.equal(symbol.logo, Math.max(1, Math.round(logo * symbol.side)));
+    for (let version = 1; version < symbol.version; version++) {
+      assert.ok(encode('Shelf 12', { version, logo: Math.max(1, Math.round(logo * (17 + 4 * version))) }).version > version);
+    }
+  }
+});
+
+test('a logo that is too large says what would fit', () => {
+  const refused = (options) => {
+    try {
+      return encode('Shelf 12', options);
+    } catch (error) {
+      return error;
+    }
+  };
+  const error = refused({ logo: 177 }), { largest } = error;
+  assert.ok(error instanceof errors.LogoError && error instanceof errors.QRError);
+  assert.deepEqual([error.status, error.code], [13, 'LOGO']);
+  assert.equal(error.message, `no symbol of the input may have a logo of 177 by 177 modules: one may have a logo of at most ${largest} by ${largest} modules`);
+  assert.equal(refused({ logo: largest }).logo, largest);
+  assert.equal(refused({ logo: largest + 1 }).largest, largest);
+  assert.match(refused({ logo: 0.6 }).message, /of 60 % of the side/);
+  for (const options of [{ logo: 178 }, { logo: -1 }, { logo: 1.5 }, { logo: 7, share: 0.76 }, { logo: 7, share: -0.1 }]) {
+    assert.equal(refused(options).name, 'SettingsError');
+  }
+  for (const options of [{ logo: '7' }, { logo: true }, { share: 0.5 }, { logo: 7, share: '0.5' }]) assert.ok(refused(options) instanceof TypeError);
+  assert.throws(() => encode('', { logo: 3 }), { name: 'EmptyError' });
+  assert.throws(() => encode('a'.repeat(2954), { logo: 3 }), { name: 'TooLongError', message: /version 40-L holds 2,953 bytes/ });
+});
+
+test('whatever a logo shows the symbol is read, and its place is light', () => {
+  const symbol = encode('Shelf 12', { logo: 8 }), { side, logoBox: { row, column } } = symbol;
+  const isUnder = (k) => Math.floor(k / side) >= row && Math.floor(k / side) < row + 8 && k % side >= column && k % side < column + 8;
+  const plain = encode('Shelf 12', { version: symbol.version, level: symbol.level, boost: false });
+  assert.deepEqual([symbol.modules, symbol.mask], [plain.modules, plain.mask]);
+  const inverted = mend(symbol.modules.map((module, k) => (isUnder(k) ? 1 - module : module)));
+  assert.deepEqual([inverted.content.text(), inverted.spent <= 0.5, inverted.spent], ['Shelf 12', true, symbol.logoSpent]);
+  const lit = symbol.modules.map((module, k) => (isUnder(k) ? 0 : module));
+  assert.notDeepEqual(lit, symbol.modules);
+  for (const drawing of [symbol.svg(), symbol.svg({ mm: 30 }), symbol.text(), draw([symbol, symbol])]) assert.deepEqual(parseDrawing(drawing).squares[0], lit);
+  assert.deepEqual(Buffer.from(symbol.pbm({ scale: 1, margin: 0, quiet: true })).subarray(-side * Math.ceil(side / 8)),
+    Buffer.from(Array.from({ length: side }, (_, y) => Array.from({ length: Math.ceil(side / 8) }, (_, x) => (
+      Array.from({ length: 8 }, (_, bit) => (8 * x + bit < side ? lit[y * side + 8 * x + bit] : 0)).reduce((byte, module) => 2 * byte + module, 0)))).flat()));
+});
+
+test('the picture of a logo', () => {
+  const symbol = encode('Shelf 12', { logo: 7 }), vector = new TextEncoder().encode('<svg xmlns="http://www.w3.org/2000/svg" viewBox="0 0 1 1"/>');
+  for (const [picture, media] of [[Uint8Array.from([137, 80, 78, 71, 13, 10, 26, 10, 0, 255]), 'png'], [vector, 'svg+xml']]) {
+    for (const options of [{}, { mm: 30 }, { inline: true }, { margin: 6, caption: 'Shelf', dark: 'navy' }]) {
+      const document = symbol.svg({ logo: picture, ...options }), first = (options.margin ?? 4) + symbol.logoBox.row + 1;
+      const [, at, source] = /<image (x="\d+" y="\d+" width="\d+" height="\d+") [^>]*xlink:href="([^"]*)"\/>\n<\/svg>\n$/.exec(document);
+      assert.equal(at, `x="${first}" y="${first}" width="5" height="5"`);
+      assert.equal(source, `data:image/${media};base64,${Buffer.from(picture).toString('base64')}`);
+    }
+  }
+  assert.throws(() => symbol.svg({ logo: new Uint8Array(9) }), { name: 'SettingsError' });
+  assert.throws(() => symbol.svg({ logo: 'logo.png' }), TypeError);
+  assert.throws(() => encode('A').svg({ logo: vector }), TypeError);
+  const drawn = [], canvas = {
+    getContext: () => ({ fillRect: () => {}, drawImage: (...words) => drawn.push(words) }),
+  };
+  const image = { width: 200, height: 100 };
+  symbol.toCanvas(canvas, { scale: 10, logo: image });
+  // 5 modules of 10 pixels, and half as high as wide
+  const at = 10 * (4 + symbol.logoBox.row + 1);
+  assert.deepEqual(drawn, [[image, at, at + 12.5, 50, 25]]);
+  assert.throws(() => symbol.toCanvas(canvas, { logo: { width: 0, height: 0 } }), TypeError);
+  assert.throws(() => encode('A').toCanvas(canvas, { logo: image }), TypeError);
+});

@@ -1,5 +1,5 @@
 // What the declarations allow and refuse, for the TypeScript compiler.
-import { documentOf, draw, encode, encodeSeries, find, labels, load, mend, paper, parseDrawing, parsePicture, read, sheetsOf, Found, PAPERS, QRSymbol, NoDrawingError, TooLongError, FieldsError, QRError, type Eci, type Header, type Level } from 'qrproved';
+import { documentOf, draw, encode, encodeSeries, find, labels, load, mend, paper, parseDrawing, parsePicture, read, sheetsOf, Found, PAPERS, QRSymbol, LogoError, NoDrawingError, TooLongError, FieldsError, QRError, type Eci, type Header, type Level } from 'qrproved';
 import { encode as encodeAlone, load as loadAlone, QRSymbol as SymbolAlone } from 'qrproved/encode';
 import { ContentError, PAYMENT, contact, event, geo, gs1Of, link, mail, payment, paymentBytes, sms, tel, wifi } from 'qrproved/contents';
 
@@ -25,16 +25,18 @@ const places: number[] = found.flatMap((it) => [it.side, it.quarterTurns, it.cor
 const ofPicture: number[] = [read(pixels).version, mend(found[0]).wrongModules, mend(pixels).spent];
 const image: Uint8Array = symbol.png({ fitMm: 20, dpi: 300 });
 const canvas = symbol.toCanvas({ width: 0, height: 0, getContext: () => null }, { dark: 'navy', light: null }).width + symbol.svg({ title: 'a', className: 'b', inverse: false });
+const logo = encode('a', { logo: 0.2, share: 0.25 }), marked: string = logo.svg({ logo: new Uint8Array(3) }) + logo.logoBox?.row + logo.logoSpent + logo.logo;
 const files: Uint8Array[] = [labels(series, { type: 'tspl', mm: 20, dpi: 300, x: 3 }), labels(symbol), documentOf(series, { type: 'svg', mm: 20 })];
 const sheets: Uint8Array = sheetsOf([symbol], paper(PAPERS[0], { first: 3 }), { mm: 20, captions: ['a'] });
 const text: string = read(symbol).text() + mend(symbol.modules).content.text() + symbol.toJSON().rows[0] + draw(series, { type: 'SVG' }) + symbol.dataURL({ type: 'svg' }) + symbol.svg({ inline: true }) + shares;
 try {
-  console.log(canvas, level, header, fieldsOfGs1, ecis, fields, image, files, sheets, drawings, text, squares, shown, places, ofPicture);
+  console.log(canvas, marked, level, header, fieldsOfGs1, ecis, fields, image, files, sheets, drawings, text, squares, shown, places, ofPicture);
 } catch (error) {
   if (error instanceof TooLongError || error instanceof NoDrawingError || error instanceof FieldsError) {
     const refusal: QRError = error, status: number = error.status;
     console.log(refusal.code, status);
   }
+  if (error instanceof LogoError) console.log(error.largest + error.status);
 }
 const made: string[] = [wifi({ ssid: 'a', password: null, hidden: true }), contact({ name: 'a', phone: ['1', '2'], birthday: new Date() }), event({ summary: 'a', start: new Date() }),
   geo({ latitude: 1, longitude: '2' }), mail({ to: ['a@b.example'], cc: 'c@d.example' }), sms({ number: '1', format: 'sms' }), tel({ number: '1' }), gs1Of(link({ gs1: '(20)01' }))];
