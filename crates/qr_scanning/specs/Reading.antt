@@ -30,8 +30,8 @@ IsReadableSquare unknown g = IsReadableBy 5 unknown g
 abbrev pub IsReadable : (side : ℕ) (modules : List ℕ) → Type 0
 IsReadable side modules = IsReadableSquare (square_of_unknown side modules) (square_of_bytes side modules)
 
--- 1 if a module of a timing pattern, which is `k` modules from the edge and has this byte, is wrong or not known, and otherwise 0. It is dark if `k` is
--- even (ISO/IEC 18004:2015, 6.3.5)
+-- 1 if a module of a timing pattern, which is `k` modules from the edge and has this byte, is wrong or not known, and otherwise 0. It
+-- is dark if `k` is even (ISO/IEC 18004:2015, 6.3.5)
 abbrev pub is_wrong_timing : (byte k : ℕ) → ℕ
 is_wrong_timing byte k = if byte == 1 - k % 2 then 0 else 1
 

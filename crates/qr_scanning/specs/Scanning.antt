@@ -16,7 +16,8 @@ use Rattle.qr_scanning.specs.Reading.{IsReadable, IsReadableSquare, IsSurelyRead
 use Rattle.qr_scanning.specs.declared.scanning.Scanned.{Scanned}
 
 -- The modules are what sampling gives for the picture, by a map that takes the corners of the symbol to those of the square. If the
--- square counts as read, its timing patterns are right, but for one module in eight, or hardly any module is wrong [own]
+-- square counts as read, at most one of its modules in five is wrong or not known, or in ten if its timing patterns do not show
+-- its side (`share_of`) [own]
 pub record IsSampled (picture : Picture) (s : Scanned) : Type 0 where
   pub how : Sampling
   pub side : s.side ≡ how.side

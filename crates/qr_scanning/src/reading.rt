@@ -15,7 +15,7 @@ pub(crate) const SHARE: u32 = 5;
 /// The same, if the timing patterns do not show the side of the square.
 const SHARE_WITHOUT_TIMING: u32 = 10;
 
-// Returns 1 if a module of a timing pattern is wrong, and otherwise 0.
+// Returns 1 if a module of a timing pattern is wrong or not known, and otherwise 0.
 fn is_wrong_timing(byte: u8, k: usize) -> u32
     ensures value { result ≡ is_wrong_timing byte k }
     ensures bound { result ≤ 1 }
