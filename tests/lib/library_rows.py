@@ -5,6 +5,7 @@ the library. 1-M stands for version 1 and level M.
 Before a call each byte that it might write is MARK. Its buffer is longer than the room that the call is told of."""
 import ctypes
 import functools
+import itertools
 import operator
 from collections import Counter
 from functools import partial
@@ -22,7 +23,7 @@ AUTO, BYTES_ONLY, WITH_KANJI = range(3)
 NUMERIC, ALPHANUMERIC, BYTE, KANJI = range(4)
 ASCII, ASCII_INVERSE, UTF8, SVG = range(4)
 SVG_MM, EPS, PDF = range(3)
-PBM = 1
+PNG, PBM, ESCPOS, TSPL, ZPL = range(5)
 MOST_MODULES = 177 * 177  # of a symbol, which is one of version 40
 
 # ---- calls
@@ -121,6 +122,10 @@ def document(library, side, count, format, margin, micrometres, room):
     return file_of(library.library.qrproved_document, (SQUARES, len(SQUARES), side, count, format, margin, micrometres), room)
 
 
+def written_document(library, modules, *settings):
+    return file_of(library.library.qrproved_document, (modules, len(modules), *settings), 25_000)
+
+
 def sheets(library, side, count, margin, micrometres, room, **changed):
     sheet = Sheet(**{**SHEET, **changed})
     return file_of(library.library.qrproved_sheets, (LABELS, len(LABELS), side, count, margin, micrometres, ctypes.byref(sheet)), room)
@@ -128,6 +133,17 @@ def sheets(library, side, count, margin, micrometres, room, **changed):
 
 def image(library, side, format, scale, margin, pixels_a_metre, room):
     return file_of(library.library.qrproved_image, (SQUARE, len(SQUARE), side, format, scale, margin, pixels_a_metre, 0, 0), room)
+
+
+def written_image(library, modules, *settings):
+    return file_of(library.library.qrproved_image, (modules, len(modules), *settings), 25_000)
+
+
+def sums_of(write, *given):
+    """Returns the status, how many bytes were written, their sum, and the sum of the sums of the first byte, of the first two, and so
+    on."""
+    status, _, written = write(*given)
+    return status, len(written), sum(written), sum(itertools.accumulate(written))
 
 
 # ---- one symbol
@@ -833,6 +849,167 @@ REFUSED_DOCUMENTS = [
     ("too little room", 2, 2, PDF, 0, 25_400, 9, too_short(SQUARES_AS_PDF)),
 ]
 
+# Documents that were made by a program in Python that shares no code with the library; tests/printed has other programs read such
+# documents. First one square, with a margin of one module, of which each is 254 micrometres wide, which is 0.72 points. Then two
+# squares, with a margin of two modules, of which each is 333 micrometres wide.
+TWO_PATTERNS = bytes([0, 1, 1, 1, 0, 0, 1, 1, 1]) + bytes([1, 0, 1, 0, 0, 0, 0, 1, 1])
+ONE_AS_SVG = b"""\
+<?xml version="1.0" encoding="UTF-8"?>
+<svg xmlns="http://www.w3.org/2000/svg" version="1.1" width="1.270mm" height="1.270mm" viewBox="0 0 5 5" shape-rendering="crispEdges">
+<rect x="0" y="0" width="5" height="5" fill="#ffffff"/>
+<path fill="#000000" d="M2 1h2v1h-2zM1 2h1v1h-1zM1 3h3v1h-3z"/>
+</svg>
+"""
+TWO_AS_SVG = b"""\
+<?xml version="1.0" encoding="UTF-8"?>
+<svg xmlns="http://www.w3.org/2000/svg" version="1.1" width="2.331mm" height="4.662mm" viewBox="0 0 7 14" shape-rendering="crispEdges">
+<rect x="0" y="0" width="7" height="14" fill="#ffffff"/>
+<path fill="#000000" d="M3 2h2v1h-2zM2 3h1v1h-1zM2 4h3v1h-3zM2 9h1v1h-1zM4 9h1v1h-1zM3 11h2v1h-2z"/>
+</svg>
+"""
+ONE_AS_EPS = b"""\
+%!PS-Adobe-3.0 EPSF-3.0
+%%BoundingBox: 0 0 4 4
+%%HiResBoundingBox: 0 0 3.600000 3.600000
+%%LanguageLevel: 2
+%%EndComments
+gsave
+0.720000 dup scale
+1 setgray 0 0 5 5 rectfill
+0 setgray
+/b { 1 rectfill } bind def
+2 3 2 b
+1 2 1 b
+1 1 3 b
+grestore
+%%EOF
+"""
+TWO_AS_EPS = b"""\
+%!PS-Adobe-3.0 EPSF-3.0
+%%BoundingBox: 0 0 7 14
+%%HiResBoundingBox: 0 0 6.607559 13.215118
+%%LanguageLevel: 2
+%%EndComments
+gsave
+0.943937 dup scale
+1 setgray 0 0 7 14 rectfill
+0 setgray
+/b { 1 rectfill } bind def
+3 11 2 b
+2 10 1 b
+2 9 3 b
+2 4 1 b
+4 4 1 b
+3 2 2 b
+grestore
+%%EOF
+"""
+ONE_AS_PDF = b"""\
+%PDF-1.4
+1 0 obj
+<</Type/Catalog/Pages 2 0 R>>
+endobj
+2 0 obj
+<</Type/Pages/Kids[3 0 R]/Count 1>>
+endobj
+3 0 obj
+<</Type/Page/Parent 2 0 R/MediaBox[0 0 3.600000 3.600000]/Resources<<>>/Contents 4 0 R>>
+endobj
+4 0 obj
+<</Length 85>>
+stream
+0.720000 0 0 0.720000 0 0 cm
+1 g 0 0 5 5 re f
+0 g
+2 3 2 1 re
+1 2 1 1 re
+1 1 3 1 re
+f
+endstream
+endobj
+xref
+0 5
+0000000000 65535 f 
+0000000009 00000 n 
+0000000054 00000 n 
+0000000105 00000 n 
+0000000209 00000 n 
+trailer
+<</Size 5/Root 1 0 R>>
+startxref
+341
+%%EOF
+"""
+TWO_AS_PDF = b"""\
+%PDF-1.4
+1 0 obj
+<</Type/Catalog/Pages 2 0 R>>
+endobj
+2 0 obj
+<</Type/Pages/Kids[3 0 R 5 0 R]/Count 2>>
+endobj
+3 0 obj
+<</Type/Page/Parent 2 0 R/MediaBox[0 0 6.607559 6.607559]/Resources<<>>/Contents 4 0 R>>
+endobj
+4 0 obj
+<</Length 85>>
+stream
+0.943937 0 0 0.943937 0 0 cm
+1 g 0 0 7 7 re f
+0 g
+3 4 2 1 re
+2 3 1 1 re
+2 2 3 1 re
+f
+endstream
+endobj
+5 0 obj
+<</Type/Page/Parent 2 0 R/MediaBox[0 0 6.607559 6.607559]/Resources<<>>/Contents 6 0 R>>
+endobj
+6 0 obj
+<</Length 85>>
+stream
+0.943937 0 0 0.943937 0 0 cm
+1 g 0 0 7 7 re f
+0 g
+2 4 1 1 re
+4 4 1 1 re
+3 2 2 1 re
+f
+endstream
+endobj
+xref
+0 7
+0000000000 65535 f 
+0000000009 00000 n 
+0000000054 00000 n 
+0000000111 00000 n 
+0000000215 00000 n 
+0000000347 00000 n 
+0000000451 00000 n 
+trailer
+<</Size 7/Root 1 0 R>>
+startxref
+583
+%%EOF
+"""
+WRITTEN = [
+    ("one square as SVG", TWO_PATTERNS, 3, 1, SVG_MM, 1, 254, done(ONE_AS_SVG)),
+    ("one square as EPS", TWO_PATTERNS, 3, 1, EPS, 1, 254, done(ONE_AS_EPS)),
+    ("one square as PDF", TWO_PATTERNS, 3, 1, PDF, 1, 254, done(ONE_AS_PDF)),
+    ("two squares as SVG", TWO_PATTERNS, 3, 2, SVG_MM, 2, 333, done(TWO_AS_SVG)),
+    ("two squares as EPS", TWO_PATTERNS, 3, 2, EPS, 2, 333, done(TWO_AS_EPS)),
+    ("two squares as PDF", TWO_PATTERNS, 3, 2, PDF, 2, 333, done(TWO_AS_PDF)),
+]
+# A square of 60 by 60 modules.
+STRIPES = bytes((row * row + 3 * column) % 7 < 3 for row in range(60) for column in range(60))
+# Each module is a metre wide, so that numbers have many digits.
+LARGE_DOCUMENTS = [
+    ("as SVG", STRIPES, 60, 1, SVG_MM, 10, 1_000_000, ("DONE", 21_879, 1_497_457, 16_382_046_229)),
+    ("as EPS", STRIPES, 60, 1, EPS, 10, 1_000_000, ("DONE", 15_681, 729_447, 5_776_970_116)),
+    ("as PDF", STRIPES, 60, 1, PDF, 10, 1_000_000, ("DONE", 20_550, 1_049_029, 10_836_287_656)),
+]
+
 # ---- labels
 
 # Three squares of two rows.
@@ -950,6 +1127,68 @@ REFUSED_IMAGES = [
     ("2^31 pixels a metre", 2, PBM, 3, 0, 1 << 31, 13, SETTINGS),
     ("three rows", 3, PBM, 3, 0, 0, 13, NO_SQUARES),
     ("one byte too few", 2, PBM, 3, 0, 0, 12, too_short(BITMAP)),
+]
+
+# Files that were made by a program in Python that shares no code with the library. Other programs were seen to read the PNG files, and
+# a second program in Python those for printers. No printer was tried.
+PATTERN = bytes([1, 0, 0, 0, 0, 1, 1, 1, 0])  # three by three modules: #.. ..# ##.
+# A dark module, one pixel wide, without a margin.
+ONE_PIXEL = bytes.fromhex(
+    "89504E470D0A1A0A0000000D4948445200000001000000010100000000376EF92400000086494441547801EDFD0B8024657D2EFE3FC30BB497CA1407"
+    "19376861F98F20C13FEB9696645B2D7D3702022AEEC55D16B90D418E104FD06E10B78D32FD8E3F854092194C722031C74B544244084109ABC684AFF6"
+    "8975E4D7A6D905968B2C54D289EBE5086F4DF56ED72EB5F52C189D9E3363CFEC7FD7E490FF398FFAD6E779DED7BB72BFA0B90F008100802B4A591E00"
+    "00000049454E44AE426082"
+)
+# The pattern, with a margin of one module, one pixel for each module.
+NARROW = bytes.fromhex(
+    "89504E470D0A1A0A0000000D4948445200000005000000050100000000A5141B480000008B494441547801EDFD0B8024657D2EFE3FC30BB497CA1407"
+    "19376861F98F20C13FEB9696645B2D7D3702022AEEC55D16B90D418E104FD06E10B78D32FD8E3F854092194C722031C74B544244084109ABC684AFF6"
+    "8975E4D7A6D905968B2C54D289EBE5086F4DF56ED72EB5F52C189D9E3363CFEC7FD7E490FF398FFAD6E779DED7BB72BF80B81B4FE2D3E03E15C1044C"
+    "6C5DA68D0000000049454E44AE426082"
+)
+# The same with a margin of four modules, four pixels for a module, and 11,811 pixels a metre (300 dpi).
+FOURFOLD = bytes.fromhex(
+    "89504E470D0A1A0A0000000D494844520000002C0000002C010000000036FF67AC000000097048597300002E2300002E230178A53F76000000584944"
+    "41547801EDFD0380ADEB96846BBE6DF768DBB66DDBB66DDBB66DDBB66DDB768FB6FB59CDDB67579F5BB566E6CECCB5E61CB3F88F2FE28D88AA63E6FF"
+    "F5FBB4FF1183DFFA3FC2F05BFF4784DFFA3FF2FFFA7DDAFFF8065737FB7D564C31ED0000000049454E44AE426082"
+)
+# The same with a margin of four modules, and five pixels for a module.
+FIVEFOLD = bytes.fromhex(
+    "89504E470D0A1A0A0000000D494844520000003700000037010000000080A0EFEB00000068494441547801EDFD05A02E49D66D0B8D64018107EE10B8"
+    "BBEB0EDCDDDDDD5D3FC8848DBBBBBBBB6B7CB8BB6BE20E0B4F20C8510D0F2BFEBFEBF6AD77F6D97222DBE71C73AC682B17FC43BE8FFA8F68EEEA1FE8"
+    "1F5167D33FD03FA219EA1FE81FF10FF93EEA3FFE04591B731E2DB6A2A50000000049454E44AE426082"
+)
+# The same for a receipt printer, with a margin of one module, and three pixels for a module.
+RECEIPT = bytes.fromhex(
+    "1D76300002000F000000000000001C001C001C000070007000701F801F801F80000000000000"
+)
+# The same for a label printer that reads TSPL, 12 dots from the left and 345 from the upper edge.
+TSPL_LABEL = bytes.fromhex(
+    "4249544D41502031322C3334352C322C31352C302CFFFFFFFFFFFFE3FFE3FFE3FFFF8FFF8FFF8FE07FE07FE07FFFFFFFFFFFFF0D0A"
+)
+# The same for a label printer that reads ZPL, fifty dots for a module.
+ZPL_LABEL = bytes.fromhex(
+    "5E58410A5E464F31322C3334355E4746412C383030302C383030302C33322C2C3A3A3A3A3A3A3A3A3A3A3A3A3A3A3A3A3A3A3A3A3A3A3A3A3A3A3A3A"
+    "3A3A3A3A3A3A3A3A3A3A3A3A3A3A3A3A3A3A3A3A3A52303352466759303A3A3A3A3A3A3A3A3A3A3A3A3A3A3A3A3A3A3A3A3A3A3A3A3A3A3A3A3A3A3A"
+    "3A3A3A3A3A3A3A3A3A3A3A3A3A3A3A3A3A3A67573033524654303A3A3A3A3A3A3A3A3A3A3A3A3A3A3A3A3A3A3A3A3A3A3A3A3A3A3A3A3A3A3A3A3A3A"
+    "3A3A3A3A3A3A3A3A3A3A3A3A3A3A3A523033674A4643674C303A3A3A3A3A3A3A3A3A3A3A3A3A3A3A3A3A3A3A3A3A3A3A3A3A3A3A3A3A3A3A3A3A3A3A"
+    "3A3A3A3A3A3A3A3A3A3A3A3A3A3A2C3A3A3A3A3A3A3A3A3A3A3A3A3A3A3A3A3A3A3A3A3A3A3A3A3A3A3A3A3A3A3A3A3A3A3A3A3A3A3A3A3A3A3A3A3A"
+    "3A3A3A3A5E46530A5E585A0A"
+)
+PATTERN_AS_BITMAP = b"P4\n15 15\n" + bytes.fromhex("0000" * 3 + "1C00" * 3 + "0070" * 3 + "1F80" * 3 + "0000" * 3)
+FILES = [
+    ("one module is one pixel", b"\1", 1, PNG, 1, 0, 0, 0, 0, done(ONE_PIXEL)),
+    ("a narrow image without copies", PATTERN, 3, PNG, 1, 1, 0, 0, 0, done(NARROW)),
+    ("a size", PATTERN, 3, PNG, 4, 4, 11_811, 0, 0, done(FOURFOLD)),
+    ("five pixels a module", PATTERN, 3, PNG, 5, 4, 0, 0, 0, done(FIVEFOLD)),
+    ("a bitmap", PATTERN, 3, PBM, 3, 1, 0, 0, 0, done(PATTERN_AS_BITMAP)),
+    ("a receipt", PATTERN, 3, ESCPOS, 3, 1, 0, 0, 0, done(RECEIPT)),
+    ("a label in TSPL", PATTERN, 3, TSPL, 3, 1, 0, 12, 345, done(TSPL_LABEL)),
+    ("a label in ZPL", PATTERN, 3, ZPL, 50, 1, 0, 12, 345, done(ZPL_LABEL)),
+]
+LARGE_FILES = [
+    ("a PNG file of several parts", STRIPES, 60, PNG, 7, 2, 0, 0, 0, ("DONE", 2370, 343_634, 404_228_413)),
+    ("a receipt of several bands", PATTERN, 3, ESCPOS, 60, 1, 0, 0, 0, ("DONE", 11_416, 446_266, 2_272_986_780)),
 ]
 
 # ---- drawings that are parsed
@@ -1125,11 +1364,15 @@ TABLES = {
     "no line": (draw_row, REFUSED_LINES),
     "document": (document, DOCUMENTS),
     "no document": (document, REFUSED_DOCUMENTS),
+    "written document": (written_document, WRITTEN),
+    "large document": (partial(sums_of, written_document), LARGE_DOCUMENTS),
     "sheets": (sheets, SHEETS),
     "no sheets": (sheets, REFUSED_SHEETS),
     "no sheets of this paper": (on_paper, REFUSED_PAPER),
     "image": (image, IMAGES),
     "no image": (image, REFUSED_IMAGES),
+    "written image": (written_image, FILES),
+    "large image": (partial(sums_of, written_image), LARGE_FILES),
     "parsed": (parsed, PARSED),
     "drawn and parsed": (parsed_again, PARSED_AGAIN),
     "drawn, parsed and read": (parsed_and_read, PARSED_AND_READ),
