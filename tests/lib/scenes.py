@@ -262,12 +262,12 @@ def of_wrong_modules(numbers):
 
 
 def of_wrong_finder(numbers):
-    """One finder pattern has wrong modules: the one in its middle, and 3 to 5 others."""
+    """One finder pattern has 5 or 6 wrong modules: the one in its middle, and others near it."""
     symbol = symbol_of(numbers)
     side, modules = symbol.side, bytearray(symbol.modules)
     column, row = numbers.one([(0, 0), (side - 7, 0), (0, side - 7)])
-    others = [(x, y) for y in range(7) for x in range(7) if (x, y) != (3, 3)]
-    for x, y in [(3, 3), *numbers.some(others, 3 + numbers.below(3))]:
+    others = [(x, y) for y in range(1, 6) for x in range(1, 6) if (x, y) != (3, 3)]
+    for x, y in [(3, 3), *numbers.some(others, 4 + numbers.below(2))]:
         modules[(row + y) * side + column + x] ^= 1
     scale = 4 + numbers.below(3)
     width = round(1.45 * scale * (side + 8)) + 6
@@ -442,9 +442,10 @@ def grid(symbols, columns, scale, margin):
 KINDS = {
     "clean": (of_clean, 12), "captions": (of_captions, 10), "a page of text": (of_page, 6), "text alone": (of_text_alone, 3),
     "noise alone": (of_noise_alone, 2), "noise": (of_noise, 6), "blur": (of_blur, 6), "low contrast": (of_low_contrast, 5),
-    "wrong modules": (of_wrong_modules, 8), "a damaged finder pattern": (of_wrong_finder, 12), "turned": (of_turned, 10), "quarter turns": (of_quarter_turns, 4), "perspective": (of_perspective, 8),
-    "shadow": (of_shadow, 6), "mirrored": (of_mirrored, 4), "several": (of_several, 4), "light on dark": (of_light_on_dark, 5), "logo": (of_logo, 6),
-    "scaled": (of_scaled, 6), "as a camera sees it": (of_camera, 6), "photographs": (of_photographs, 12),
+    "wrong modules": (of_wrong_modules, 8), "wrong modules in a finder pattern": (of_wrong_finder, 12), "turned": (of_turned, 10),
+    "quarter turns": (of_quarter_turns, 4), "perspective": (of_perspective, 8), "shadow": (of_shadow, 6), "mirrored": (of_mirrored, 4),
+    "several": (of_several, 4), "light on dark": (of_light_on_dark, 5), "logo": (of_logo, 6), "scaled": (of_scaled, 6),
+    "as a camera sees it": (of_camera, 6), "photographs": (of_photographs, 12),
 }
 
 
