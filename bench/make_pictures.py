@@ -1,4 +1,5 @@
-"""Makes pictures of symbols in kinds, in grey, for bench/pictures: make_pictures.py FOLDER SEED SHARE. With SHARE 1 these are 1,150.
+"""Makes pictures of symbols in kinds, in grey, for bench/pictures: make_pictures.py FOLDER SEED SHARE [WORD]. With SHARE 1 these are
+1,150. With a word only the kinds whose names have it are written.
 
 It takes numpy, Pillow, segno, qrencode, zint, the fonts DejaVu, and the package for Python of this repository (by PYTHONPATH). It writes
 PGM files, and for each of them a line of FOLDER/list.tsv: its name, its kind, and the texts of its symbols as JSON."""
@@ -17,7 +18,7 @@ from PIL import Image, ImageDraw, ImageFilter, ImageFont
 
 import qrproved
 
-out, seed, share = sys.argv[1], int(sys.argv[2]), float(sys.argv[3])
+out, seed, share, word = sys.argv[1], int(sys.argv[2]), float(sys.argv[3]), "".join(sys.argv[4:])
 rnd = random.Random(seed)
 nrnd = np.random.RandomState(seed % 2**32)
 os.makedirs(out, exist_ok=True)
@@ -71,9 +72,10 @@ def draw(modules, scale, margin=4, dark=0, light=255):
 
 
 def save(kind, image, texts):
-    name = f"{len(lines):04d}.pgm"
-    image.convert("L").save(os.path.join(out, name))
-    lines.append((name, kind, json.dumps(texts)))
+    if word in kind:
+        name = f"{len(lines):04d}.pgm"
+        image.convert("L").save(os.path.join(out, name))
+        lines.append((name, kind, json.dumps(texts)))
 
 
 def many(n):

@@ -1341,7 +1341,7 @@ def _in_rows(squares: list[Found]) -> list[Found]:
 
 def find(picture: Picture, *wrong: NoReturn, unread: bool = False, **others: NoReturn) -> list[Found]:
     """Returns the symbols of a picture, row by row from the upper left. They may be turned, tilted, mirrored, light on dark, in shadow,
-    blurred or small. All three finder patterns have to be seen.
+    blurred or small. All three finder patterns have to be there, one of them with at most six wrong modules of its 49.
 
     picture  the bytes of a PNG picture or of an SVG document, the path of a file with them, or an open binary file; an image of Pillow;
              or an array of bytes, as numpy has them: rows of grey, or rows of RGB or RGBA. Of an SVG document rectangles and upright

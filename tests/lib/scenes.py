@@ -261,6 +261,20 @@ def of_wrong_modules(numbers):
     return pixels, width, width, [Shown(symbol.text, upright(20, 20, 5 * symbol.side), symbol.side)]
 
 
+def of_wrong_finder(numbers):
+    """One finder pattern has 5 or 6 wrong modules: the one in its middle, and others near it."""
+    symbol = symbol_of(numbers)
+    side, modules = symbol.side, bytearray(symbol.modules)
+    column, row = numbers.one([(0, 0), (side - 7, 0), (0, side - 7)])
+    others = [(x, y) for y in range(1, 6) for x in range(1, 6) if (x, y) != (3, 3)]
+    for x, y in [(3, 3), *numbers.some(others, 4 + numbers.below(2))]:
+        modules[(row + y) * side + column + x] ^= 1
+    scale = 4 + numbers.below(3)
+    width = round(1.45 * scale * (side + 8)) + 6
+    corners = turned_corners(width / 2, scale * side, numbers.one([0, 90, 180, 270, numbers.below(360)]))
+    return seen(symbol._replace(modules=bytes(modules)), corners, width, width), width, width, [Shown(symbol.text, corners, side)]
+
+
 def of_turned(numbers):
     symbol, scale = symbol_of(numbers), 4 + numbers.below(3)
     size = scale * symbol.side
@@ -428,9 +442,10 @@ def grid(symbols, columns, scale, margin):
 KINDS = {
     "clean": (of_clean, 12), "captions": (of_captions, 10), "a page of text": (of_page, 6), "text alone": (of_text_alone, 3),
     "noise alone": (of_noise_alone, 2), "noise": (of_noise, 6), "blur": (of_blur, 6), "low contrast": (of_low_contrast, 5),
-    "wrong modules": (of_wrong_modules, 8), "turned": (of_turned, 10), "quarter turns": (of_quarter_turns, 4), "perspective": (of_perspective, 8),
-    "shadow": (of_shadow, 6), "mirrored": (of_mirrored, 4), "several": (of_several, 4), "light on dark": (of_light_on_dark, 5), "logo": (of_logo, 6),
-    "scaled": (of_scaled, 6), "as a camera sees it": (of_camera, 6), "photographs": (of_photographs, 12),
+    "wrong modules": (of_wrong_modules, 8), "wrong modules in a finder pattern": (of_wrong_finder, 12), "turned": (of_turned, 10),
+    "quarter turns": (of_quarter_turns, 4), "perspective": (of_perspective, 8), "shadow": (of_shadow, 6), "mirrored": (of_mirrored, 4),
+    "several": (of_several, 4), "light on dark": (of_light_on_dark, 5), "logo": (of_logo, 6), "scaled": (of_scaled, 6),
+    "as a camera sees it": (of_camera, 6), "photographs": (of_photographs, 12),
 }
 
 

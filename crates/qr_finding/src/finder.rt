@@ -5,6 +5,7 @@ ghost use Rattle.qr_finding.specs.Offers.{IsOffer, corners_of};
 
 use crate::blocks::{Grid, Thresholds, low_range, write_dark};
 use crate::climb::{Steps, climb, seek_alignment};
+use crate::completing::complete;
 use crate::fit::{Looks, Scene};
 use crate::look::looks_like_symbol;
 use crate::number::Number;
@@ -120,7 +121,8 @@ pub struct Finder {
     low_range: u8,
     pass: usize,
     is_ready: bool,
-    is_second_list: bool,
+    /// Which triples are tried. 0: of the first patterns, 1: of all, 2: those of which one pattern is not seen.
+    list: u8,
     width: usize,
     height: usize,
     seen: usize,
@@ -141,7 +143,7 @@ impl Finder {
             low_range: low_range(picture),
             pass: 0,
             is_ready: false,
-            is_second_list: false,
+            list: 0,
             width: 0,
             height: 0,
             seen: 0,
@@ -476,11 +478,11 @@ impl Finder {
         &mut self,
         picture: &Picture,
         pixels: (&[u8], &[u8]),
-        patterns: &[Pattern],
+        patterns: &mut [Pattern],
         triples: &mut [Triple],
     ) {
         if self.looks >= LOOKS_MAX || self.triple >= self.triples || self.symbols >= SYMBOLS_MAX {
-            self.end_list(patterns, triples);
+            self.end_list(pixels.0, patterns, triples);
             return;
         }
         let index = self.triple;
@@ -556,18 +558,20 @@ impl Finder {
         };
     }
 
-    // After the triples of the first patterns, those of all may be tried. Then the pass ends, and the search too if a symbol
-    // was found.
-    fn end_list(&mut self, patterns: &[Pattern], triples: &mut [Triple]) {
+    // After the triples of the first patterns, those of all may be tried, and in the first pass those of which one pattern is not
+    // seen. Then the pass ends, and the search too if a symbol was found.
+    fn end_list(&mut self, dark: &[u8], patterns: &mut [Pattern], triples: &mut [Triple]) {
         let pass = pass_of(self.pass);
         let is_worth = self.symbols > 0 || self.seen < MANY || self.pass == 5;
-        if !self.is_second_list && self.patterns > FIRST && is_worth && self.symbols < SYMBOLS_MAX {
-            self.is_second_list = true;
+        if self.list == 0 && self.patterns > FIRST && is_worth && self.symbols < SYMBOLS_MAX {
+            self.list = 1;
             self.list_triples(patterns, triples, (self.patterns, pass.most));
             return;
         }
-        if self.pass == 0 {
-            self.first_patterns = self.patterns;
+        if self.list < 2 && self.pass == 0 && self.symbols == 0 {
+            self.list = 2;
+            self.list_completed(dark, patterns, triples);
+            return;
         }
         self.is_ready = false;
         self.pass = if self.symbols > 0 {
@@ -589,6 +593,20 @@ impl Finder {
         self.looks = 0;
     }
 
+    // Lists the triples of which one pattern is not seen.
+    fn list_completed(&mut self, dark: &[u8], patterns: &mut [Pattern], triples: &mut [Triple]) {
+        let view = View {
+            pixels: dark,
+            width: self.width,
+            height: self.height,
+        };
+        let (patterns, triples) = complete(&view, patterns, self.patterns, triples);
+        self.patterns = patterns;
+        self.triples = triples;
+        self.triple = 0;
+        self.looks = 0;
+    }
+
     // Prepares a pass: the dark pixels, the patterns, and the triples of the first ones.
     fn prepare(&mut self, picture: &Picture, pixels: Pixels, lists: Lists) {
         let pass = pass_of(self.pass);
@@ -602,7 +620,7 @@ impl Finder {
         self.width = width >> shift;
         self.height = height >> shift;
         self.is_ready = true;
-        self.is_second_list = false;
+        self.list = 0;
         let Pixels {
             dark,
             other,
@@ -626,6 +644,9 @@ impl Finder {
             },
         );
         self.find_patterns(dark, cells, patterns, pass.best);
+        if self.pass == 0 {
+            self.first_patterns = self.patterns;
+        }
         self.list_triples(patterns, triples, (self.patterns.min(FIRST), pass.most));
     }
 

@@ -10,7 +10,8 @@
 //!
 //! 1. Each block of eight by eight pixels gets a threshold, and each pixel is dark or light.
 //! 2. Rows are scanned for finder patterns, and the best are kept.
-//! 3. Three patterns that may be the corners of a symbol are a triple. The likeliest triples are tried first.
+//! 3. Three patterns that may be the corners of a symbol are a triple. The likeliest triples are tried first. If none of the
+//!    first pass is a symbol, a third pattern is looked for where two may be those of a symbol.
 //! 4. From the sizes of the modules and the timing patterns comes the side of the symbol, and from the alignment pattern at
 //!    the lower right its fourth corner. Then its modules are sampled. If this is in vain, the corners are moved while the
 //!    patterns that every symbol has fit better.
@@ -22,6 +23,7 @@
 //!
 //! - `blocks`: thresholds, and dark pixels
 //! - `climb`: moves the corners of a square
+//! - `completing`: finder patterns that are not seen
 //! - `finder`: the search, its passes, and what it offers; defined in `Offers`
 //! - `fit`: how well the patterns that every symbol has fit a square
 //! - `look`: whether a square looks like a symbol
@@ -39,6 +41,7 @@
 
 mod blocks;
 mod climb;
+mod completing;
 mod finder;
 mod fit;
 mod look;

@@ -14,7 +14,7 @@ pub struct Pattern {
     pub(crate) middle: Point,
     /// The length of a module, in sixteenths of a pixel.
     pub(crate) unit: Number,
-    /// How often it was seen: up to three times in each row.
+    /// How often it was seen: up to three times in each row. It is 0 for a pattern that is not seen in the rows (`completing`).
     pub(crate) hits: Number,
     /// How good it is, as `ranking` has it.
     pub(crate) quality: Number,

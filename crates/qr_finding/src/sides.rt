@@ -8,7 +8,7 @@ use crate::triples::Triple;
 use crate::view::{Point, View};
 
 // Returns the vector of a length in the direction from one place to another.
-fn toward(from: Point, to: Point, length: Number) -> Point {
+pub(crate) fn toward(from: Point, to: Point, length: Number) -> Point {
     let way = to.minus(from);
     way.times(length).over(way.square().root().most(Number(1)))
 }
@@ -33,8 +33,11 @@ fn second_end(view: &View, pattern: &Pattern, way: Point) -> Option<Number> {
 }
 
 // Returns the length of a module at a pattern along a direction, by the outer edges of its light ring. `way` has the length
-// 256. Where there are no such edges, it is the length that is known.
+// 256. Where there are no such edges, and in a pattern that was not seen, it is the length that is known.
 fn unit_along(view: &View, pattern: &Pattern, way: Point) -> Number {
+    if pattern.hits == Number(0) {
+        return pattern.unit;
+    }
     let back = Point {
         x: -way.x,
         y: -way.y,

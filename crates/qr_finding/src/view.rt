@@ -29,6 +29,11 @@ pub(crate) struct Point {
 }
 
 impl Point {
+    pub(crate) const NONE: Point = Point {
+        x: Number(0),
+        y: Number(0),
+    };
+
     pub(crate) fn plus(self, other: Point) -> Point {
         Point {
             x: self.x + other.x,
