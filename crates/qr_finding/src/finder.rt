@@ -115,14 +115,24 @@ struct Trial {
     variant: u8,
 }
 
+/// Which triples of a pass are tried.
+#[derive(Clone, Copy)]
+enum List {
+    /// Those of the first patterns.
+    OfFirst,
+    /// Those of all patterns that are seen.
+    OfAll,
+    /// Those of which one pattern is not seen.
+    Completed,
+}
+
 /// The state of a search.
 #[derive(Clone, Copy)]
 pub struct Finder {
     low_range: u8,
     pass: usize,
     is_ready: bool,
-    /// Which triples are tried. 0: of the first patterns, 1: of all, 2: those of which one pattern is not seen.
-    list: u8,
+    list: List,
     width: usize,
     height: usize,
     seen: usize,
@@ -143,7 +153,7 @@ impl Finder {
             low_range: low_range(picture),
             pass: 0,
             is_ready: false,
-            list: 0,
+            list: List::OfFirst,
             width: 0,
             height: 0,
             seen: 0,
@@ -563,13 +573,17 @@ impl Finder {
     fn end_list(&mut self, dark: &[u8], patterns: &mut [Pattern], triples: &mut [Triple]) {
         let pass = pass_of(self.pass);
         let is_worth = self.symbols > 0 || self.seen < MANY || self.pass == 5;
-        if self.list == 0 && self.patterns > FIRST && is_worth && self.symbols < SYMBOLS_MAX {
-            self.list = 1;
+        if matches!(self.list, List::OfFirst)
+            && self.patterns > FIRST
+            && is_worth
+            && self.symbols < SYMBOLS_MAX
+        {
+            self.list = List::OfAll;
             self.list_triples(patterns, triples, (self.patterns, pass.most));
             return;
         }
-        if self.list < 2 && self.pass == 0 && self.symbols == 0 {
-            self.list = 2;
+        if !matches!(self.list, List::Completed) && self.pass == 0 && self.symbols == 0 {
+            self.list = List::Completed;
             self.list_completed(dark, patterns, triples);
             return;
         }
@@ -620,7 +634,7 @@ impl Finder {
         self.width = width >> shift;
         self.height = height >> shift;
         self.is_ready = true;
-        self.list = 0;
+        self.list = List::OfFirst;
         let Pixels {
             dark,
             other,
