@@ -104,37 +104,54 @@ INLINE void fill(uint8_t *to, uint8_t byte, uint64_t count)
 /* ---- numbers of 8 to 64 bits: bits that are set; zeros before the first and after the last of them; the other order of bytes, of
  * bits; and the upper or lower half of two numbers that are joined and shifted */
 
+/* Adds the bits of each four: the sums are numbers of four bits, as are those of two such words. */
+INLINE uint32_t ones_of_fours(uint32_t n)
+{
+	n -= n >> 1 & 0x55555555u;
+	return (n & 0x33333333u) + (n >> 2 & 0x33333333u);
+}
+
+INLINE uint32_t sum_of_fours(uint32_t n) { return ((n & 0x0F0F0F0Fu) + (n >> 4 & 0x0F0F0F0Fu)) * 0x01010101u >> 24; }
+
 #if defined(__clang__) || defined(__POPCNT__) /* gcc would call a function */
 INLINE uint64_t ones_64(uint64_t n) { return (uint64_t)__builtin_popcountll(n); }
 INLINE uint32_t ones_32(uint32_t n) { return (uint32_t)__builtin_popcount(n); }
 #else
+#if SIZE_MAX > 0xFFFFFFFF
 INLINE uint64_t ones_64(uint64_t n)
 {
 	n -= n >> 1 & 0x5555555555555555u;
 	n = (n & 0x3333333333333333u) + (n >> 2 & 0x3333333333333333u);
 	return ((n + (n >> 4)) & 0x0F0F0F0F0F0F0F0Fu) * 0x0101010101010101u >> 56;
 }
+#else
+INLINE uint64_t ones_64(uint64_t n) { return sum_of_fours(ones_of_fours((uint32_t)n) + ones_of_fours((uint32_t)(n >> 32))); }
+#endif
 
-INLINE uint32_t ones_32(uint32_t n) { return (uint32_t)ones_64(n); }
+INLINE uint32_t ones_32(uint32_t n) { return sum_of_fours(ones_of_fours(n)); }
 #endif
 
 #if defined(__GNUC__)
-INLINE uint64_t leading_64(uint64_t n) { return n ? (uint64_t)__builtin_clzll(n) : 64; }
-INLINE uint64_t trailing_64(uint64_t n) { return n ? (uint64_t)__builtin_ctzll(n) : 64; }
 INLINE uint32_t leading_32(uint32_t n) { return n ? (uint32_t)__builtin_clz(n) : 32; }
 INLINE uint32_t trailing_32(uint32_t n) { return n ? (uint32_t)__builtin_ctz(n) : 32; }
 #else
-INLINE uint64_t leading_64(uint64_t n)
+INLINE uint32_t leading_32(uint32_t n)
 {
 	int k;
-	for (k = 1; k < 64; k *= 2)
+	for (k = 1; k < 32; k *= 2)
 		n |= n >> k;
-	return 64 - ones_64(n);
+	return 32 - ones_32(n);
 }
 
-INLINE uint64_t trailing_64(uint64_t n) { return n ? ones_64((n & (0 - n)) - 1) : 64; }
-INLINE uint32_t leading_32(uint32_t n) { return (uint32_t)leading_64(n) - 32; }
-INLINE uint32_t trailing_32(uint32_t n) { return n ? (uint32_t)trailing_64(n) : 32; }
+INLINE uint32_t trailing_32(uint32_t n) { return n ? ones_32((n & (0 - n)) - 1) : 32; }
+#endif
+
+#if defined(__GNUC__) && SIZE_MAX > 0xFFFFFFFF
+INLINE uint64_t leading_64(uint64_t n) { return n ? (uint64_t)__builtin_clzll(n) : 64; }
+INLINE uint64_t trailing_64(uint64_t n) { return n ? (uint64_t)__builtin_ctzll(n) : 64; }
+#else /* by halves, for which a machine of 32 bits has instructions */
+INLINE uint64_t leading_64(uint64_t n) { return n >> 32 ? leading_32((uint32_t)(n >> 32)) : 32 + leading_32((uint32_t)n); }
+INLINE uint64_t trailing_64(uint64_t n) { return (uint32_t)n ? trailing_32((uint32_t)n) : 32 + trailing_32((uint32_t)(n >> 32)); }
 #endif
 
 INLINE uint16_t swapped_16(uint16_t n) { return (uint16_t)(n << 8 | n >> 8); }
