@@ -1,6 +1,5 @@
 //! Tests of damaged blocks, which are mended.
 
-use crate::checks::{check, check_eq};
 use crate::symbols::EIGHT_DIGITS;
 use qr_field::Divisor;
 use qr_mending::{mend, mend_with_erasures};
@@ -12,16 +11,16 @@ use std::process::Abort;
 fn mended_count(rt: &impl Abort, t: usize, damage: &[(usize, u8)]) -> Option<usize> {
     let mut damaged = EIGHT_DIGITS;
     for (place, codeword) in damage {
-        check!(rt; *place < 26);
+        assert!(rt; *place < 26);
         damaged[*place] = *codeword;
     }
     let divisor = Divisor::new(10);
-    check!(rt; t <= 5 && divisor.count() == 10);
+    assert!(rt; t <= 5 && divisor.count() == 10);
     let before = damaged;
     match mend(&divisor, t, &mut damaged) {
-        None => check!(rt; damaged == before),
+        None => assert!(rt; damaged == before),
         Some(changed) => {
-            check!(rt; damaged == EIGHT_DIGITS);
+            assert!(rt; damaged == EIGHT_DIGITS);
             return Some(changed);
         }
     }
@@ -44,7 +43,7 @@ fn block_of_eight_digits_damaged(rt: HostRuntime) {
         ("six codewords", 5, &six[..], None),
     ];
     for (name, t, damage, mended) in rows {
-        check_eq!(rt; mended_count(&rt, t, damage), mended, "{name}");
+        assert_eq!(rt; mended_count(&rt, t, damage), mended, "{name}");
     }
 }
 
@@ -61,21 +60,21 @@ fn mended_with_erasures(
     let mut damaged = EIGHT_DIGITS;
     let mut erased = [false; 26];
     for (place, codeword) in unread {
-        check!(rt; *place < 26);
+        assert!(rt; *place < 26);
         damaged[*place] = *codeword;
         erased[*place] = true;
     }
     for (place, codeword) in misread {
-        check!(rt; *place < 26);
+        assert!(rt; *place < 26);
         damaged[*place] = *codeword;
     }
     let divisor = Divisor::new(10);
-    check!(rt; spare <= 10 && divisor.count() == 10);
+    assert!(rt; spare <= 10 && divisor.count() == 10);
     let before = damaged;
     match mend_with_erasures(&divisor, spare, &erased, &mut damaged) {
-        None => check!(rt; damaged == before),
+        None => assert!(rt; damaged == before),
         Some(changes) => {
-            check!(rt; damaged == EIGHT_DIGITS);
+            assert!(rt; damaged == EIGHT_DIGITS);
             return Some((changes.misread, changes.erased, changes.erased_wrong));
         }
     }
@@ -183,7 +182,7 @@ fn block_of_eight_digits_with_erasures(rt: HostRuntime) {
         ),
     ];
     for (name, spare, unread, misread, mended) in rows {
-        check_eq!(rt;
+        assert_eq!(rt;
             mended_with_erasures(&rt, spare, unread, misread),
             mended,
             "{name}"

@@ -1,7 +1,6 @@
 //! Tests of `join`, which joins the contents of a series, and of `read_series` and `mend_series`, which read a series or
 //! mend it. The data codewords were worked out by hand.
 
-use crate::checks::{check, check_eq};
 use qr_bits::parse;
 use qr_field::remainder;
 use qr_layout::{Level, Version};
@@ -44,7 +43,7 @@ fn contents_that_belong_together(rt: HostRuntime) -> Result<(), Fail> {
         ("two parts", &[FIRST, SECOND], b"ABCDEFGH"),
     ];
     for (name, symbols, bytes) in rows {
-        check_eq!(rt; join_all(&rt, symbols)??.as_slice(), bytes, "{name}");
+        assert_eq!(rt; join_all(&rt, symbols)??.as_slice(), bytes, "{name}");
     }
     Ok(())
 }
@@ -61,7 +60,7 @@ fn contents_that_do_not_belong_together(rt: HostRuntime) -> Result<(), Fail> {
     ];
     for (name, symbols) in rows {
         let fault = join_all(&rt, symbols)?.err();
-        check_eq!(rt; fault, Some(ReadFault::Series), "{name}");
+        assert_eq!(rt; fault, Some(ReadFault::Series), "{name}");
     }
     Ok(())
 }
@@ -102,8 +101,8 @@ fn damaged(rt: &HostRuntime, data: &Data) -> Result<Matrix, Fail> {
 fn symbols_that_are_read(rt: HostRuntime) -> Result<(), Fail> {
     let symbols = [symbol_of(&rt, &FIRST)?, symbol_of(&rt, &SECOND)?];
     let bytes = read_series(rt.alloc(), &symbols)?;
-    check_eq!(rt; bytes.as_slice(), b"ABCDEFGH".as_slice());
-    check_eq!(rt; read_series(rt.alloc(), &[]).err(), Some(ReadFault::Series));
+    assert_eq!(rt; bytes.as_slice(), b"ABCDEFGH".as_slice());
+    assert_eq!(rt; read_series(rt.alloc(), &[]).err(), Some(ReadFault::Series));
     Ok(())
 }
 
@@ -111,12 +110,20 @@ fn symbols_that_are_read(rt: HostRuntime) -> Result<(), Fail> {
 fn squares_that_are_mended(rt: HostRuntime) -> Result<(), Fail> {
     let squares = [damaged(&rt, &FIRST)?, damaged(&rt, &SECOND)?];
     let bytes = mend_series(rt.alloc(), &squares)?;
-    check_eq!(rt; bytes.as_slice(), b"ABCDEFGH".as_slice());
+    assert_eq!(rt; bytes.as_slice(), b"ABCDEFGH".as_slice());
     let series = Some(ReadFault::Series);
-    check_eq!(rt; mend_series(rt.alloc(), &squares[..1]).err(), series, "the first part alone");
-    check_eq!(rt; mend_series(rt.alloc(), &[]).err(), series, "no square");
+    assert_eq!(rt;
+        mend_series(rt.alloc(), &squares[..1]).err(),
+        series,
+        "the first part alone"
+    );
+    assert_eq!(rt; mend_series(rt.alloc(), &[]).err(), series, "no square");
     let exchanged = [damaged(&rt, &SECOND)?, damaged(&rt, &FIRST)?];
-    check_eq!(rt; mend_series(rt.alloc(), &exchanged).err(), series, "exchanged");
+    assert_eq!(rt;
+        mend_series(rt.alloc(), &exchanged).err(),
+        series,
+        "exchanged"
+    );
     Ok(())
 }
 
@@ -143,13 +150,21 @@ fn first_refusals(rt: HostRuntime) -> Result<(), Fail> {
             light(&rt, side)?,
             light(&rt, next)?,
         ];
-        check_eq!(rt; read_series(rt.alloc(), &symbols).err(), Some(fault), "{name}, read");
+        assert_eq!(rt;
+            read_series(rt.alloc(), &symbols).err(),
+            Some(fault),
+            "{name}, read"
+        );
         let squares = [
             damaged(&rt, &FIRST)?,
             light(&rt, side)?.matrix,
             light(&rt, next)?.matrix,
         ];
-        check_eq!(rt; mend_series(rt.alloc(), &squares).err(), Some(fault), "{name}, mended");
+        assert_eq!(rt;
+            mend_series(rt.alloc(), &squares).err(),
+            Some(fault),
+            "{name}, mended"
+        );
     }
     Ok(())
 }

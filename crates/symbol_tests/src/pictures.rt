@@ -1,6 +1,5 @@
 //! Tests of clean pictures. Each picture is drawn here, pixel by pixel, without code of `qr_pictures`.
 
-use crate::checks::check_eq;
 use qr_pictures::{Picture, Turn, clean_square, write_modules};
 use std::alloc::{AllocError, Global};
 use std::test::Fail;
@@ -91,7 +90,7 @@ fn found(bytes: &[u8], width: usize, stride: usize) -> Option<(usize, usize, usi
 fn a_clean_picture_is_read(rt: HostRuntime) -> Result<(), Fail> {
     let bytes = PLAIN.bytes(rt.alloc())?;
     let wanted = Some((3, 2, 9, 0, 255, Turn::Upright));
-    check_eq!(rt; found(&bytes, WIDTH, WIDTH), wanted);
+    assert_eq!(rt; found(&bytes, WIDTH, WIDTH), wanted);
     Ok(())
 }
 
@@ -113,7 +112,10 @@ fn a_square_may_be_turned_and_light_on_dark(rt: HostRuntime) -> Result<(), Fail>
             ..PLAIN
         };
         let bytes = drawn.bytes(rt.alloc())?;
-        check_eq!(rt; found(&bytes, WIDTH, WIDTH), Some((3, 0, 0, 200, 10, *turn)));
+        assert_eq!(rt;
+            found(&bytes, WIDTH, WIDTH),
+            Some((3, 0, 0, 200, 10, *turn))
+        );
     }
     Ok(())
 }
@@ -126,12 +128,18 @@ fn a_square_may_be_at_the_edges(rt: HostRuntime) -> Result<(), Fail> {
         ..PLAIN
     };
     let bytes = drawn.bytes(rt.alloc())?;
-    check_eq!(rt; found(&bytes, WIDTH, WIDTH), Some((3, 7, 17, 0, 255, Turn::Upright)));
+    assert_eq!(rt;
+        found(&bytes, WIDTH, WIDTH),
+        Some((3, 7, 17, 0, 255, Turn::Upright))
+    );
     // without the columns to the left of the square, which are the first 7 bytes of the first row
     let Some(cut) = bytes.get(7..) else {
         return Ok(());
     };
-    check_eq!(rt; found(cut, WIDTH - 7, WIDTH), Some((3, 0, 17, 0, 255, Turn::Upright)));
+    assert_eq!(rt;
+        found(cut, WIDTH - 7, WIDTH),
+        Some((3, 0, 17, 0, 255, Turn::Upright))
+    );
     Ok(())
 }
 
@@ -150,7 +158,7 @@ fn the_modules_of_a_turned_square_are_upright(rt: HostRuntime) -> Result<(), Fai
         write_modules(&picture, &square, &mut modules);
     }
     for (i, module) in modules.iter().enumerate() {
-        check_eq!(rt; *module, u8::from(is_dark(i as u32 / 21, i as u32 % 21)));
+        assert_eq!(rt; *module, u8::from(is_dark(i as u32 / 21, i as u32 % 21)));
     }
     Ok(())
 }
@@ -163,7 +171,7 @@ fn one_other_pixel_makes_a_picture_unclean(rt: HostRuntime) -> Result<(), Fail> 
         if at < bytes.len() {
             bytes[at] = 128;
         }
-        check_eq!(rt; found(&bytes, WIDTH, WIDTH), None);
+        assert_eq!(rt; found(&bytes, WIDTH, WIDTH), None);
     }
     Ok(())
 }
@@ -171,12 +179,15 @@ fn one_other_pixel_makes_a_picture_unclean(rt: HostRuntime) -> Result<(), Fail> 
 #[test]
 fn bytes_that_are_no_picture_are_refused(rt: HostRuntime) -> Result<(), Fail> {
     let bytes = [0u8; 12];
-    check_eq!(rt; Picture::new(&bytes, 3, 4, 3).is_some(), true);
-    check_eq!(rt; Picture::new(&bytes, 2, 3, 5).is_some(), true);
-    check_eq!(rt; Picture::new(&bytes, 3, 3, 5).is_some(), false);
-    check_eq!(rt; Picture::new(&bytes, 0, 4, 3).is_some(), false);
-    check_eq!(rt; Picture::new(&bytes, 3, 0, 3).is_some(), false);
-    check_eq!(rt; Picture::new(&bytes, 3, 2, 2).is_some(), false);
-    check_eq!(rt; Picture::new(&bytes, 1, usize::MAX, usize::MAX).is_some(), false);
+    assert_eq!(rt; Picture::new(&bytes, 3, 4, 3).is_some(), true);
+    assert_eq!(rt; Picture::new(&bytes, 2, 3, 5).is_some(), true);
+    assert_eq!(rt; Picture::new(&bytes, 3, 3, 5).is_some(), false);
+    assert_eq!(rt; Picture::new(&bytes, 0, 4, 3).is_some(), false);
+    assert_eq!(rt; Picture::new(&bytes, 3, 0, 3).is_some(), false);
+    assert_eq!(rt; Picture::new(&bytes, 3, 2, 2).is_some(), false);
+    assert_eq!(rt;
+        Picture::new(&bytes, 1, usize::MAX, usize::MAX).is_some(),
+        false
+    );
     Ok(())
 }

@@ -1,7 +1,6 @@
 //! Tests of images that are written to a device. The file that is expected was made by a program in Python that shares no
 //! code with `qr_images`. The rows of the library have more images.
 
-use crate::checks::check_eq;
 use qr_devices::{Faults, Trial};
 use qr_images::{Format, ImageSettings, Modules, write_image};
 use std::test::Fail;
@@ -38,7 +37,7 @@ fn a_size_is_written(rt: HostRuntime) -> Result<(), Fail> {
     let square = Modules::new(&PATTERN, 3);
     let mut out = Trial::writer(rt.alloc(), 1000, Faults::NONE)?;
     write_image(&square, &SIZED, &mut out)?;
-    check_eq!(rt; out.bytes(), FOURFOLD.as_slice());
+    assert_eq!(rt; out.bytes(), FOURFOLD.as_slice());
     Ok(())
 }
 
@@ -47,7 +46,7 @@ fn a_device_that_is_full_stops_the_image(rt: HostRuntime) -> Result<(), Fail> {
     let square = Modules::new(&PATTERN, 3);
     let mut out = Trial::writer(rt.alloc(), 100, Faults::NONE)?;
     let result = write_image(&square, &SIZED, &mut out);
-    check_eq!(rt; result.is_err(), true);
-    check_eq!(rt; out.bytes(), &FOURFOLD[..100]);
+    assert_eq!(rt; result.is_err(), true);
+    assert_eq!(rt; out.bytes(), &FOURFOLD[..100]);
     Ok(())
 }

@@ -1,6 +1,5 @@
 //! Tests of the texts of faults.
 
-use crate::checks::check_eq;
 use qr_bits::{BitFault, ParseFault};
 use qr_parsing::DrawingFault;
 use qr_symbol::EncodeFault;
@@ -40,7 +39,7 @@ fn texts_of_faults_without_a_line(rt: HostRuntime) -> Result<(), Fail> {
         (text_of(&rt, &DrawingFault::Memory)?, "out of memory"),
     ];
     for (text, wanted) in &rows {
-        check_eq!(rt; text.as_str(), *wanted);
+        assert_eq!(rt; text.as_str(), *wanted);
     }
     Ok(())
 }
@@ -59,7 +58,7 @@ fn texts_of_faults_of_the_command(rt: HostRuntime) -> Result<(), Fail> {
         (text_of(&rt, &EncodeFault::Memory)?, "out of memory"),
     ];
     for (text, wanted) in &rows {
-        check_eq!(rt; text.as_str(), *wanted);
+        assert_eq!(rt; text.as_str(), *wanted);
     }
     Ok(())
 }

@@ -1,6 +1,5 @@
 //! Tests of symbols that are made of codewords, and of the runs of a row.
 
-use crate::checks::{check, check_eq};
 use qr_layout::{Level, Version};
 use qr_matrix::Matrix;
 use qr_symbol::laws::slow_and_fast_symbols_are_one;
@@ -42,7 +41,7 @@ static ROWS: [u32; 21] = [
 
 // Returns row and column of the first module that is not as in `ROWS`, if there is one.
 fn first_difference(rt: &impl Abort, matrix: &Matrix) -> Option<(u8, u8)> {
-    check!(*rt; matrix.side() == 21);
+    assert!(*rt; matrix.side() == 21);
     for row in 0..21u8 {
         for col in 0..21u8 {
             if matrix.dark(row, col) != (ROWS[usize::from(row)] >> (20 - col) & 1 == 1) {
@@ -56,24 +55,24 @@ fn first_difference(rt: &impl Abort, matrix: &Matrix) -> Option<(u8, u8)> {
 #[test]
 fn eight_digits_at_1_m(rt: HostRuntime) -> Result<(), Fail> {
     let version = Version::FIRST;
-    check!(rt; version.total_codewords() == 26);
+    assert!(rt; version.total_codewords() == 26);
     let symbol = build_masked(rt.alloc(), version, Level::M, &EIGHT_DIGITS, 0)?;
-    check!(rt; symbol.version == version && symbol.level == Level::M && symbol.mask == 0);
-    check_eq!(rt; first_difference(&rt, &symbol.matrix), None);
+    assert!(rt; symbol.version == version && symbol.level == Level::M && symbol.mask == 0);
+    assert_eq!(rt; first_difference(&rt, &symbol.matrix), None);
     let drawn = draw_symbol(rt.alloc(), version, Level::M, &EIGHT_DIGITS, 0)?;
-    check_eq!(rt; first_difference(&rt, &drawn), None, "drawn");
+    assert_eq!(rt; first_difference(&rt, &drawn), None, "drawn");
     // The first row begins with the dark run of a finder pattern and a light run, and ends with the dark run of another
     // finder pattern. For each of these three runs `run_end` returns the column after its last module.
-    check!(rt; drawn.side() == 21);
+    assert!(rt; drawn.side() == 21);
     for (col, end) in [(0, 7), (7, 10), (14, 21)] {
-        check_eq!(rt; drawn.run_end(0, col), end, "column {col}");
+        assert_eq!(rt; drawn.run_end(0, col), end, "column {col}");
     }
     Ok(())
 }
 
 // Returns row and column of the first module in which two squares differ, if there is one.
 fn first_that_differs(rt: &impl Abort, slow: &Matrix, fast: &Matrix) -> Option<(u8, u8)> {
-    check!(*rt; slow.side() == fast.side());
+    assert!(*rt; slow.side() == fast.side());
     for row in 0..slow.side() {
         for col in 0..slow.side() {
             if slow.dark(row, col) != fast.dark(row, col) {
@@ -94,15 +93,15 @@ fn slow_and_fast_symbols(rt: HostRuntime) -> Result<(), Fail> {
         for place in 0..version.total_codewords() {
             codewords.push((place % 251) as u8)?;
         }
-        check!(rt; codewords.len() == usize::from(version.total_codewords()));
+        assert!(rt; codewords.len() == usize::from(version.total_codewords()));
         let (slow, fast) = slow_and_fast_symbols_are_one(
             rt.alloc(),
             version,
             Level::Q,
             &codewords,
         )?;
-        check_eq!(rt; slow.matrix.side(), version.side());
-        check_eq!(rt;
+        assert_eq!(rt; slow.matrix.side(), version.side());
+        assert_eq!(rt;
             first_that_differs(&rt, &slow.matrix, &fast.matrix),
             None,
             "version {number}"

@@ -3,7 +3,6 @@
 
 ghost use Rattle.std.specs.Prelude.{◌≡◌, IfOk};
 
-use crate::checks::check_eq;
 use qr_devices::{Faults, Trial};
 use qr_drawing::{Document, DocumentSettings, write_document};
 use qr_matrix::{Matrix, matrix_of_bytes};
@@ -54,8 +53,8 @@ fn a_device_that_is_full_stops_the_document(rt: HostRuntime) -> Result<(), Fail>
         let squares = [square(rt.alloc(), &FIRST)?];
         let mut out = Trial::writer(rt.alloc(), 100, Faults::NONE)?;
         let result = write_document(&squares, &settings, &mut out);
-        check_eq!(rt; result.is_err(), true);
-        check_eq!(rt; out.bytes(), wanted);
+        assert_eq!(rt; result.is_err(), true);
+        assert_eq!(rt; out.bytes(), wanted);
     }
     Ok(())
 }
