@@ -1,10 +1,12 @@
-/* Says whether the symbols of a drawing are sound: qrencode ... | check
+/* Says whether the symbols of a drawing or of a picture are sound: qrencode ... | check, or check <label.pgm
  *
  * Reads a drawing from standard input: one of qrencode, of any type and of one symbol or of a series, as it was written or after
  * pasting changed its line ends, spaces at the ends of lines and indentation, or put empty lines between symbols. qrproved_parse_drawing
  * then says what it shows. A drawing that is damaged is looked at otherwise: one symbol in ASCII, two characters a module, '##' for a
  * dark one, two spaces for a light one, and two question marks for one that is not known, with any margin. The first and the last row
  * and column of the symbol each need a dark module, and the margin none.
+ * Standard input may also be a picture: a PGM file with a byte for each pixel (P5), or, if check was compiled with -DWITH_PNG and -lpng,
+ * a PNG file. Then qrproved_find says which symbols it shows.
  * Prints a line for each symbol, and another if the drawing is damaged but can be read; ends with the greatest status of a symbol:
  *
  *   0  sound                                     each module is that of the symbol
@@ -21,6 +23,9 @@
 #include "qrproved.h"
 #include <stdio.h>
 #include <string.h>
+#ifdef WITH_PNG
+#include <png.h>
+#endif
 
 enum { SOUND, READABLE, NO_SCANNER, NOT_READABLE };
 enum { LIGHT, DARK, UNKNOWN };
@@ -242,15 +247,84 @@ static int judge_damaged(void)
 	return status;
 }
 
-int main(void)
+/* Judges what a drawing shows. */
+static int judge_text(void)
 {
-	text_len = fread(text, 1, sizeof text - 1, stdin);
 	clean();
 	int status = judge_drawing(text, text_len);
 	for (int empty = KEPT; status < 0 && empty <= LEFT_OUT; empty++)
 		status = judge_drawing(lines, copy_lines((enum empty_lines)empty));
-	if (status < 0)
-		status = judge_damaged();
+	return status < 0 ? judge_damaged() : status;
+}
+
+/* Judges each symbol of a picture in grey, with a byte for each pixel. */
+static int judge_picture(const uint8_t *pixels, size_t len, uint32_t width, uint32_t height)
+{
+	static uint8_t squares[QRPROVED_FOUND_MAX * QRPROVED_SYMBOL_MAX];
+	static struct qrproved_found found[QRPROVED_FOUND_MAX];
+	size_t count;
+	int status = SOUND;
+	switch (qrproved_find(pixels, len, width, height, width, 1, squares, sizeof squares, found, QRPROVED_FOUND_MAX, &count)) {
+	case QRPROVED_DONE: break;
+	case QRPROVED_SETTINGS: return not_readable("the picture is too large");
+	case QRPROVED_ROOM: return not_readable("the picture is cut");
+	default: return not_readable("out of memory");
+	}
+	if (count == 0)
+		return not_readable("the picture shows no symbol");
+	for (size_t k = 0; k < count; k++)
+		status = most(status, judge(squares + k * QRPROVED_SYMBOL_MAX, (int)found[k].side));
+	return status;
+}
+
+/* The next number in the head of a PGM file, before which comments may stand, and the place after it; 0 if there is none. */
+static uint32_t next_number(size_t *at)
+{
+	uint32_t number = 0;
+	while (*at < text_len && strchr(" \t\r\n#", text[*at]))
+		*at += text[*at] == '#' ? line_len(*at) : 1;
+	while (*at < text_len && text[*at] >= '0' && text[*at] <= '9' && number < 100000)
+		number = 10 * number + (uint32_t)(text[(*at)++] - '0');
+	return number;
+}
+
+/* Judges a PGM file. */
+static int judge_pgm(void)
+{
+	size_t at = 2;
+	uint32_t width = next_number(&at), height = next_number(&at), white = next_number(&at);
+	if (width == 0 || height == 0 || white == 0 || white > 255 || at >= text_len)
+		return not_readable("the picture is no PGM file with a byte for each pixel");
+	for (size_t k = ++at; k < text_len; k++)
+		text[k] = (uint8_t)(text[k] < white ? text[k] * 255 / white : 255);
+	return judge_picture(text + at, text_len - at, width, height);
+}
+
+/* Judges a PNG file. */
+static int judge_png(void)
+{
+#ifdef WITH_PNG
+	static const png_color white = { 255, 255, 255 };
+	png_image png = { .version = PNG_IMAGE_VERSION };
+	if (!png_image_begin_read_from_memory(&png, text, text_len))
+		return not_readable("libpng does not read the picture");
+	png.format = PNG_FORMAT_GRAY;
+	if (PNG_IMAGE_SIZE(png) > sizeof lines)
+		return not_readable("the picture is too large");
+	if (!png_image_finish_read(&png, &white, lines, 0, NULL))
+		return not_readable("libpng does not read the picture");
+	return judge_picture(lines, PNG_IMAGE_SIZE(png), png.width, png.height);
+#else
+	return not_readable("a PNG file: compile check with -DWITH_PNG and -lpng");
+#endif
+}
+
+int main(void)
+{
+	text_len = fread(text, 1, sizeof text - 1, stdin);
+	int is_pgm = text_len > 2 && !memcmp(text, "P5", 2) && strchr(" \t\r\n", text[2]);
+	int is_png = text_len > 8 && !memcmp(text, "\x89PNG\r\n\x1A\n", 8);
+	int status = is_pgm ? judge_pgm() : is_png ? judge_png() : judge_text();
 	int is_done = fflush(stdout) == 0 && !ferror(stdin) && !ferror(stdout);
 	return is_done ? least(status, 2) : 2;
 }
