@@ -21,6 +21,7 @@
 ## make dist           archives and packages of all of them, in out/dist
 ## make test           runs the tests, and proves only what they are built of (20 minutes after make all lib)
 ## make check          the gate (45 to 75 minutes)
+## make check-all      the gate, and beside it the wrong bodies in groups
 ## make check-each     tries each wrong body by itself
 ## make bench          counts instructions and memory
 ## make clean          removes what was built, the kept proofs too
@@ -129,6 +130,10 @@ static: all
 # The gate.
 check: need-rt
 	@tests/all
+
+# The gate, and beside it the wrong bodies in groups.
+check-all: need-rt
+	@tests/all --all
 
 # The gate without wrong bodies, and with proofs only of what the tests are built of.
 test: need-rt
@@ -295,5 +300,5 @@ bench: all lib
 	bench/library
 	bench/memory
 
-.PHONY: all bench build-c build-everywhere build-module build-program-module build-wasm c check check-each clean crate cross everywhere help \
+.PHONY: all bench build-c build-everywhere build-module build-program-module build-wasm c check check-all check-each clean crate cross everywhere help \
     install install-lib lib module npm page print-pc prove-lib sdist static test uninstall uninstall-lib wasm wheel wheels

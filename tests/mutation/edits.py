@@ -28,10 +28,6 @@ class Edit:
         self.refused = re.findall(r"^refused: (\S+)$", self.text, re.M)
         self.callers = [it for it in items.all if it.is_function and (f"{it.owner}::{it.name}" if it.owner else it.name) in named]
 
-    def is_private(self):
-        """Returns whether it touches private functions alone, of which no other crate sees the contract."""
-        return not self.is_wide and bool(self.touched) and not any(it.is_public for it in self.touched)
-
     def paths(self):
         """Returns the paths by which a check of some functions takes those that it touches and its callers, or none if other functions
         may depend on its change."""

@@ -23,8 +23,6 @@ class Item:
 
     def __init__(self, kind, name, path, lines, owner, trait, text):
         self.is_function, self.name, self.path, self.owner, self.trait = kind == "fn", name, path, owner, trait
-        # (a method of a trait is as public as the trait, which may be another crate's)
-        self.is_public = bool(re.match(r" *pub ", text)) or trait is not None
         self.first, self.head, self.last = lines
         self.text, self.modules, self.places = text, [], []
         self.add_module(path[len("src/"):-len(".rt")])
