@@ -71,6 +71,9 @@ pub(crate) fn climb(scene: &Scene, quad: &Quad, steps: Steps, looks: Looks) -> Q
     quad
 }
 
+// How well an alignment pattern fits at most: 25 modules, each 48 or more away from the threshold.
+const FIT_MAX: i64 = 1200;
+
 /// The places of the last alignment pattern and of the modules beside it.
 #[derive(Clone, Copy)]
 struct Target {
@@ -129,26 +132,25 @@ impl Target {
         if right < 20 { None } else { Some(sum) }
     }
 
-    // Returns the place near the target at which an alignment pattern fits best.
+    // Returns the place near the target at which an alignment pattern fits best. The places are looked at in rings, each one a
+    // quarter of a module farther away. A place counts less the farther away it is, so the search ends where no place of the next
+    // rings can count more than the best one.
     fn best(&self, scene: &Scene, reach: usize) -> Option<Point> {
-        let wide = reach.min(16) * 4;
-        let width = Number::of(usize::from(scene.picture.width)) * 16;
-        let height = Number::of(usize::from(scene.picture.height)) * 16;
-        let (mut best, mut best_sum) = (None, Number(0));
-        for j in 0..wide * 2 + 1 {
-            for i in 0..wide * 2 + 1 {
-                let right = Number::of(i) - Number::of(wide);
-                let down = Number::of(j) - Number::of(wide);
-                let place = self.place(self.middle, right.0, down.0, 4);
-                if place.x < Number(0)
-                    || place.y < Number(0)
-                    || place.x >= width
-                    || place.y >= height
-                {
-                    continue;
-                }
-                if let Some(fit) = self.fit(scene, place) {
-                    let sum = fit * 64 - (right.size() + down.size()) * 16;
+        let mut best = None;
+        let mut best_sum = Number(0);
+        for ring in 0..reach.min(16) * 4 + 1 {
+            if Number(FIT_MAX) * 64 - Number::of(ring) * 16 <= best_sum {
+                break;
+            }
+            for j in 0..ring * 2 + 1 {
+                let is_edge = j == 0 || j == ring * 2;
+                let step = if is_edge || ring == 0 { 1 } else { ring * 2 };
+                for i in (0..ring * 2 + 1).step_by(step) {
+                    let right = Number::of(i) - Number::of(ring);
+                    let down = Number::of(j) - Number::of(ring);
+                    let Some((place, sum)) = self.sum_at(scene, right, down) else {
+                        continue;
+                    };
                     if sum > best_sum {
                         best_sum = sum;
                         best = Some(place);
@@ -157,6 +159,23 @@ impl Target {
             }
         }
         best
+    }
+
+    // Returns the place that is so many quarters of a module away, and how much an alignment pattern there counts, or `None` if
+    // it is not in the picture or no such pattern is there.
+    fn sum_at(&self, scene: &Scene, right: Number, down: Number) -> Option<(Point, Number)> {
+        let place = self.place(self.middle, right.0, down.0, 4);
+        let width = Number::of(usize::from(scene.picture.width)) * 16;
+        let height = Number::of(usize::from(scene.picture.height)) * 16;
+        let is_in_picture = place.x >= Number(0)
+            && place.y >= Number(0)
+            && place.x < width
+            && place.y < height;
+        if !is_in_picture {
+            return None;
+        }
+        let fit = self.fit(scene, place)?;
+        Some((place, fit * 64 - (right.size() + down.size()) * 16))
     }
 }
 

@@ -108,6 +108,8 @@ struct Trial {
     plain: Quad,
     quad: Quad,
     unit: Number,
+    /// How well the worst of its three patterns is seen.
+    quality: Number,
     is_inverse: bool,
     /// 0: none, 1: as it is, 2: with moved corners, 3: with corners that are moved in another way.
     attempt: u8,
@@ -168,6 +170,7 @@ impl Finder {
                 plain: Quad::NONE,
                 quad: Quad::NONE,
                 unit: Number(0),
+                quality: Number(0),
                 is_inverse: false,
                 attempt: 0,
                 variant: 0,
@@ -292,17 +295,19 @@ fn corners_of(map: &Map, side: usize) -> [(u32, u32); 4]
 }
 
 impl Finder {
-    // Marks the patterns that are inside the last square, and ends its trial.
+    // Marks the patterns that are inside the last square, and those that are seen less than two thirds as well as the worst of its
+    // three, and ends its trial. Letters are mostly seen so, and the other symbols of a picture are not.
     fn mark(&mut self, patterns: &mut [Pattern]) {
         self.trial.attempt = 0;
         self.symbols = self.symbols.saturating_add(1);
+        let least = self.trial.quality * 2 / 3;
         let Some(map) = self.trial.quad.map() else {
             return;
         };
         let corners = corners_of(&map, self.trial.quad.side);
         let scale = Number(1 << pass_of(self.pass).shift.min(4));
         for k in 0..self.patterns.min(patterns.len()) {
-            if is_inside(&corners, patterns[k].middle.times(scale)) {
+            if patterns[k].quality < least || is_inside(&corners, patterns[k].middle.times(scale)) {
                 patterns[k].is_used = true;
             }
         }
@@ -530,7 +535,7 @@ impl Finder {
     // Begins to try three patterns, if the timing patterns between them fit.
     fn begin(&mut self, scene: &Scene, corners: &Corners) {
         let scale = 1i64 << pass_of(self.pass).shift.min(4);
-        let (plain, timing) = corners.choose(scene, scale);
+        let (plain, timing) = corners.choose(scene, scale, self.symbols > 0);
         if timing < Number(600) || scene.share(&plain) < Number(660) {
             return;
         }
@@ -562,6 +567,7 @@ impl Finder {
             plain,
             quad,
             unit,
+            quality: corners.worst_quality(),
             is_inverse: self.trial.is_inverse,
             attempt: 1,
             variant: 0,

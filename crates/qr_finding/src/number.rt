@@ -1,8 +1,9 @@
-//! Whole numbers that stop at the ends of 64 bits. So the search for symbols needs no bound on what it computes.
+//! Whole numbers of 64 bits whose sums and products wrap, so the search for symbols needs no bound on what it computes. The places
+//! of a picture have at most 20 bits, so what the search computes of them fits. If something did not, other squares would be tried.
 
 use std::ops::{Add, Div, Mul, Neg, Sub};
 
-/// A whole number. A sum, a difference or a product that does not fit 64 bits is the nearest number that does.
+/// A whole number. Of a sum, a difference or a product that does not fit 64 bits only the lowest 64 are kept.
 #[derive(Clone, Copy, PartialEq, Eq, PartialOrd, Ord)]
 pub(crate) struct Number(pub(crate) i64);
 
@@ -43,7 +44,7 @@ impl Add<Number> for Number {
     type Output = Number;
 
     fn add(self, rhs: Number) -> Number {
-        Number(self.0.saturating_add(rhs.0))
+        Number(self.0.wrapping_add(rhs.0))
     }
 }
 
@@ -51,7 +52,7 @@ impl Add<i64> for Number {
     type Output = Number;
 
     fn add(self, rhs: i64) -> Number {
-        Number(self.0.saturating_add(rhs))
+        Number(self.0.wrapping_add(rhs))
     }
 }
 
@@ -59,7 +60,7 @@ impl Sub<Number> for Number {
     type Output = Number;
 
     fn sub(self, rhs: Number) -> Number {
-        Number(self.0.saturating_sub(rhs.0))
+        Number(self.0.wrapping_sub(rhs.0))
     }
 }
 
@@ -67,7 +68,7 @@ impl Sub<i64> for Number {
     type Output = Number;
 
     fn sub(self, rhs: i64) -> Number {
-        Number(self.0.saturating_sub(rhs))
+        Number(self.0.wrapping_sub(rhs))
     }
 }
 
@@ -75,7 +76,7 @@ impl Mul<Number> for Number {
     type Output = Number;
 
     fn mul(self, rhs: Number) -> Number {
-        Number(self.0.saturating_mul(rhs.0))
+        Number(self.0.wrapping_mul(rhs.0))
     }
 }
 
@@ -83,7 +84,7 @@ impl Mul<i64> for Number {
     type Output = Number;
 
     fn mul(self, rhs: i64) -> Number {
-        Number(self.0.saturating_mul(rhs))
+        Number(self.0.wrapping_mul(rhs))
     }
 }
 
@@ -91,7 +92,7 @@ impl Neg for Number {
     type Output = Number;
 
     fn neg(self) -> Number {
-        Number(0i64.saturating_sub(self.0))
+        Number(0i64.wrapping_sub(self.0))
     }
 }
 

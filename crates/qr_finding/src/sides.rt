@@ -134,6 +134,14 @@ impl Corners {
         (self.corner.unit + self.right.unit + self.below.unit) / 3 * scale
     }
 
+    /// Returns how well the worst of the three is seen.
+    pub(crate) fn worst_quality(&self) -> Number {
+        self.corner
+            .quality
+            .least(self.right.quality)
+            .least(self.below.quality)
+    }
+
     fn units(&self, view: &View) -> Units {
         let to_right = toward(self.corner.middle, self.right.middle, Number(256));
         let down = toward(self.corner.middle, self.below.middle, Number(256));
@@ -182,7 +190,9 @@ impl Corners {
         (across + down) / 2 + 112
     }
 
-    fn sides(&self, view: &View, units: &Units) -> Sides {
+    // Returns the likely sides. If `is_strict` is true, there are none where the changes along the timing patterns are far from what
+    // the size of the modules wants, as between letters: both by more than a third, or one by more than a half.
+    fn sides(&self, view: &View, units: &Units, is_strict: bool) -> Sides {
         let estimate = self.estimate(units);
         let near = (estimate / 16 - 15) / 4 * 4 + 17;
         let step = if estimate / 16 >= near { 4 } else { -4 };
@@ -190,8 +200,16 @@ impl Corners {
             list: [0; 8],
             count: 0,
         };
-        none.with(self.side_across(view, units), estimate)
-            .with(self.side_down(view, units), estimate)
+        let (across, down) = (self.side_across(view, units), self.side_down(view, units));
+        let off_across = (across * 16 - estimate).size();
+        let off_down = (down * 16 - estimate).size();
+        let is_far = off_across.least(off_down) > estimate / 3
+            || off_across.most(off_down) > estimate / 2;
+        if is_strict && is_far {
+            return none;
+        }
+        none.with(across, estimate)
+            .with(down, estimate)
             .with(near, estimate)
             .with(near + step, estimate)
             .with(near - step, estimate)
@@ -199,12 +217,12 @@ impl Corners {
     }
 
     /// Returns the square that fits the timing patterns best, among the likely sides and two fourth places, and the share of
-    /// the modules of these patterns that are right, in parts of 1,024.
-    pub(crate) fn choose(&self, scene: &Scene, scale: i64) -> (Quad, Number) {
+    /// the modules of these patterns that are right, in parts of 1,024. `is_strict` leaves out what may be letters.
+    pub(crate) fn choose(&self, scene: &Scene, scale: i64, is_strict: bool) -> (Quad, Number) {
         let units = self.units(&scene.view);
         let to_right = (units.corner_right * (1 << 20) / units.right_right.most(Number(1))).root();
         let to_below = (units.corner_down * (1 << 20) / units.below_down.most(Number(1))).root();
-        let sides = self.sides(&scene.view, &units);
+        let sides = self.sides(&scene.view, &units, is_strict);
         let (mut best, mut share) = (Quad::NONE, Number(0));
         for k in 0..16usize {
             if k / 2 >= sides.count || share >= Number(1000) {
