@@ -691,7 +691,8 @@ uint8_t qrproved_parse_drawing(const uint8_t *text, size_t text_len, uint8_t *mo
  * pictures are searched, and nothing is promised of which symbols are found there; but the modules of each square that is found are
  * what sampling gives for the picture and these corners. In a square that counts as read at most one module in five is wrong or not
  * known; in a picture that is searched it is at most one in ten, if more than one in eight modules of its timing patterns is wrong or
- * not known.
+ * not known. And if a codeword of a block has a module that is not known, at least three of the codewords that correct the block are
+ * left, when one is taken for each codeword that is wrong or has such a module.
  *
  * The modules of square k are written to modules[k * QRPROVED_SYMBOL_MAX] and the bytes that follow, row by row as qrproved_mend takes
  * them: 0 is a light module, 1 is a dark module, and 2 is a module that is not known. The other bytes of the buffer are unchanged. Its

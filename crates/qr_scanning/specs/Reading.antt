@@ -1,6 +1,8 @@
 -- When a square counts as a symbol.
-use Rattle.std.specs.Prelude.{ℕ, ◌+◌, ◌-◌, ◌*◌, ◌%◌, ◌==◌, ◌≤◌, List, if◌then◌else◌, leb, slice_index_or}
+use Rattle.std.specs.Prelude.{◌≡◌, ℕ, ◌+◌, ◌-◌, ◌*◌, ◌%◌, ◌==◌, ◌||◌, ◌≤◌, Bool, true, List, if◌then◌else◌, leb, slice_index_or}
+use Rattle.std.specs.List.{All}
 use Rattle.qr_bits.specs.Parsing.{Content}
+use Rattle.qr_layout.specs.Blocks.{spare_of}
 use Rattle.qr_layout.specs.declared.level.Level.{Level}
 use Rattle.qr_matrix.specs.Bytes.{square_of_bytes, square_of_unknown}
 use Rattle.qr_matrix.specs.Grid.{Grid}
@@ -8,8 +10,14 @@ use Rattle.qr_mending.specs.Mending.{HasWrongModules, IsMendedReading}
 use Rattle.qr_mending.specs.declared.erasures.Changes.{Changes}
 use Rattle.qr_sampling.specs.Sums.{sum_below}
 
--- The square `g` is mended and read, and at most one of its modules in `share` is wrong or not known. `unknown` is dark where a
--- module is not known [own]
+-- What was read of a block is checked. Each erased codeword and each misread one takes one of the `spare` codewords that correct the
+-- block, for its value, and at least three more are left to check the block. A block of which no codeword is erased needs no more than
+-- mending asks for: each misread codeword takes two [own]
+abbrev pub is_checked : (spare : ℕ) → Changes → Bool
+is_checked spare c = c.erased == 0 || leb (c.erased + c.misread + 3) spare
+
+-- The square `g` is mended and read, each of its blocks is checked, and at most one of its modules in `share` is wrong or not known.
+-- `unknown` is dark where a module is not known [own]
 pub record IsReadableBy (share : ℕ) (unknown g : Grid) : Type 0 where
   pub version : ℕ
   pub level : Level
@@ -20,6 +28,7 @@ pub record IsReadableBy (share : ℕ) (unknown g : Grid) : Type 0 where
   pub read : IsMendedReading unknown g version level mask content changed
   pub counted : HasWrongModules unknown g version level mask changed wrong
   pub few : wrong * share ≤ g.side * g.side
+  pub checked : All (λ c. is_checked (spare_of version level) c ≡ true) changed
 
 -- The same, if one module in five may be wrong or not known [own]
 abbrev pub IsReadableSquare : (unknown g : Grid) → Type 0

@@ -4,7 +4,8 @@
 //! A square counts as a symbol if it can be mended and at most one of its modules in five is wrong or not known. Without
 //! this limit, squares of noise with modules that are not known are now and then mended to some text. In a picture that is
 //! not clean, at most one module in ten may be wrong if the timing patterns do not show that the square has the right
-//! side: three finder patterns may be of several symbols.
+//! side: three finder patterns may be of several symbols. And if modules of a block are not known, three of the codewords that
+//! correct it are left as a check: without one, such a block is mended to any text.
 //!
 //! The files of `src`:
 //!

@@ -1,11 +1,12 @@
 //! Whether a square is a symbol.
 
 ghost use Rattle.std.specs.Prelude.{◌≡◌, ◌↔◌, ◌+◌, ◌-◌, ◌*◌, ◌≤◌, length, true, IfOk};
+ghost use Rattle.std.specs.List.{All};
 ghost use Rattle.qr_matrix.specs.Bytes.{square_of_bytes, square_of_unknown};
-ghost use Rattle.qr_scanning.specs.Reading.{IsReadableBy, is_wrong_timing, share_of, wrong_timing};
+ghost use Rattle.qr_scanning.specs.Reading.{IsReadableBy, is_checked, is_wrong_timing, share_of, wrong_timing};
 
 use qr_matrix::matrices_of_bytes;
-use qr_mending::mend_symbol_with_unknown;
+use qr_mending::{Changes, mend_symbol_with_unknown};
 use qr_symbol::ReadFault;
 use std::alloc::{AllocError, Global};
 
@@ -59,7 +60,32 @@ pub(crate) fn share_of(modules: &[u8], side: u8) -> u32
     }
 }
 
-// Returns whether the square can be mended, and at most one of its modules in `share` is wrong or not known.
+// How many of the codewords that correct a block are left to check it, if a codeword of it is erased.
+const CHECKS: u8 = 3;
+
+// Returns whether what was read of a block is checked.
+fn is_checked(changes: &Changes, spare: u8) -> bool
+    ensures { result ≡ is_checked spare changes.now }
+{
+    changes.erased == 0
+        || spare >= CHECKS
+            && changes.erased.saturating_add(changes.misread) <= usize::from(spare - CHECKS)
+}
+
+// Returns whether what was read of each block is checked.
+fn are_checked(changed: &[Changes], spare: u8) -> bool
+    ensures { (result ≡ true) ↔ All (λ c. is_checked spare c ≡ true) changed.now }
+{
+    for k in 0..changed.len() {
+        if !is_checked(&changed[k], spare) {
+            return false;
+        }
+    }
+    true
+}
+
+// Returns whether the square can be mended, each of its blocks is checked, and at most one of its modules in `share` is wrong or not
+// known.
 #[inline(never)]
 pub(crate) fn is_symbol(
     alloc: Global,
@@ -77,10 +103,12 @@ pub(crate) fn is_symbol(
     let (matrix, unknown) = matrices_of_bytes(alloc, modules, side)?;
     match mend_symbol_with_unknown(alloc, &matrix, &unknown) {
         Ok(mended) => {
-            Ok(
-                u64::from(mended.wrong_modules) * u64::from(share)
-                    <= u64::from(side) * u64::from(side),
-            )
+            let area = u64::from(side) * u64::from(side);
+            if u64::from(mended.wrong_modules) * u64::from(share) > area {
+                return Ok(false);
+            }
+            let spare = mended.version.spare(mended.level);
+            Ok(are_checked(&mended.changed, spare))
         }
         Err(fault) => match fault {
             ReadFault::Memory => Err(AllocError),

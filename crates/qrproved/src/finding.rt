@@ -131,7 +131,9 @@ fn write_scanned(squares: &[Scanned], out: &mut [u8])
 /// `modules`, row by row as `qrproved_mend` takes them: 1 for dark, 0 for light, and 2 where this is not known. They are what
 /// sampling gives for the picture and these corners, or, if the picture shows one symbol and nothing else, drawn without any
 /// fault, the modules that are drawn. In a square that can be mended at most one module in five is wrong or not known. In a
-/// square that was sampled it is at most one in ten, if more than one in eight of the modules of its timing patterns is.
+/// square that was sampled it is at most one in ten, if more than one in eight of the modules of its timing patterns is. And if a
+/// codeword of a block has a module that is not known, at least three of the codewords that correct the block are left, when one is
+/// taken for each codeword that is wrong or has such a module.
 ///
 /// If the picture shows one symbol that can be mended so and nothing else, drawn without any fault, exactly this symbol is
 /// found, with exactly its modules.

@@ -1,13 +1,15 @@
 -- Symbols can be read: no codeword is changed by mending, and no module is wrong.
-use Rattle.std.proofs.Common.{◌≡◌, ◌∙◌, ◌↔◌, ℕ, ◌≤◌, false, List, [], ◌∷◌, ◌++◌, map, length, get_or, ap, arith, refl, subst, sym}
+use Rattle.std.proofs.Common.{◌≡◌, ◌∙◌, ◌↔◌, ℕ, ◌≤◌, true, false, List, [], ◌∷◌, ◌++◌, map, length, get_or, ap, arith, refl, subst, sym}
 use Rattle.std.specs.Prelude.{Option, IfOk, Result, Ok, Err}
+use Rattle.std.specs.List.{All}
 use Rattle.std.proofs.lemmas.List.{length-replicate, get_or-replicate}
+use Rattle.std.proofs.lemmas.List.Elements.{All-cons}
 use lib.ListN.{replicate}
 use Rattle.qr_field.proofs.lemmas.laws.DistanceLemmas.{difference-same}
 use Rattle.qr_field.specs.Distance.{differences}
 use Rattle.qr_bits.specs.{Interpretation.MayWrite, Parsing.Content}
 use Rattle.qr_bits.specs.declared.{interpretation.Interpretation.Interpretation, modes.Rule.Rule, stream.Header.Header}
-use Rattle.qr_layout.specs.{Blocks.{blocks_of, data_codewords_of}, declared.level.Level.Level}
+use Rattle.qr_layout.specs.{Blocks.{blocks_of, data_codewords_of, spare_of}, declared.level.Level.Level}
 use Rattle.qr_matrix.proofs.Facts.{colour-square, square-same}
 use Rattle.qr_matrix.specs.{Bytes.{byte_of}, Grid.{Grid, IsSquare, colour, light, square}}
 use Rattle.qr_mending.proofs.Facts.{final-in-blocks, light-mended, unerased}
@@ -20,7 +22,7 @@ use Rattle.qr_symbol.specs.Interleaving.{IsInterleaved, block_count, blocks_in, 
 use Rattle.qr_symbol.specs.Reading.{IsRead, IsReading, interpreted_content}
 use Rattle.qr_symbol.specs.Symbol.{colour_of, grid_of}
 use Rattle.qr_sampling.specs.declared.picture.Picture.{Picture}
-use Rattle.qr_scanning.specs.{Laws.{FindsInput, SymbolsAreReadable}, Reading.{IsReadableSquare}, Scanning.{FindsSymbol}}
+use Rattle.qr_scanning.specs.{Laws.{FindsInput, SymbolsAreReadable}, Reading.{IsReadableSquare, is_checked}, Scanning.{FindsSymbol}}
 use Rattle.qr_scanning.proofs.lemmas.clean.{square-again}
 use Rattle.qr_scanning.specs.declared.scanning.Scanned.{Scanned}
 
@@ -72,6 +74,11 @@ symbol-again v l rule i x h mask g p q may s = record {
   parsed = symbol-parsed v l rule i x h mask g may s;
 }
 
+-- blocks without erased codewords are checked
+unerased-checked : (spare : ℕ) (xs : List ℕ) → All (λ c. is_checked spare c ≡ true) (map unerased xs)
+unerased-checked spare [] = λ k d l. absurd (omega arith)
+unerased-checked spare (x ∷ xs) = All-cons (λ c. is_checked spare c ≡ true) (unerased x) (map unerased xs) refl (unerased-checked spare xs)
+
 -- a symbol can be read
 pub symbol-readable : ((g : Grid) (p : Content) → (h : IsReading g p) → IsMendedReading (light g.side) g h.version h.level h.mask p (replicate (blocks_in h.version h.level) no_changes))
     → ((g : Grid) (v : ℕ) (l : Level) (mask : ℕ) (changed : List Changes) (wrong : ℕ) → IsSquare g.side g
@@ -108,6 +115,7 @@ symbol-readable mended sound v l rule i x h mask g p q may s =
       read = record { message = s.message; form = form; parsed = parsed };
       counted = counted;
       few = omega (arith, none);
+      checked = unerased-checked (spare_of v l) (replicate (block_count (data_sizes (blocks_of v l))) 0);
     }
 
 -- a symbol that is found by its drawing is read
