@@ -281,8 +281,8 @@ export function read(square: QRSymbol | Found | Uint8Array | Picture): Content;
  * Returns what a damaged symbol contains, and its damage. A module is 0 for light, 1 for dark, and 2 if it is not known: its
  * codeword spends half as much of the correction as a wrong one. Throws as read does, but FormatError and CheckError only if
  * there is more damage than can be mended; and SettingsError for another module. Of a square in a picture at most one module in five may
- * be wrong or not known, or one in ten if the timing patterns are damaged, since other squares that are no symbols can now and
- * then be mended.
+ * be wrong or not known, or one in ten if the timing patterns are damaged, and of a block with modules that are not known
+ * three of the codewords that correct it have to be left, since other squares that are no symbols can now and then be mended.
  */
 export function mend(square: QRSymbol | Found | Uint8Array | Picture): Mended;
 
@@ -337,7 +337,7 @@ export class Found {
   readonly isMirrored: boolean;
   /**
    * Whether it can be mended, and at most one of its modules in five is wrong or not known, or one in ten if the timing patterns are
-   * damaged. Only `unread: true` finds others.
+   * damaged, and enough of each block is left as a check. Only `unread: true` finds others.
    */
   readonly isRead: boolean;
   /** Returns what the symbol contains, as the function read does. */

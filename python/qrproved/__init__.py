@@ -612,7 +612,7 @@ class Found:
     """True if its first row goes from the first corner to the last one, and not to the second."""
     is_read: bool
     """True if it can be mended, and at most one of its modules in five is wrong or not known, or one in ten if the timing patterns
-    are damaged. Only find(picture, unread=True) finds others."""
+    are damaged, and enough of each block is left as a check. Only find(picture, unread=True) finds others."""
 
     def read(self) -> Content:
         """Returns what the symbol says, as the function read does."""
@@ -963,8 +963,9 @@ def mend(modules: Union[Symbol, Found, Bytes, Picture], side: Optional[int] = No
     In each block at most changed_allowed codewords are mended. A codeword with a module that is not known takes half as much of
     the correction as a wrong one. Of the 30 modules of format information any six may be wrong, or 13 not known: the number not
     known and twice the number of wrong ones are at most 13. No other module has to be right. But of a square in a picture at most
-    one module in five may be wrong or not known, or one in ten if the timing patterns are damaged, since other squares that are
-    no symbols can now and then be mended.
+    one module in five may be wrong or not known, or one in ten if the timing patterns are damaged, and of a block with modules
+    that are not known three of the codewords that correct it have to be left, since other squares that are no symbols can now and
+    then be mended.
 
     Raises SideError if no version has the side, RoomError if there are too few modules, SettingsError if one is more than 2,
     FormatError if both copies of the format information are too damaged, CheckError if a block is, SegmentsError if the data
