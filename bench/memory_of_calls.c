@@ -91,10 +91,14 @@ static __attribute__((noinline)) void make(void)
 		status = qrproved_draw_row(input, input_len, number, level % 3, 4, 10, out, sizeof out, &written);
 	else if (!strcmp(call, "document"))
 		status = qrproved_document(input, input_len, number, (uint32_t)(input_len / number / number), level % 3, 4, 330, out, sizeof out, &written);
+	else if (!strcmp(call, "pdf"))
+		status = qrproved_pdf(input, input_len, number, (uint32_t)(input_len / number / number), 4, 330, 0x102030FF, 0xFFFFFFFF, out, sizeof out, &written);
 	else if (!strcmp(call, "sheets"))
 		status = qrproved_sheets(input, input_len, number, (uint32_t)(input_len / number / number), 4, 330, &PAPER, out, sizeof out, &written);
 	else if (!strcmp(call, "image"))
 		status = qrproved_image(input, input_len, number, rule, 8, 4, 0, 0, 0, out, sizeof out, &written);
+	else if (!strcmp(call, "png"))
+		status = qrproved_png(input, input_len, number, 8, 4, 0, 0x102030FF, 0, out, sizeof out, &written);
 	else if (!strcmp(call, "parse_drawing"))
 		status = qrproved_parse_drawing(input, input_len, out, sizeof out, &drawn);
 	else if (!strcmp(call, "room"))

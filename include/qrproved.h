@@ -7,8 +7,8 @@
  * contain the quiet zone, which is the four light modules that a drawing needs on each side; qrproved_draw and
  * qrproved_image add a margin, whose width the caller passes. For machines with little memory, qrproved_encode_bits writes a bit
  * for each module, and qrproved_draw_row draws such a square line by line. After a call the library keeps no state, no file and
- * no lock. A call allocates memory by malloc and realloc, and frees all of it before it returns; qrproved_draw_row and
- * qrproved_image allocate none.
+ * no lock. A call allocates memory by malloc and realloc, and frees all of it before it returns; qrproved_draw_row,
+ * qrproved_image and qrproved_png allocate none.
  *
  * At each call the caller has to meet these conditions:
  * - each pointer with a length beside it points to as many bytes as the length says, or for `ecis` to as many structs; each
@@ -104,8 +104,7 @@ extern "C" {
 
 /* The statuses, of which each call except qrproved_version returns one. The comment at each call has the exact causes of its
  * statuses, in the order in which the call checks them. On every status but 0 the caller's buffers and struct are unchanged;
- * but on ROOM qrproved_draw, qrproved_draw_row, qrproved_document, qrproved_sheets and qrproved_image set the number `written`, and
- * on LOGO qrproved_encode_logo sets the number `largest`.
+ * but on ROOM the calls that write a text or a file set the number `written`, and on LOGO qrproved_encode_logo sets the number `largest`.
  * Later versions may add statuses, and do not change the meaning of these. */
 #define QRPROVED_DONE 0     /* the result is written */
 #define QRPROVED_EMPTY 1    /* the input has no byte */
@@ -610,6 +609,28 @@ QRPROVED_CALL(12)
 uint8_t qrproved_image(const uint8_t *modules, size_t modules_len, uint32_t side, uint32_t format, uint32_t scale, uint32_t margin,
                        uint32_t pixels_a_metre, uint32_t left, uint32_t top, uint8_t *image, size_t image_len, size_t *written);
 
+/* Writes the image of a square of modules as a PNG file in two colours. All that qrproved_image has too means the same here. It
+ * allocates no memory.
+ *
+ * side    number of modules on a side, from 1 to 177
+ * scale   pixels of a module on each side, from 1 to QRPROVED_SCALE_MAX
+ * margin  number of light modules on each side of the square, from 0 to QRPROVED_MARGIN_MAX; a scanner needs 4
+ * pixels_a_metre  how many pixels of the printed image a metre has, below 2^31, or 0 if the file is not to say it
+ * dark, light  the colours of dark and of light modules, as 0xRRGGBBAA: red, green and blue, and how opaque the colour is, from
+ *         0x00 for a colour that is not seen to 0xFF. The margin has the colour of light modules. Scanners need a dark colour on a
+ *         light one; the call does not check this
+ * image, written  as in qrproved_image
+ *
+ * Returns the first of these statuses whose cause applies:
+ *   SETTINGS  side, scale, margin or pixels_a_metre is out of its range
+ *   ROOM      modules_len is less than side times side
+ *   ROOM      image_len is less than the length of the file
+ *   DONE      the call succeeded
+ */
+QRPROVED_CALL(11)
+uint8_t qrproved_png(const uint8_t *modules, size_t modules_len, uint32_t side, uint32_t scale, uint32_t margin,
+                     uint32_t pixels_a_metre, uint32_t dark, uint32_t light, uint8_t *image, size_t image_len, size_t *written);
+
 /* Writes squares of modules as a document for print, which says how large it is on paper. The squares all have the same side. An
  * SVG or EPS document has them one below the other, and a PDF document has a page for each. The buffers are as in qrproved_draw.
  *
@@ -633,6 +654,30 @@ uint8_t qrproved_image(const uint8_t *modules, size_t modules_len, uint32_t side
 QRPROVED_CALL(10)
 uint8_t qrproved_document(const uint8_t *modules, size_t modules_len, uint32_t side, uint32_t count, uint32_t format,
                           uint32_t margin, uint32_t micrometres, uint8_t *text, size_t text_len, size_t *written);
+
+/* Writes squares of modules as a PDF document in two colours, with a page for each. All that qrproved_document has too means the
+ * same here.
+ *
+ * side         number of modules on a side, from 1 to 177
+ * count        number of squares, from 1 to QRPROVED_COUNT_MAX
+ * margin       number of light modules on each side of each square, from 0 to QRPROVED_MARGIN_MAX; a scanner needs 4
+ * micrometres  width of a module in micrometres, from 1 to 1,000,000
+ * dark, light  the colours of dark and of light modules, as 0xRRGGBBAA: red, green and blue, and 0xFF. If the last byte of `light`
+ *              is 0x00, light modules and the margin are not drawn, so that what is below shows through. Scanners need a dark
+ *              colour on a light one; the call does not check this
+ * text, written  as in qrproved_document
+ *
+ * Returns the first of these statuses whose cause applies:
+ *   SETTINGS  side, count, margin or micrometres is out of its range, the last byte of dark is not 0xFF, or that of light is neither
+ *             0xFF nor 0x00
+ *   ROOM      modules_len is less than count times side times side
+ *   ROOM      text_len is less than the length of the document
+ *   DONE      the call succeeded
+ * If memory is refused, the call returns MEMORY in place of any status after the first ROOM.
+ */
+QRPROVED_CALL(11)
+uint8_t qrproved_pdf(const uint8_t *modules, size_t modules_len, uint32_t side, uint32_t count, uint32_t margin,
+                     uint32_t micrometres, uint32_t dark, uint32_t light, uint8_t *text, size_t text_len, size_t *written);
 
 /* Writes squares of modules as labels on sheets of label paper: a PDF document, in which each page is as large as the paper. The
  * squares all have the same side. A label is a square with its margin. The first `first` places of the first page stay free. Then
@@ -764,6 +809,7 @@ uint8_t qrproved_room(uint32_t version, uint32_t level, uint32_t mode, uint32_t 
 #define QRPROVED_DRAW_MEMORY(drawing, side, count, margin) \
 	(3000 + (size_t)(count) * ((drawing) == QRPROVED_SVG ? 18 * (size_t)(side) * (side) : 5 * QRPROVED_AREA(side, margin)))
 #define QRPROVED_DOCUMENT_MEMORY(side, count) (5000 + (size_t)(count) * (1500 + 18 * (size_t)(side) * (side)))
+#define QRPROVED_PDF_MEMORY(side, count) QRPROVED_DOCUMENT_MEMORY(side, count)
 #define QRPROVED_SHEETS_MEMORY(side, count) (5000 + (size_t)(count) * (1500 + 18 * (size_t)(side) * (side)))
 #define QRPROVED_PARSE_DRAWING_MEMORY(side, count, margin) \
 	(4500 + (size_t)(count) * (16 * (size_t)(side) * (side) + 4 * QRPROVED_AREA(side, margin)))
@@ -800,6 +846,10 @@ QRPROVED_CALL(12)
 uint8_t qrproved_document_in(void *memory, size_t memory_len, const uint8_t *modules, size_t modules_len, uint32_t side,
                              uint32_t count, uint32_t format, uint32_t margin, uint32_t micrometres, uint8_t *text,
                              size_t text_len, size_t *written);
+QRPROVED_CALL(13)
+uint8_t qrproved_pdf_in(void *memory, size_t memory_len, const uint8_t *modules, size_t modules_len, uint32_t side, uint32_t count,
+                        uint32_t margin, uint32_t micrometres, uint32_t dark, uint32_t light, uint8_t *text, size_t text_len,
+                        size_t *written);
 QRPROVED_CALL_2(9, 12)
 uint8_t qrproved_sheets_in(void *memory, size_t memory_len, const uint8_t *modules, size_t modules_len, uint32_t side,
                            uint32_t count, uint32_t margin, uint32_t micrometres, const struct qrproved_sheet *sheet,

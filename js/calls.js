@@ -138,6 +138,14 @@ export function printed(modules, side, count, kind, margin, micrometres) {
   });
 }
 
+/** Returns a PDF document in two colours, as bytes: each is a number 0xRRGGBBAA. */
+export function colouredPdf(modules, side, count, margin, micrometres, dark, light) {
+  return run(() => {
+    const given = [BigInt(put(modules)), BigInt(modules.length), side, count, margin, micrometres, dark, light];
+    return copied(...written(MODULE_LIKELY * modules.length, (...buffer) => call('qrproved_pdf', ...given, ...buffer)));
+  });
+}
+
 /** Returns a PDF of sheets, as bytes. The lengths of the sheet are in micrometres. */
 export function sheetsBy(modules, side, count, margin, micrometres, sheet) {
   return run(() => {
@@ -153,6 +161,14 @@ function imageLikely(modules, side, format, scale, margin) {
   if (format === 'png') return IMAGE_LIKELY + 3 * modules.length;
   const rows = side + 2 * margin, pixels = rows * scale, line = Math.ceil(pixels / 8);
   return IMAGE_LIKELY + (format === 'zpl' ? rows * (2 * line + scale) : (pixels + 254) * (line + 1));
+}
+
+/** Returns a PNG file in two colours, as bytes: each is a number 0xRRGGBBAA. */
+export function colouredPng(modules, side, scale, margin, pixelsAMetre, dark, light) {
+  return run(() => {
+    const given = [BigInt(put(modules)), BigInt(modules.length), side, scale, margin, pixelsAMetre, dark, light];
+    return copied(...written(imageLikely(modules, side, 'png', scale, margin), (...buffer) => call('qrproved_png', ...given, ...buffer)));
+  });
 }
 
 /** Returns the file of an image, as bytes. `format` is a name in FORMATS. */

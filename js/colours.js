@@ -39,6 +39,11 @@ export function coloursOf({ dark, light, inverse }) {
   return colours;
 }
 
+/** Returns the colours as the library takes them, 0xRRGGBBAA. A ground without a colour is white that is not seen. */
+export function numbersOf({ dark, light }) {
+  return [`${dark.slice(1)}ff`, light === null ? `${LIGHT.slice(1)}00` : `${light.slice(1)}ff`].map((digits) => parseInt(digits, 16));
+}
+
 /** Returns a string for XML, without the control characters that it cannot have. */
 function escaped(name, text) {
   if (typeof text !== 'string') throw new TypeError(`${name} is a string, and not of type ${typeof text}`);

@@ -95,15 +95,16 @@ export class QRSymbol {
    * `mm` is the width of the image with its margin, in millimetres; in its place, `dpi` is the number of pixels of an inch. `fitMm` stands in
    * place of `scale` and `mm`: it is the most that the image may be wide for a printer with `dpi` dots an inch, 203 unless given. A module
    * has as many whole pixels as fit, and printedSize says how wide the image is. Throws a TypeError for sizes that exclude each other, and
-   * SettingsError for a size that PNG cannot say: less than one pixel a metre, or more than 2147483647.
+   * SettingsError for a size that PNG cannot say (less than one pixel a metre, or more than 2147483647), and for colours as svg does.
    */
-  png(options?: { scale?: number; margin?: number; mm?: number; dpi?: number; fitMm?: number; quiet?: boolean }): Uint8Array;
+  png(options?: Colours & { scale?: number; margin?: number; mm?: number; dpi?: number; fitMm?: number; quiet?: boolean }): Uint8Array;
   /**
    * Returns a PDF document with a page as large as the symbol with its margin. `mm` is its width, in millimetres; unless given, a module is
-   * 1 mm wide. A module has whole micrometres, so the width may differ from `mm` by half a micrometre for each module.
+   * 1 mm wide. A module has whole micrometres, so the width may differ from `mm` by half a micrometre for each module. With `light: null`
+   * no ground is drawn. Throws SettingsError for colours as svg does.
    */
-  pdf(options?: { margin?: number; mm?: number; quiet?: boolean }): Uint8Array;
-  /** Returns a document in Encapsulated PostScript, with the options of pdf. */
+  pdf(options?: Colours & { margin?: number; mm?: number; quiet?: boolean }): Uint8Array;
+  /** Returns a document in Encapsulated PostScript, with the options of pdf but the colours. */
   eps(options?: { margin?: number; mm?: number; quiet?: boolean }): Uint8Array;
   /** Returns a raw bitmap of netpbm (P4), which does not say how large it is. `scale` is 8 unless given; `fitMm` and `dpi` are those of png. */
   pbm(options?: { scale?: number; margin?: number; dpi?: number; fitMm?: number; quiet?: boolean }): Uint8Array;

@@ -2,7 +2,8 @@
  * QR Code symbols (ISO/IEC 18004:2015, QR Code Model 2) by the library libqrproved as WebAssembly, whose calls are proved to meet
  * their contracts. README.md shows the calls; qrproved.d.ts describes each.
  */
-import { drawn, encodedSeries, foundIn, imageOf, mayHaveKanji, mendedOf, parsedOf, printed, readOf, sheetsBy } from './calls.js';
+import { colouredPdf, colouredPng, drawn, encodedSeries, foundIn, imageOf, mayHaveKanji, mendedOf, parsedOf, printed, readOf, sheetsBy } from './calls.js';
+import { DARK, LIGHT, coloursOf, numbersOf } from './colours.js';
 import { DOCUMENTS, GRADES, LABELS, LIMITS } from './common.js';
 import { CheckError, Gs1Error, NoDrawingError, PictureError, SettingsError, SideError } from './errors.js';
 import { dataOf, fieldsOf } from './gs1.js';
@@ -13,7 +14,7 @@ import { chosen, length, named, warn, whole } from './options.js';
 import { FREE_ACROSS, LINE, checkCaption, linesOf, paperOf, roomOf, roomOfLabel, withCaptions } from './papers.js';
 import { undone } from './pasted.js';
 import { cover, greysOf, pixelsOf } from './pictures.js';
-import { DRAWINGS, OF_SVG, PIXELS, PlainSymbol, dressed } from './symbol.js';
+import { COLOURS_OF_DRAWING, DRAWINGS, OF_SVG, PIXELS, PlainSymbol, dressed } from './symbol.js';
 
 export { load } from './calls.js';
 export { PAPERS } from './papers.js';
@@ -34,6 +35,7 @@ const SHEET = {
 // The options of an image for a receipt printer, and for a label printer.
 const OF_RECEIPT = { scale: undefined, margin: 4, mm: undefined, dpi: LIMITS.DPI, fitMm: undefined, quiet: false };
 const OF_LABEL = { ...OF_RECEIPT, x: 0, y: 0 };
+const OF_PNG = { scale: undefined, margin: 4, mm: undefined, dpi: undefined, fitMm: undefined, quiet: false, ...COLOURS_OF_DRAWING };
 
 export class QRSymbol extends PlainSymbol {
   #logo;
@@ -81,7 +83,7 @@ export class QRSymbol extends PlainSymbol {
   }
 
   png(options = {}) {
-    const { margin, quiet, ...sizes } = chosen(options, { scale: undefined, margin: 4, mm: undefined, dpi: undefined, fitMm: undefined, quiet: false });
+    const { margin, quiet, dark, light, inverse, ...sizes } = chosen(options, OF_PNG), colours = { dark, light, inverse };
     const modules = this.side + 2 * whole('margin', margin, 0, LIMITS.MARGIN_MAX);
     const { scale = PIXELS, mm, dpi } = fitted(this, sizes, margin), pixels = modules * whole('scale', scale, 1, LIMITS.SCALE_MAX);
     if (mm !== undefined && dpi !== undefined) {
@@ -93,11 +95,13 @@ export class QRSymbol extends PlainSymbol {
       throw new SettingsError(`${pixels} pixels cannot be ${Number(size.toPrecision(3))} mm wide in a PNG image`);
     }
     warn(quiet, margin, (size ?? Infinity) / modules);
-    return imageOf(drawnModules(this), this.side, 'png', scale, margin, Math.round(density), 0, 0);
+    const shown = drawnModules(this), numbers = numbersAsked(colours);
+    return numbers === null ? imageOf(shown, this.side, 'png', scale, margin, Math.round(density), 0, 0)
+      : colouredPng(shown, this.side, scale, margin, Math.round(density), ...numbers);
   }
 
   pdf(options = {}) {
-    return documentFor([this], 'pdf', chosen(options, OF_DOCUMENT));
+    return documentFor([this], 'pdf', chosen(options, { ...OF_DOCUMENT, ...COLOURS_OF_DRAWING }));
   }
 
   eps(options = {}) {
@@ -398,12 +402,22 @@ function micrometresOf(mm, modules) {
 }
 
 /** Returns a document for print with symbols of one side. */
-function documentFor(list, type, { margin, mm, quiet }) {
+/** Returns a document for print. Only PDF has colours. */
+function documentFor(list, type, { margin, mm, quiet, ...others }) {
   whole('margin', margin, 0, LIMITS.MARGIN_MAX);
   const given = joined(list);
   const micrometres = mm === undefined ? LIMITS.MICROMETRES : micrometresOf(mm, list[0].side + 2 * margin);
   warn(quiet, margin, micrometres / 1000);
-  return printed(given, list[0].side, list.length, type, margin, micrometres);
+  const numbers = numbersAsked(others);
+  return numbers === null ? printed(given, list[0].side, list.length, type, margin, micrometres)
+    : colouredPdf(given, list[0].side, list.length, margin, micrometres, ...numbers);
+}
+
+/** Returns the two colours that a drawing is asked to have as numbers, or null for black on white. */
+function numbersAsked({ dark = DARK, light = LIGHT, inverse = false }) {
+  if (dark === DARK && light === LIGHT && inverse === false) return null;
+  const colours = coloursOf({ dark, light, inverse });
+  return colours.dark === DARK && colours.light === LIGHT ? null : numbersOf(colours);
 }
 
 export function documentOf(symbols, options = {}) {

@@ -5,7 +5,7 @@ import { chosen, warn, whole } from './options.js';
 
 export const DRAWINGS = ['ASCII', 'ASCIIi', 'UTF8', 'SVG'];
 export const PIXELS = 8; // of a module of an image, if nothing else is said
-const COLOURS_OF_DRAWING = { dark: DARK, light: LIGHT, inverse: false };
+export const COLOURS_OF_DRAWING = { dark: DARK, light: LIGHT, inverse: false };
 export const OF_SVG = { margin: 4, quiet: false, inline: false, title: undefined, className: undefined, caption: undefined, ...COLOURS_OF_DRAWING };
 
 export class PlainSymbol {

@@ -524,6 +524,31 @@ test('colours, a title and a class', () => {
   }
 });
 
+/** Returns the chunks of a PNG file: their types, and their data as hexadecimal digits. */
+function chunksOf(file) {
+  const found = [], at = new DataView(file.buffer, file.byteOffset);
+  for (let k = 8; k < file.length; k += 12 + at.getUint32(k)) {
+    const data = file.subarray(k + 8, k + 8 + at.getUint32(k));
+    found.push([String.fromCharCode(...file.subarray(k + 4, k + 8)), Buffer.from(data).toString('hex')]);
+  }
+  return found;
+}
+
+test('colours of PNG and PDF', () => {
+  const symbol = encode('A'), plain = chunksOf(symbol.png({ mm: 20 })), navy = chunksOf(symbol.png({ mm: 20, dark: 'navy', light: '#FfE' }));
+  assert.deepEqual(symbol.png({ dark: '#000', light: 'WHITE' }), symbol.png());
+  assert.deepEqual(symbol.pdf({ dark: '#000', light: 'WHITE' }), symbol.pdf());
+  assert.deepEqual(navy, [['IHDR', `${plain[0][1].slice(0, 18)}03000000`], plain[1], ['PLTE', '000080ffffee'], ...plain.slice(2)]);
+  assert.deepEqual(chunksOf(symbol.png({ light: null })).slice(1, 3), [['PLTE', '000000ffffff'], ['tRNS', 'ff00']]);
+  const text = (options) => Buffer.from(symbol.pdf(options)).toString('latin1'), dark = '0.000 0.000 0.502 rg\n';
+  assert.ok(text({ dark: 'navy', light: '#ffe' }).includes(`1.000 1.000 0.933 rg 0 0 29 29 re f\n${dark}`));
+  assert.ok(text({ dark: 'navy', light: null }).includes(` cm\n${dark}`) && !text({ dark: 'navy', light: null }).includes(' 29 29 re'));
+  for (const wrong of [{ dark: '#959595' }, { dark: '#fff', light: '#000' }, { inverse: true }, { dark: 'rebeccapurple' }]) {
+    for (const kind of ['png', 'pdf']) assert.throws(() => symbol[kind](wrong), { name: 'SettingsError' }, JSON.stringify(wrong));
+  }
+  for (const wrong of [{ dark: null }, { inverse: 1 }]) assert.throws(() => symbol.png(wrong), TypeError, JSON.stringify(wrong));
+});
+
 test('a drawing on a canvas', () => {
   const symbol = encode('A'), pixels = new Map(), context = {
     fillRect(x, y, width, height) {

@@ -225,6 +225,16 @@ static uint8_t document_by(struct heap *heap, const uint8_t *modules, size_t mod
 	return status;
 }
 
+static uint8_t pdf_by(struct heap *heap, const uint8_t *modules, size_t modules_len, uint32_t side, uint32_t count, uint32_t margin,
+                      uint32_t micrometres, uint32_t dark, uint32_t light, uint8_t *text, size_t text_len, size_t *written)
+{
+	union slot len = {{0}};
+	uint8_t status = m_qrproved_pdf(heap, BYTES(modules), modules_len, side, count, margin, micrometres, dark, light, text, text_len, len.b);
+	if (status == QRPROVED_DONE || status == QRPROVED_ROOM)
+		*written = (size_t)load_64(len.b);
+	return status;
+}
+
 /* The numbers of a struct are read with the lowest byte first. */
 static uint8_t sheets_by(struct heap *heap, const uint8_t *modules, size_t modules_len, uint32_t side, uint32_t count, uint32_t margin,
                          uint32_t micrometres, const struct qrproved_sheet *sheet, uint8_t *text, size_t text_len, size_t *written)
@@ -244,13 +254,24 @@ static uint8_t sheets_by(struct heap *heap, const uint8_t *modules, size_t modul
 
 uint32_t qrproved_version(void) { return m_qrproved_version(); }
 
-/* The two calls take no memory. */
+/* The three calls take no memory. */
 uint8_t qrproved_image(const uint8_t *modules, size_t modules_len, uint32_t side, uint32_t format, uint32_t scale, uint32_t margin,
                        uint32_t pixels_a_metre, uint32_t left, uint32_t top, uint8_t *image, size_t image_len, size_t *written)
 {
 	union slot len = {{0}};
 	uint8_t status = m_qrproved_image(BYTES(modules), modules_len, side, format, scale, margin, pixels_a_metre, left, top, image,
 	                                  image_len, len.b);
+	if (status == QRPROVED_DONE || status == QRPROVED_ROOM)
+		*written = (size_t)load_64(len.b);
+	return status;
+}
+
+uint8_t qrproved_png(const uint8_t *modules, size_t modules_len, uint32_t side, uint32_t scale, uint32_t margin,
+                     uint32_t pixels_a_metre, uint32_t dark, uint32_t light, uint8_t *image, size_t image_len, size_t *written)
+{
+	union slot len = {{0}};
+	uint8_t status = m_qrproved_png(BYTES(modules), modules_len, side, scale, margin, pixels_a_metre, dark, light, image, image_len,
+	                                len.b);
 	if (status == QRPROVED_DONE || status == QRPROVED_ROOM)
 		*written = (size_t)load_64(len.b);
 	return status;
@@ -340,6 +361,14 @@ uint8_t qrproved_document_in(void *memory, size_t memory_len, const uint8_t *mod
 	return document_by(&heap, modules, modules_len, side, count, format, margin, micrometres, text, text_len, written);
 }
 
+uint8_t qrproved_pdf_in(void *memory, size_t memory_len, const uint8_t *modules, size_t modules_len, uint32_t side, uint32_t count,
+                        uint32_t margin, uint32_t micrometres, uint32_t dark, uint32_t light, uint8_t *text, size_t text_len,
+                        size_t *written)
+{
+	struct heap heap = heap_of(memory, memory_len);
+	return pdf_by(&heap, modules, modules_len, side, count, margin, micrometres, dark, light, text, text_len, written);
+}
+
 uint8_t qrproved_sheets_in(void *memory, size_t memory_len, const uint8_t *modules, size_t modules_len, uint32_t side, uint32_t count,
                            uint32_t margin, uint32_t micrometres, const struct qrproved_sheet *sheet, uint8_t *text, size_t text_len,
                            size_t *written)
@@ -427,6 +456,13 @@ uint8_t qrproved_document(const uint8_t *modules, size_t modules_len, uint32_t s
 {
 	struct heap heap = SYSTEM;
 	return document_by(&heap, modules, modules_len, side, count, format, margin, micrometres, text, text_len, written);
+}
+
+uint8_t qrproved_pdf(const uint8_t *modules, size_t modules_len, uint32_t side, uint32_t count, uint32_t margin,
+                     uint32_t micrometres, uint32_t dark, uint32_t light, uint8_t *text, size_t text_len, size_t *written)
+{
+	struct heap heap = SYSTEM;
+	return pdf_by(&heap, modules, modules_len, side, count, margin, micrometres, dark, light, text, text_len, written);
 }
 
 uint8_t qrproved_sheets(const uint8_t *modules, size_t modules_len, uint32_t side, uint32_t count, uint32_t margin, uint32_t micrometres,

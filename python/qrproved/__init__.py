@@ -210,8 +210,9 @@ class Symbol:
         return [[module != 0 for module in self.modules[start:start + self.side]] for start in starts]
 
     def png(self, *wrong: NoReturn, scale: Optional[int] = None, margin: int = 4, mm: Optional[float] = None, dpi: Optional[float] = None,
-            fit_mm: Optional[float] = None, logo: Optional[Bytes] = None, **others: NoReturn) -> bytes:
-        """Returns the drawing as a PNG picture of black and white, or with a logo in colours.
+            fit_mm: Optional[float] = None, dark: str = _colours.DARK, light: Optional[str] = _colours.LIGHT, inverse: bool = False,
+            logo: Optional[Bytes] = None, **others: NoReturn) -> bytes:
+        """Returns the drawing as a PNG picture.
 
         scale   the pixels of a module on each side, from 1 to SCALE_MAX: 8 unless fit_mm is given
         margin  light modules on each side, from 0 to MARGIN_MAX; a scanner needs 4
@@ -220,16 +221,18 @@ class Symbol:
         fit_mm  in place of scale and mm, the most that the picture may be wide with its margin, in millimetres. A module has as many whole
                 pixels as fit, so that the picture may be narrower: printed_size says how wide. A printer with `dpi` dots an inch, 203 unless
                 given, prints a dot for each pixel
+        dark, light, inverse
+                the colours, as in svg. With light=None the ground is transparent
         logo    a PNG file, which is drawn in the place of the logo for which the symbol was encoded, within a light ring of one module. It
                 has 8 bits a channel and is not interlaced
 
         Without mm, dpi and fit_mm the picture does not say how large it is. Raises SettingsError if a number is out of range, if the size
         is one that PNG cannot state (its pixels are counted by the metre), or if not even modules of one pixel are as narrow as fit_mm
-        asks. Raises TypeError for sizes that exclude each other, and RoomError if there are too few modules. Warns by PrintWarning of
-        what scanners may not read.
+        asks. Raises SettingsError for colours as svg does, and for a logo on a transparent ground. Raises TypeError for sizes that exclude
+        each other, and RoomError if there are too few modules. Warns by PrintWarning of what scanners may not read.
         """
-        _no_more("png", "", wrong, others, "scale", "margin", "mm", "dpi", "fit_mm", "logo")
-        return self._png(_Sizes(scale, mm, dpi, fit_mm), margin, logo)
+        _no_more("png", "", wrong, others, "scale", "margin", "mm", "dpi", "fit_mm", "dark", "light", "inverse", "logo")
+        return self._png(_Sizes(scale, mm, dpi, fit_mm), margin, logo, _colours.colours_of(dark, light, bool(_flag("inverse", inverse))))
 
     def svg(self, *wrong: NoReturn, margin: int = 4, mm: Optional[float] = None, inline: bool = False, dark: str = _colours.DARK,
             light: Optional[str] = _colours.LIGHT, inverse: bool = False, title: Optional[str] = None, class_name: Optional[str] = None,
@@ -265,15 +268,17 @@ class Symbol:
         _no_more("text", "", wrong, others, "drawing", "margin")
         return draw([self], drawing=drawing, margin=margin).decode()
 
-    def pdf(self, *wrong: NoReturn, margin: int = 4, mm: Optional[float] = None, **others: NoReturn) -> bytes:
+    def pdf(self, *wrong: NoReturn, margin: int = 4, mm: Optional[float] = None, dark: str = _colours.DARK, light: Optional[str] = _colours.LIGHT,
+            inverse: bool = False, **others: NoReturn) -> bytes:
         """Returns a PDF document with a page as large as the symbol with its margin. `mm` is its width, in millimetres; without it a
         module is 1 mm wide. A module has whole micrometres, so the width may differ from `mm` by half a micrometre for each module.
-        Raises and warns as document does, which also takes several symbols."""
-        _no_more("pdf", "", wrong, others, "margin", "mm")
-        return _document([self], "pdf", margin, mm)
+        The colours are those of svg; with light=None no ground is drawn. Raises and warns as document does, which also takes several
+        symbols, and raises SettingsError for colours as svg does."""
+        _no_more("pdf", "", wrong, others, "margin", "mm", "dark", "light", "inverse")
+        return _document([self], "pdf", margin, mm, _colours.colours_of(dark, light, bool(_flag("inverse", inverse))))
 
     def eps(self, *wrong: NoReturn, margin: int = 4, mm: Optional[float] = None, **others: NoReturn) -> bytes:
-        """Returns a document in Encapsulated PostScript. The arguments, errors and warnings are those of pdf."""
+        """Returns a document in Encapsulated PostScript. The arguments, errors and warnings are those of pdf, but there are no colours."""
         _no_more("eps", "", wrong, others, "margin", "mm")
         return _document([self], "eps", margin, mm)
 
@@ -332,21 +337,25 @@ class Symbol:
 
     def save(self, path: Union[str, os.PathLike[str], BinaryIO], *wrong: NoReturn, kind: Optional[str] = None, scale: Optional[int] = None,
              margin: int = 4, mm: Optional[float] = None, dpi: Optional[float] = None, x: int = 0, y: int = 0, fit_mm: Optional[float] = None,
-             logo: Optional[Bytes] = None, **others: NoReturn) -> None:
+             dark: str = _colours.DARK, light: Optional[str] = _colours.LIGHT, inverse: bool = False, logo: Optional[Bytes] = None,
+             **others: NoReturn) -> None:
         """Writes the drawing to a file, or to an object with a method `write` that takes bytes.
 
         kind    'png', 'svg', 'pdf', 'eps', 'txt', 'pbm', 'zpl', 'tspl' or 'escpos'; unless it is given, the end of the file's name, where .bin stands
                 for 'escpos', or 'png' for an object
         scale, mm, dpi, x, y, fit_mm
                 those of the method of that name; SVG, PDF and EPS have no scale, no dpi and no fit_mm, and a text has none of them
+        dark, light, inverse
+                the colours, which only PNG, SVG and PDF have
         logo    the picture of a logo, which only PNG and SVG have
 
         Raises and warns as that method does, and raises SettingsError for another kind or ending.
         """
-        _no_more("save", "path, ", wrong, others, "scale", "margin", "mm", "dpi", "kind", "x", "y", "fit_mm", "logo")
+        _no_more("save", "path, ", wrong, others, "scale", "margin", "mm", "dpi", "kind", "x", "y", "fit_mm", "dark", "light", "inverse", "logo")
+        colours = _colours.colours_of(dark, light, bool(_flag("inverse", inverse)))
         write = getattr(path, "write", None)
         ending = kind or ("png" if write else os.path.splitext(os.fspath(path))[1].lower()[1:])  # type: ignore[arg-type]
-        drawing = self._drawn(ending, _Sizes(scale, mm, dpi, fit_mm), margin, x, y, logo)
+        drawing = self._drawn(ending, _Sizes(scale, mm, dpi, fit_mm), margin, x, y, logo, colours)
         if write:
             write(drawing)
             return
@@ -363,7 +372,7 @@ class Symbol:
         media = {"png": "image/png", "svg": "image/svg+xml"}[kind]
         return f"data:{media};base64,{base64.b64encode(self._drawn(kind, _Sizes(scale, mm), margin, 0, 0)).decode()}"
 
-    def _png(self, sizes: _Sizes, margin: int, logo: Optional[Bytes] = None) -> bytes:
+    def _png(self, sizes: _Sizes, margin: int, logo: Optional[Bytes] = None, colours: _colours.Colours = _colours.PLAIN) -> bytes:
         light = _setting("margin", margin, 0, MARGIN_MAX)
         scale, mm, dpi, _ = sizes.fitted("png", self, light)
         pixels = _setting("scale", PIXELS if scale is None else scale, 1, SCALE_MAX)
@@ -379,7 +388,9 @@ class Symbol:
         _warn(light, None if size is None else size / (self.side + 2 * light))
         if logo is not None:
             picture, place = _bytes("logo", logo), self._place(0)
-            return _logos.in_png(self._shown(), self.side, pixels, light, _nearest(pixels_a_metre), picture, place)
+            return _logos.in_png(self._shown(), self.side, pixels, light, _nearest(pixels_a_metre), picture, place, colours)
+        if colours != _colours.PLAIN:
+            return self._coloured_png(pixels, light, _nearest(pixels_a_metre), colours)
         return self._image("png", pixels, light, _nearest(pixels_a_metre), 0, 0)
 
     def _file(self, kind: str, sizes: _Sizes, margin: int, x: int, y: int) -> bytes:
@@ -396,20 +407,21 @@ class Symbol:
         return dots, MM_OF_INCH * dots / _size("dpi", DPI if dpi is None else dpi)
 
     def _image(self, kind: str, scale: int, margin: int, pixels_a_metre: int, x: int, y: int) -> bytes:
+        shown, side = self._square()
+        asked = (shown, len(shown), side, FORMATS[kind], scale, margin, pixels_a_metre, x, y)
+        room = 3 * len(self.modules) if kind == "png" else _room_of_lines(kind, side + 2 * margin, scale)
+        return _filled(_calls.qrproved_image, asked, IMAGE_LIKELY + room)
+
+    def _coloured_png(self, scale: int, margin: int, pixels_a_metre: int, colours: _colours.Colours) -> bytes:
+        shown, side = self._square()
+        asked = (shown, len(shown), side, scale, margin, pixels_a_metre, *_colours.numbers_of(colours))
+        return _filled(_calls.qrproved_png, asked, IMAGE_LIKELY + 3 * len(self.modules))
+
+    def _square(self) -> tuple[bytes, int]:
+        """Returns the modules that are drawn, and the side."""
         if len(self.modules) < self.side * self.side:
             raise RoomError("a symbol has side * side modules")
-        side = _setting("side", self.side, 1, SIDE_MAX)
-        shown = self._shown()
-        asked, written = (shown, len(shown), side, FORMATS[kind], scale, margin, pixels_a_metre, x, y), ctypes.c_size_t()
-        room = IMAGE_LIKELY + (3 * len(self.modules) if kind == "png" else _room_of_lines(kind, side + 2 * margin, scale))
-        image = (ctypes.c_uint8 * room)()
-        status = _calls.qrproved_image(*asked, image, room, ctypes.byref(written))
-        if status == RoomError.status:
-            # the call has said how much room the file needs
-            image = (ctypes.c_uint8 * written.value)()
-            status = _calls.qrproved_image(*asked, image, written.value, ctypes.byref(written))
-        raise_for(status)
-        return _first(image, written.value)
+        return self._shown(), _setting("side", self.side, 1, SIDE_MAX)
 
     def _svg(self, margin: int, mm: Optional[float]) -> bytes:
         if mm is not None:
@@ -418,7 +430,10 @@ class Symbol:
         _warn(margin, None)
         return document
 
-    def _drawn(self, kind: str, sizes: _Sizes, margin: int, x: int, y: int, logo: Optional[Bytes] = None) -> bytes:
+    def _drawn(self, kind: str, sizes: _Sizes, margin: int, x: int, y: int, logo: Optional[Bytes] = None,
+               colours: _colours.Colours = _colours.PLAIN) -> bytes:
+        if colours != _colours.PLAIN and kind not in ("png", "svg", "pdf"):
+            raise TypeError("PNG, SVG and PDF have colours; other drawings are black on white")
         if logo is not None and kind not in ("png", "svg"):
             raise TypeError("the picture of a logo goes into a PNG picture or an SVG document; other drawings leave its place light")
         if (x or y) and kind not in ("zpl", "tspl"):
@@ -426,7 +441,7 @@ class Symbol:
         if kind in ("zpl", "tspl", "escpos", "bin"):
             return self._file("escpos" if kind == "bin" else kind, sizes, margin, x, y)
         if kind == "png":
-            return self._png(sizes, margin, logo)
+            return self._png(sizes, margin, logo, colours)
         mm, dpi, fit_mm = sizes.mm, sizes.dpi, sizes.fit_mm
         if kind == "pbm":
             if mm is not None or (dpi is not None and fit_mm is None):
@@ -437,12 +452,12 @@ class Symbol:
         if kind == "svg":
             if dpi is not None:
                 raise TypeError("an SVG document has no pixels, and so no dpi: its size is given by mm")
-            document = self._svg(margin, mm)
+            document = _coloured(self._svg(margin, mm), colours, None, None)
             return document if logo is None else _logos.in_svg(document, _bytes("logo", logo), self._place(margin))
         if kind in ("pdf", "eps"):
             if dpi is not None:
                 raise TypeError("a document for print has no pixels, and so no dpi: its size is given by mm")
-            return _document([self], kind, margin, mm)
+            return _document([self], kind, margin, mm, colours)
         if kind == "txt":
             if mm is not None or dpi is not None:
                 raise TypeError("a text has no size: neither mm nor dpi is given")
@@ -1128,7 +1143,7 @@ def labels(symbols: Union[Symbol, Iterable[Symbol]], *wrong: NoReturn, kind: str
     return b"".join(before + it._image(kind, dots, light, 0, *place) + after for it, dots, _ in sizes)
 
 
-def _coloured(document: bytes, colours: tuple[str, Optional[str]], title: Optional[str], class_name: Optional[str]) -> bytes:
+def _coloured(document: bytes, colours: _colours.Colours, title: Optional[str], class_name: Optional[str]) -> bytes:
     """Returns an SVG document of black and white with other colours, a title and a class."""
     dark, light = colours
     head, body = document.split(b">\n<rect", 1)
@@ -1160,10 +1175,26 @@ def _escaped(name: str, text: str) -> str:
     return text.replace("&", "&amp;").replace("<", "&lt;").replace(">", "&gt;").replace('"', "&quot;")
 
 
-def _document(symbols: list[Symbol], kind: str, margin: int, mm: Optional[float]) -> bytes:
+def _filled(call: Callable[..., int], asked: tuple[object, ...], room: int) -> bytes:
+    """Returns the file that a call writes, which most likely has room in so many bytes."""
+    written, image = ctypes.c_size_t(), (ctypes.c_uint8 * room)()
+    status = call(*asked, image, room, ctypes.byref(written))
+    if status == RoomError.status:
+        # the call has said how much room the file needs
+        image = (ctypes.c_uint8 * written.value)()
+        status = call(*asked, image, written.value, ctypes.byref(written))
+    raise_for(status)
+    return _first(image, written.value)
+
+
+def _document(symbols: list[Symbol], kind: str, margin: int, mm: Optional[float], colours: _colours.Colours = _colours.PLAIN) -> bytes:
+    """Returns a document for print. Only PDF has colours."""
     light, (given, count, side) = _setting("margin", margin, 0, MARGIN_MAX), _squares(symbols)
     micrometres = MICROMETRES if mm is None else _micrometres(mm, side + 2 * light)
     _warn(light, micrometres / 1000)
+    if colours != _colours.PLAIN:
+        coloured = (given, len(given), side, count, light, micrometres, *_colours.numbers_of(colours))
+        return _written(lambda *buffer: _calls.qrproved_pdf(*coloured, *buffer))
     asked = (given, len(given), side, count, DOCUMENTS[kind], light, micrometres)
     return _written(lambda *buffer: _calls.qrproved_document(*asked, *buffer))
 

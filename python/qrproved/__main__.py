@@ -37,7 +37,8 @@ INTERRUPTED = 130  # the status of a program that a key of the terminal ends
 TABLES = (".csv", ".tsv")  # what the name of a file ends in whose first line has the names of columns
 PAPER = "Avery 3475"  # of --sheet, if nothing else is said
 # Why a drawing of each type has no colours.
-NO_COLOURS = {**{it: f"colours in {it.upper()} are not proved yet" for it in ("png", "pdf", "eps")}, "pbm": "a PBM is black and white",
+COLOURED = ("svg", "png", "pdf")
+NO_COLOURS = {"pdf": "sheets, and a PDF with all labels of a batch, are black on white", "eps": "colours in EPS are not proved yet", "pbm": "a PBM is black and white",
               **dict.fromkeys(PRINTERS, "printers of labels and receipts print black alone"), **dict.fromkeys(("txt", "utf8", "ascii", "asciii"), "a text has no colours")}
 VERSION_OF_PAYMENTS = 13  # at most, by EPC069-12
 ERASED = f"\r{'':70}\r"  # takes the place of a line that says how far a batch is; not every console knows more
@@ -346,7 +347,7 @@ def add_drawing(parser: argparse.ArgumentParser, of_batch: str) -> None:
                         " with its margin, in millimetres: a module has as many whole dots of a printer with --dpi dots an inch as fit")
     parser.add_argument("-x", type=int, default=0, metavar="N", help="how far the symbol is from the left edge of a label, in dots; 0")
     parser.add_argument("-y", type=int, default=0, metavar="N", help="how far it is from the upper edge")
-    parser.add_argument("--dark", metavar="COLOUR", help="the colour of the dark modules of an SVG: #rgb, #rrggbb or a name of CSS 2.1; black")
+    parser.add_argument("--dark", metavar="COLOUR", help="the colour of the dark modules of an SVG, PNG or PDF: #rgb, #rrggbb or a name of CSS 2.1; black")
     parser.add_argument("--light", metavar="COLOUR", help="that of its ground, or 'none' for a transparent one; white. Colours that scanners do not"
                         " tell apart are refused")
     parser.add_argument("--inverse", action="store_true", help="allow dark modules that are lighter than the ground, which many scanners do not read")
@@ -498,8 +499,8 @@ def check_colours(parser: argparse.ArgumentParser, given: argparse.Namespace) ->
     """Ends the program if a drawing of this type has no colours, and takes the colours apart."""
     are_given = {"--dark": given.dark is not None, "--light": given.light is not None, "--inverse": given.inverse}
     named = next((name for name, is_given in are_given.items() if is_given), None)
-    if named is not None and given.type != "svg":
-        parser.error(f"{named} is of an SVG, as with -t svg: {NO_COLOURS[given.type]}")
+    if named is not None and (given.type not in COLOURED or (given.type == "pdf" and given.is_one_file)):
+        parser.error(f"{named} is of an SVG, a PNG or a PDF, as with -t svg: {NO_COLOURS[given.type]}")
     given.dark = _colours.DARK if given.dark is None else given.dark
     given.light = _colours.LIGHT if given.light is None else None if given.light.lower() == "none" else given.light
 

@@ -2,12 +2,14 @@
 from __future__ import annotations
 
 import re
-from typing import Optional
+from typing import Optional, Tuple
 
 from ._common import DATA, LIMITS
 from ._errors import SettingsError
 
+Colours = Tuple[str, Optional[str]]  # of dark and light modules, as # and six digits; light ones may have none
 DARK, LIGHT = "#000000", "#ffffff"
+PLAIN: Colours = DARK, LIGHT
 NAMES = DATA["colours"]
 
 
@@ -28,7 +30,7 @@ def luminance(colour: str) -> float:
     return 0.2126 * red + 0.7152 * green + 0.0722 * blue
 
 
-def colours_of(dark: str, light: Optional[str], inverse: bool) -> tuple[str, Optional[str]]:
+def colours_of(dark: str, light: Optional[str], inverse: bool) -> Colours:
     """Returns the colours of the modules. The light ones may have none: then the ground is taken for white, or for black if the symbol is
     inverse. Raises SettingsError if scanners cannot tell them apart, or if dark is the lighter one and that was not asked for."""
     colours = colour_of("dark", dark), None if light is None else colour_of("light", light)
@@ -40,3 +42,9 @@ def colours_of(dark: str, light: Optional[str], inverse: bool) -> tuple[str, Opt
         raise SettingsError("inverse is for dark modules that are lighter than the others, and these are darker" if inverse
                             else "the dark modules are lighter than the others, which many scanners do not read; inverse allows it")
     return colours
+
+
+def numbers_of(colours: Colours) -> tuple[int, int]:
+    """Returns the colours as the library takes them, 0xRRGGBBAA. A ground without a colour is white that is not seen."""
+    dark, light = colours
+    return int(dark[1:] + "ff", 16), int(LIGHT[1:] + "00" if light is None else light[1:] + "ff", 16)

@@ -75,6 +75,8 @@ PARAMETERS = {
     "qrproved_document": [*BYTES, *[SETTING] * 5, *BUFFER, ctypes.POINTER(c_size_t)],
     "qrproved_sheets": [*BYTES, *[SETTING] * 4, ctypes.POINTER(Sheet), *BUFFER, ctypes.POINTER(c_size_t)],
     "qrproved_image": [*BYTES, *[SETTING] * 7, *BUFFER, ctypes.POINTER(c_size_t)],
+    "qrproved_png": [*BYTES, *[SETTING] * 6, *BUFFER, ctypes.POINTER(c_size_t)],
+    "qrproved_pdf": [*BYTES, *[SETTING] * 6, *BUFFER, ctypes.POINTER(c_size_t)],
     "qrproved_parse_drawing": [*BYTES, *BUFFER, ctypes.POINTER(Drawn)],
     "qrproved_find": [*BYTES, *[SETTING] * 4, *BUFFER, *BUFFER, ctypes.POINTER(c_size_t)],
     "qrproved_room": [SETTING, SETTING, SETTING, SETTING, SETTING, ctypes.POINTER(c_uint32)],

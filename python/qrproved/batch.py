@@ -54,7 +54,7 @@ class Settings(NamedTuple):
     """Whether the drawing is a label of a file that has several."""
     fit_mm: Optional[float] = None
     dark: str = _colours.DARK
-    """The colours of an SVG."""
+    """The colours of an SVG, PNG or PDF."""
     light: Optional[str] = _colours.LIGHT
     inverse: bool = False
     logo: Optional[bytes] = None
@@ -89,14 +89,14 @@ class Settings(NamedTuple):
             return qrproved.draw(symbols, drawing=DRAWINGS[self.kind], margin=self.margin)
         if self.is_series:
             return self.document(symbols)
-        if self.kind == "svg" and self.is_coloured():
-            return symbols[0].svg(margin=self.margin, mm=self.mm, logo=self.logo, **self.colours())
         file = io.BytesIO()
-        symbols[0].save(file, kind=self.kind, logo=self.logo, **sizes)
+        symbols[0].save(file, kind=self.kind, logo=self.logo, **sizes, **self.colours())
         return file.getvalue()
 
     def document(self, symbols: list[Symbol]) -> bytes:
         """Returns a document with all symbols of a series."""
+        if self.kind == "pdf":
+            return qrproved._document(symbols, "pdf", self.margin, self.mm, _colours.colours_of(**self.colours()))
         if self.kind == "svg" and self.mm is None:
             drawing = qrproved.draw(symbols, drawing=Drawing.SVG, margin=self.margin)
         else:

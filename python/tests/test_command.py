@@ -56,6 +56,16 @@ class Command(unittest.TestCase):
 
     def test_colours(self):
         symbol, path = qrproved.encode("Shelf 12"), self.room / "a.svg"
+        for kind in ("png", "pdf"):
+            for words, named in {("--dark", "navy"): {"dark": "navy"}, ("--dark", "#123", "--light", "none", "--mm", "20"): {"dark": "#123", "light": None, "mm": 20},
+                                 ("--dark", "white", "--light", "black", "--inverse"): {"dark": "white", "light": "black", "inverse": True}}.items():
+                self.assertEqual(run("Shelf 12", "-o", self.room / f"a.{kind}", *words), (b"", ""))
+                self.assertEqual((self.room / f"a.{kind}").read_bytes(), getattr(symbol, kind)(**named))
+            run("--batch", "-", "-o", self.room / f"few-{kind}", "-t", kind, "--light", "#ffe", given=b"Shelf 12\n")
+            self.assertEqual((self.room / f"few-{kind}/00001.{kind}").read_bytes(), getattr(symbol, kind)(light="#ffe"))
+        run("A long text " * 9, "--series", "-v", "3", "-o", self.room / "b.pdf", "--dark", "#00f")
+        pages = (self.room / "b.pdf").read_bytes()
+        self.assertEqual((pages.count(b"/Type/Page/"), pages.count(b"0.000 0.000 1.000 rg"), pages.count(b"1.000 1.000 1.000 rg")), (3, 3, 3))
         for words, named in {("--dark", "navy"): {"dark": "navy"}, ("--dark", "#123", "--light", "none"): {"dark": "#123", "light": None},
                              ("--dark", "white", "--light", "black", "--inverse"): {"dark": "white", "light": "black", "inverse": True},
                              ("--light", "#ffe", "--mm", "20"): {"light": "#ffe", "mm": 20}}.items():
@@ -73,11 +83,12 @@ class Command(unittest.TestCase):
             self.assertIn(why, run("A", "-o", path, *words, status=1)[1], words)
             self.assertIn(why, run("--batch", "-", "-t", "svg", "-o", self.room / "none", *words, given=b"A\n", status=1)[1], words)
         self.assertFalse((self.room / "none").exists())
-        for kind, why in {"png": "colours in PNG are not proved yet", "pdf": "colours in PDF are not proved yet", "eps": "colours in EPS are not proved yet",
-                          "pbm": "a PBM is black and white", "zpl": "printers of labels and receipts print black alone", "utf8": "a text has no colours"}.items():
+        for kind, why in {"eps": "colours in EPS are not proved yet", "pbm": "a PBM is black and white", "zpl": "printers of labels and receipts print black alone", "utf8": "a text has no colours"}.items():
             for words in (["--dark", "navy"], ["--light", "none"], ["--inverse"]):
                 said = run("A", "-t", kind, "-o", self.room / "a", *words, status=2)[1]
-                self.assertIn(f"{words[0]} is of an SVG, as with -t svg: {why}", " ".join(said.split()))
+                self.assertIn(f"{words[0]} is of an SVG, a PNG or a PDF, as with -t svg: {why}", " ".join(said.split()))
+        said = run("--batch", "-", "-o", self.room / "all.pdf", "--dark", "navy", given=b"A\n", status=2)[1]
+        self.assertIn("a PDF with all labels of a batch, are black on white", " ".join(said.split()))
 
     def test_a_logo(self):
         picture, other = self.room / "logo.png", self.room / "logo.svg"
@@ -86,6 +97,7 @@ class Command(unittest.TestCase):
         fifth, nine = qrproved.encode("Shelf 12", logo=0.2), qrproved.encode("Shelf 12", logo=9, share=0.75, level="M")
         rows = {"a.png": ([picture], fifth.png(logo=FOUR)), "a.svg": ([other], fifth.svg(logo=other.read_bytes())),
                 "b.png": ([picture, "--logo-side", "9", "--share", "0.75", "-l", "M", "-s", "3"], nine.png(logo=FOUR, scale=3)),
+                "c.png": ([picture, "--dark", "navy", "--light", "#ffe"], fifth.png(logo=FOUR, dark="navy", light="#ffe")),
                 "b.svg": ([picture, "--logo-side", "9", "--share", "0.75", "-l", "M", "--dark", "navy"], nine.svg(logo=FOUR, dark="navy"))}
         for name, (words, wanted) in rows.items():
             self.assertEqual(run("Shelf 12", "-o", self.room / name, "--logo", *words), (b"", ""))

@@ -7,6 +7,7 @@ import sys
 import tempfile
 import unittest
 import warnings
+import zlib
 
 sys.path.append(str(pathlib.Path(__file__).resolve().parents[2] / "tests" / "lib"))
 import printers
@@ -46,6 +47,17 @@ def shown(line, width):
     """Returns the pixels of a line; those after them, which fill its last byte, are white."""
     assert len(line) - width < 8 and "1" not in line[width:]
     return line[:width]
+
+
+def chunks_of(file):
+    """Returns the chunks of a PNG file. Each has to have its checksum."""
+    at, found = 8, []
+    while at < len(file):
+        end = at + 8 + int.from_bytes(file[at:at + 4], "big")
+        assert zlib.crc32(file[at + 4:end]) == int.from_bytes(file[end:end + 4], "big")
+        found.append((file[at + 4:at + 8].decode(), file[at + 8:end]))
+        at = end + 4
+    return found
 
 
 class Images(unittest.TestCase):
@@ -201,6 +213,33 @@ class Images(unittest.TestCase):
         for wrong in ({"dark": None}, {"dark": 0}, {"inverse": 1}, {"title": 3}, {"caption": b"A"}, {"class_name": b"a"}, {"class": "a"}):
             with self.assertRaises(TypeError, msg=wrong):
                 symbol.svg(**wrong)
+
+    def test_colours_of_png_and_pdf(self):
+        symbol = qrproved.encode("Shelf 12")
+        self.assertEqual(symbol.png(dark="#000", light="WHITE"), symbol.png())
+        self.assertEqual(symbol.pdf(dark="#000", light="WHITE"), symbol.pdf())
+        plain, navy = chunks_of(symbol.png(mm=20)), chunks_of(symbol.png(mm=20, dark="navy", light="#FfE"))
+        self.assertEqual(navy, [("IHDR", plain[0][1][:9] + b"\3\0\0\0"), plain[1], ("PLTE", bytes([0, 0, 128, 255, 255, 238])), *plain[2:]])
+        clear = chunks_of(symbol.png(mm=20, light=None))
+        self.assertEqual(clear[2:4], [("PLTE", bytes(3) + b"\xff\xff\xff"), ("tRNS", b"\xff\0")])
+        for named in ({"dark": "navy", "light": "#ffe"}, {"light": None}, {"dark": "yellow", "light": "black", "inverse": True}):
+            self.assertEqual(qrproved.parse_picture(symbol.png(**named)), [(symbol.modules, symbol.side)], named)
+            self.assertEqual(len(symbol.png(**named)), len(symbol.png()) + (32 if named.get("light", "") is None else 18))
+        ground, dark = b"1.000 1.000 0.933 rg 0 0 29 29 re f\n", b"0.000 0.000 0.502 rg\n"
+        self.assertIn(ground + dark, symbol.pdf(dark="navy", light="#ffe"))
+        self.assertNotIn(b" 29 29 re", symbol.pdf(dark="navy", light=None))
+        self.assertIn(b" cm\n" + dark, symbol.pdf(dark="navy", light=None))
+        for kind in ("png", "pdf", "svg"):
+            saved = io.BytesIO()
+            symbol.save(saved, kind=kind, mm=20, dark="navy", light=None)
+            self.assertEqual(saved.getvalue(), getattr(symbol, kind)(mm=20, dark="navy", light=None))
+        for kind in ("eps", "txt", "zpl", "pbm"):
+            with self.assertRaisesRegex(TypeError, "PNG, SVG and PDF have colours"):
+                symbol.save(io.BytesIO(), kind=kind, dark="navy")
+        for kind in ("png", "pdf"):
+            for wrong in ({"dark": "#959595"}, {"dark": "#fff", "light": "#000"}, {"inverse": True}, {"dark": "rebeccapurple"}):
+                with self.assertRaises(SettingsError, msg=wrong):
+                    getattr(symbol, kind)(**wrong)
 
     def test_whole_dots(self):
         symbol = qrproved.encode("Shelf 12")

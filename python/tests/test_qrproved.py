@@ -276,10 +276,10 @@ class Refusals(unittest.TestCase):
                 (lambda: qrproved.encode("A", mask=3), f"mask; {of_encode}"), (lambda: qrproved.encode("A", border=4), f"border; {of_encode}"),
                 (lambda: qrproved.encode_series("A", version=1, boost=True), "boost; there are version, level, rule, eci, gs1"),
                 (lambda: symbol.png(border=4), "border; did you mean margin?"), (lambda: symbol.png(box_size=4), "box_size; did you mean scale?"),
-                (lambda: symbol.png(dark="red"), "dark; there are scale, margin, mm, dpi, fit_mm, logo"),
+                (lambda: symbol.png(title="A"), "title; there are scale, margin, mm, dpi, fit_mm, dark, light, inverse, logo"),
                 (lambda: symbol.svg(back_color="red"), "back_color; did you mean light?"), (lambda: symbol.svg(svgclass="a"), "svgclass; did you mean class_name?"),
                 (lambda: symbol.svg(scale=3), "scale; there are margin, mm, inline, dark, light, inverse, title, class_name, caption, logo"),
-                (lambda: symbol.save("a.png", light=None), "light; there are scale, margin, mm, dpi, kind, x, y, fit_mm, logo"),
+                (lambda: symbol.save("a.png", title="A"), "title; there are scale, margin, mm, dpi, kind, x, y, fit_mm, dark, light, inverse, logo"),
                 (lambda: symbol.data_uri(border=1), "border; did you mean margin?"), (lambda: symbol.text(border=1), "border; did you mean margin?"),
                 (lambda: qrproved.draw(symbol, compact=True), "compact; there are drawing, margin")]
         for call, wanted in rows:

@@ -237,7 +237,7 @@ class Sheets(unittest.TestCase):
                            ("--paper", "a4", "--grid", "3x8", "--label", "71x30"): "do not fit 210.0 mm of paper"}.items():
             self.assertIn(why, run("--sheet", few, "-o", path, *given, "--no-captions", status=1)[1], given)
         for given, why in {("--scale", "3"): "--scale is not of --sheet", ("--shard", "3"): "--shard", ("-t", "svg"): "are a PDF", ("--batch", "x"): "no --batch",
-                           ("--dark", "red"): "colours in PDF are not proved yet", ("--grid", "3"): "as in 3x8", ("--label", "3"): "63.5x38.1", ("text",): "takes no text"}.items():
+                           ("--dark", "red"): "are black on white", ("--grid", "3"): "as in 3x8", ("--label", "3"): "63.5x38.1", ("text",): "takes no text"}.items():
             self.assertIn(why, run("--sheet", few, "-o", path, *given, status=2)[1], given)
         self.assertIn("needs the file", run("--sheet", few, status=2)[1])
 

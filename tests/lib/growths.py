@@ -8,7 +8,7 @@ from kit import Repository
 
 MOST = 5000  # growths: more than any call here takes
 # The words with which tests/lib/library_calls.c makes one call, in which a growth may be refused.
-LIBRARY_CALLS = ("encode", "encode_bits", "encode_logo", "encode_series", "read", "mend", "draw", "document", "sheets", "parse_drawing", "find",
+LIBRARY_CALLS = ("encode", "encode_bits", "encode_logo", "encode_series", "read", "mend", "draw", "document", "pdf", "sheets", "parse_drawing", "find",
                  "encode_eci", "encode_gs1", "encode_series_gs1", "read_ecis", "read_gs1", "mend_ecis")
 TRIALS = os.path.realpath(os.environ.get("TRIALS", f"{TOP}/crates/alloc_trials/out/alloc_trials"))
 

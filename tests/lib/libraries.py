@@ -122,7 +122,9 @@ PARAMETERS = {
     "qrproved_draw": BUFFER + NUMBER * 4 + BUFFER + POINTER,
     "qrproved_draw_row": BUFFER + NUMBER * 4 + BUFFER + POINTER,
     "qrproved_image": BUFFER + NUMBER * 7 + BUFFER + POINTER,
+    "qrproved_png": BUFFER + NUMBER * 6 + BUFFER + POINTER,
     "qrproved_document": BUFFER + NUMBER * 5 + BUFFER + POINTER,
+    "qrproved_pdf": BUFFER + NUMBER * 6 + BUFFER + POINTER,
     "qrproved_sheets": BUFFER + NUMBER * 4 + POINTER + BUFFER + POINTER,
     "qrproved_parse_drawing": INPUT + BUFFER + POINTER,
     "qrproved_find": INPUT + NUMBER * 4 + BUFFER * 2 + POINTER,
@@ -132,6 +134,17 @@ PARAMETERS = {
 
 # The calls that serve machines with little memory alone. The crate for Rust and the WebAssembly module do not have them.
 FOR_LITTLE_MEMORY = {"qrproved_draw_row", "qrproved_encode_bits"}
+
+
+def measured(call, *asked):
+    """Returns what a call writes, whose length it is first asked for, or a status."""
+    written = ctypes.c_size_t(MARK)
+    status = call(*asked, None, 0, ctypes.byref(written))
+    if STATUSES[status] != "ROOM":
+        return STATUSES[status]
+    out = (ctypes.c_uint8 * written.value)()
+    status = call(*asked, out, len(out), ctypes.byref(written))
+    return bytes(out) if STATUSES[status] == "DONE" and written.value == len(out) else STATUSES[status]
 
 
 class Library:
@@ -203,36 +216,27 @@ class Library:
         return bytes(text[:needed])
 
     def document(self, squares, side, format, margin, micrometres):
-        """Returns the document of squares, whose length the library is first asked for, or a status."""
-        asked, written = (b"".join(squares), sum(map(len, squares)), side, len(squares), format, margin, micrometres), ctypes.c_size_t(MARK)
-        status = self.library.qrproved_document(*asked, None, 0, ctypes.byref(written))
-        if STATUSES[status] != "ROOM":
-            return STATUSES[status]
-        text = (ctypes.c_uint8 * written.value)()
-        status = self.library.qrproved_document(*asked, text, len(text), ctypes.byref(written))
-        return bytes(text) if STATUSES[status] == "DONE" and written.value == len(text) else STATUSES[status]
+        """Returns the document of squares, or a status."""
+        modules = b"".join(squares)
+        return measured(self.library.qrproved_document, modules, len(modules), side, len(squares), format, margin, micrometres)
+
+    def pdf(self, squares, side, margin, micrometres, dark, light):
+        """Returns the PDF document of squares in colours 0xRRGGBBAA, or a status."""
+        modules = b"".join(squares)
+        return measured(self.library.qrproved_pdf, modules, len(modules), side, len(squares), margin, micrometres, dark, light)
 
     def sheets(self, squares, side, margin, micrometres, sheet):
-        """Returns the document of labels, whose length the library is first asked for, or a status. `sheet` has the numbers of the
-        paper by their names."""
-        asked = b"".join(squares), sum(map(len, squares)), side, len(squares), margin, micrometres, ctypes.byref(Sheet(**sheet))
-        written = ctypes.c_size_t(MARK)
-        status = self.library.qrproved_sheets(*asked, None, 0, ctypes.byref(written))
-        if STATUSES[status] != "ROOM":
-            return STATUSES[status]
-        text = (ctypes.c_uint8 * written.value)()
-        status = self.library.qrproved_sheets(*asked, text, len(text), ctypes.byref(written))
-        return bytes(text) if STATUSES[status] == "DONE" and written.value == len(text) else STATUSES[status]
+        """Returns the document of labels, or a status. `sheet` has the numbers of the paper by their names."""
+        modules = b"".join(squares)
+        return measured(self.library.qrproved_sheets, modules, len(modules), side, len(squares), margin, micrometres, ctypes.byref(Sheet(**sheet)))
 
     def image(self, square, side, format, scale, margin, pixels_a_metre=0, left=0, top=0):
-        """Returns the image of a square as a file, whose length the library is first asked for, or a status."""
-        asked, written = (square, len(square), side, format, scale, margin, pixels_a_metre, left, top), ctypes.c_size_t(MARK)
-        status = self.library.qrproved_image(*asked, None, 0, ctypes.byref(written))
-        if STATUSES[status] != "ROOM":
-            return STATUSES[status]
-        file = (ctypes.c_uint8 * written.value)()
-        status = self.library.qrproved_image(*asked, file, len(file), ctypes.byref(written))
-        return bytes(file) if STATUSES[status] == "DONE" and written.value == len(file) else STATUSES[status]
+        """Returns the image of a square as a file, or a status."""
+        return measured(self.library.qrproved_image, square, len(square), side, format, scale, margin, pixels_a_metre, left, top)
+
+    def png(self, square, side, scale, margin, pixels_a_metre, dark, light):
+        """Returns the image of a square as a PNG file in colours 0xRRGGBBAA, or a status."""
+        return measured(self.library.qrproved_png, square, len(square), side, scale, margin, pixels_a_metre, dark, light)
 
     def parsed(self, text):
         """Returns the squares, their side, the number of the type and the margin. If the status is not 0, returns its

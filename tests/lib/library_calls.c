@@ -130,6 +130,21 @@ static int document(void)
 	return 0;
 }
 
+static int pdf(void)
+{
+	static uint8_t text[20000];
+	struct qrproved_symbol symbol;
+	size_t written;
+	if (qrproved_encode(TEXT, sizeof TEXT - 1, 1, 0, 0, NONE, 0, modules, sizeof modules, &symbol)) {
+		puts("pdf: not prepared");
+		return 0;
+	}
+	memset(text, MARK, sizeof text), memset(&written, MARK, sizeof written);
+	uint8_t status = qrproved_pdf(modules, sizeof modules, symbol.side, 1, 4, 330, 0xFF, 0, text, sizeof text, &written);
+	tell("pdf", status, text, sizeof text, &written, sizeof written);
+	return 0;
+}
+
 /* A paper of one column and one row. A symbol fits whose side is 10,000 micrometres at most. */
 static const struct qrproved_sheet PAPER = {10000, 10000, 0, 0, 0, 0, 1, 1, 0};
 
@@ -517,6 +532,18 @@ static int edges(void)
 	want("nothing of an image", is_marked(bytes, 0, sizeof bytes));
 	want("an image", qrproved_image(modules, 441, 21, QRPROVED_PBM, 1, 0, 0, 0, 0, bytes, 72, &written) == QRPROVED_DONE && !memcmp(bytes, "P4\n21 21\n", 9));
 	want("no more than an image", is_marked(bytes, 72, sizeof bytes));
+	memset(bytes, MARK, sizeof bytes), written = 5;
+	want("no modules for a PNG file", qrproved_png(NULL, 0, 21, 1, 0, 0, 0, UINT32_MAX, bytes, sizeof bytes, &written) == QRPROVED_ROOM && written == 0);
+	written = 5;
+	want("side 0 of a PNG file", qrproved_png(modules, 441, 0, 1, 0, 0, 0, UINT32_MAX, bytes, sizeof bytes, &written) == QRPROVED_SETTINGS);
+	want("scale 101 of a PNG file", qrproved_png(modules, 441, 21, 101, 0, 0, 0, UINT32_MAX, bytes, sizeof bytes, &written) == QRPROVED_SETTINGS);
+	want("margin 101 of a PNG file", qrproved_png(modules, 441, 21, 1, 101, 0, 0, UINT32_MAX, bytes, sizeof bytes, &written) == QRPROVED_SETTINGS);
+	want("2^31 pixels a metre of a PNG file", qrproved_png(modules, 441, 21, 1, 0, 0x80000000, 0, UINT32_MAX, bytes, sizeof bytes, &written) == QRPROVED_SETTINGS && written == 5);
+	want("length of a PNG file", qrproved_png(modules, 441, 21, 1, 0, 0, 0, UINT32_MAX, NULL, 0, &written) == QRPROVED_ROOM && written > 100);
+	want("a PNG file too long by a byte", qrproved_png(modules, 441, 21, 1, 0, 0, 0, UINT32_MAX, bytes, written - 1, &written) == QRPROVED_ROOM);
+	want("nothing of a PNG file", is_marked(bytes, 0, sizeof bytes));
+	want("a PNG file", qrproved_png(modules, 441, 21, 1, 0, 0, 0, UINT32_MAX, bytes, written, &written) == QRPROVED_DONE && !memcmp(bytes, "\x89PNG", 4));
+	want("no more than a PNG file", is_marked(bytes, written, sizeof bytes));
 	memset(bytes, MARK, sizeof bytes);
 	written = 5;
 	memset(bytes, MARK, sizeof bytes);
@@ -538,6 +565,16 @@ static int edges(void)
 	want("a module as EPS", qrproved_document((const uint8_t *)"\xC8", 1, 1, 1, QRPROVED_EPS, 0, 25400, bytes, eps_len, &written) == QRPROVED_DONE && !memcmp(bytes, EPS, eps_len));
 	want("no more is written", written == eps_len && is_marked(bytes, eps_len, sizeof bytes));
 	want("the widest module", qrproved_document((const uint8_t *)"\xC8", 1, 1, 1, QRPROVED_SVG_MM, 100, 1000000, bytes, sizeof bytes, &written) == QRPROVED_DONE);
+	memset(bytes, MARK, sizeof bytes);
+	written = 5;
+	want("no squares for a PDF in colours", qrproved_pdf(NULL, 0, 21, 1, 0, 1, 0xFF, 0, bytes, sizeof bytes, &written) == QRPROVED_ROOM && written == 0);
+	written = 5;
+	want("17 squares for a PDF in colours", qrproved_pdf(modules, 882, 1, 17, 0, 1, 0xFF, 0, bytes, sizeof bytes, &written) == QRPROVED_SETTINGS);
+	want("margin 101 of a PDF in colours", qrproved_pdf(modules, 882, 21, 2, 101, 1, 0xFF, 0, bytes, sizeof bytes, &written) == QRPROVED_SETTINGS);
+	want("0 micrometres in colours", qrproved_pdf(modules, 882, 21, 2, 0, 0, 0xFF, 0, bytes, sizeof bytes, &written) == QRPROVED_SETTINGS);
+	want("a dark colour that is not opaque", qrproved_pdf(modules, 882, 21, 2, 0, 1, 0xFE, 0, bytes, sizeof bytes, &written) == QRPROVED_SETTINGS);
+	want("a light colour that is half opaque", qrproved_pdf(modules, 882, 21, 2, 0, 1, 0xFF, 0x80, bytes, sizeof bytes, &written) == QRPROVED_SETTINGS && written == 5);
+	want("its length in colours", qrproved_pdf(modules, 882, 21, 2, 0, 1, 0xFF, 0, NULL, 0, &written) == QRPROVED_ROOM && written > 1000);
 	struct qrproved_sheet paper = PAPER;
 	memset(bytes, MARK, sizeof bytes);
 	written = 5;
@@ -655,6 +692,8 @@ int main(int argc, char **argv)
 		return draw();
 	if (!strcmp(what, "document"))
 		return document();
+	if (!strcmp(what, "pdf"))
+		return pdf();
 	if (!strcmp(what, "sheets"))
 		return sheets();
 	if (!strcmp(what, "parse_drawing"))

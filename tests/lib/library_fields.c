@@ -70,8 +70,12 @@ static void encode_series(void)
 	tell_all("text", text, written);
 	want_done("image", qrproved_image(modules, sizeof modules, series.side, QRPROVED_TSPL, 2, 3, 5, 7, 11, document, sizeof document, &document_len));
 	tell_all("image", document, document_len);
+	want_done("png", qrproved_png(modules, sizeof modules, series.side, 2, 3, 11, 0x01020304, 0xFAFBFCFD, document, sizeof document, &document_len));
+	tell_all("png", document, document_len);
 	want_done("document", qrproved_document(modules, sizeof modules, series.side, 2, QRPROVED_EPS, 6, 330, document, sizeof document, &document_len));
 	tell_all("document", document, document_len);
+	want_done("pdf", qrproved_pdf(modules, sizeof modules, series.side, 2, 6, 330, 0x010203FF, 0xFAFBFCFF, document, sizeof document, &document_len));
+	tell_all("pdf", document, document_len);
 	const struct qrproved_sheet sheet = {60000, 50000, 1000, 2000, 20000, 15000, 2, 3, 5};
 	want_done("sheets", qrproved_sheets(modules, sizeof modules, series.side, 2, 6, 330, &sheet, document, sizeof document, &document_len));
 	TELL(sheet.width), TELL(sheet.height), TELL(sheet.left), TELL(sheet.top), TELL(sheet.across), TELL(sheet.down);

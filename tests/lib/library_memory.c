@@ -14,9 +14,9 @@
 #include <string.h>
 
 enum { MARK = 7, MEMORY_MAX = 16000000, TEXT_MAX = 8000000, LEVELS = 4, RULES = 3, DRAWINGS = 4, VERSIONS = 40, KINDS = 12, SHORTER = 12, PIXELS_MAX = 400 };
-enum call { ENCODE, BITS, LOGO, SERIES, READ, MEND, DRAW, DOCUMENT, SHEETS, PARSE, FIND, CALLS };
+enum call { ENCODE, BITS, LOGO, SERIES, READ, MEND, DRAW, DOCUMENT, COLOURED, SHEETS, PARSE, FIND, CALLS };
 
-static const char *const NAMES[CALLS] = {"encode", "encode_bits", "encode_logo", "encode_series", "read", "mend", "draw", "document", "sheets", "parse_drawing", "find"};
+static const char *const NAMES[CALLS] = {"encode", "encode_bits", "encode_logo", "encode_series", "read", "mend", "draw", "document", "pdf", "sheets", "parse_drawing", "find"};
 static const uint32_t INTERPRETATIONS[] = {QRPROVED_INTERPRETATION_DEFAULT, 999999, QRPROVED_INTERPRETATION_GS1};
 
 /* Paper with one label on each sheet. */
@@ -68,6 +68,8 @@ static uint8_t call_with(enum call call, uint8_t *place, size_t len)
 		return qrproved_draw_in(place, len, modules, area * count, side, count, drawing, 4, out, sizeof out, &told.written);
 	case DOCUMENT:
 		return qrproved_document_in(place, len, modules, area * count, side, count, drawing % 3, 4, 330, out, sizeof out, &told.written);
+	case COLOURED:
+		return qrproved_pdf_in(place, len, modules, area * count, side, count, 4, 330, 0x102030FF, 0xFFFFFFFF, out, sizeof out, &told.written);
 	case SHEETS:
 		return qrproved_sheets_in(place, len, modules, area * count, side, count, 4, 330, &PAPER, out, sizeof out, &told.written);
 	case FIND:
@@ -81,7 +83,7 @@ static uint8_t call_with(enum call call, uint8_t *place, size_t len)
 static size_t room_of(enum call call)
 {
 	const size_t rooms[CALLS] = {QRPROVED_SYMBOL_MAX, QRPROVED_BITS(177), QRPROVED_SYMBOL_MAX, QRPROVED_SERIES_MAX, QRPROVED_BYTES_MAX, QRPROVED_BYTES_MAX, TEXT_MAX, TEXT_MAX,
-				     TEXT_MAX, QRPROVED_SERIES_MAX, QRPROVED_SYMBOL_MAX};
+				     TEXT_MAX, TEXT_MAX, QRPROVED_SERIES_MAX, QRPROVED_SYMBOL_MAX};
 	return rooms[call];
 }
 
@@ -103,6 +105,8 @@ static size_t enough_for(enum call call)
 		return QRPROVED_DRAW_MEMORY(drawing, side, count, 4);
 	case DOCUMENT:
 		return QRPROVED_DOCUMENT_MEMORY(side, count);
+	case COLOURED:
+		return QRPROVED_PDF_MEMORY(side, count);
 	case SHEETS:
 		return QRPROVED_SHEETS_MEMORY(side, count);
 	case FIND:
@@ -238,6 +242,7 @@ static void draw_and_parse(void)
 {
 	for (drawing = 0; drawing < DRAWINGS; drawing++) {
 		try_call(DOCUMENT);
+		try_call(COLOURED);
 		try_call(SHEETS);
 		try_call(DRAW);
 		call_with(DRAW, memory, MEMORY_MAX);

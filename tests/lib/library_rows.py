@@ -7,6 +7,7 @@ import ctypes
 import functools
 import itertools
 import operator
+import zlib
 from collections import Counter
 from functools import partial
 from typing import NamedTuple
@@ -122,6 +123,10 @@ def document(library, side, count, format, margin, micrometres, room):
     return file_of(library.library.qrproved_document, (SQUARES, len(SQUARES), side, count, format, margin, micrometres), room)
 
 
+def pdf(library, side, count, margin, micrometres, dark, light, room):
+    return file_of(library.library.qrproved_pdf, (SQUARES, len(SQUARES), side, count, margin, micrometres, dark, light), room)
+
+
 def written_document(library, modules, *settings):
     return file_of(library.library.qrproved_document, (modules, len(modules), *settings), 25_000)
 
@@ -133,6 +138,14 @@ def sheets(library, side, count, margin, micrometres, room, **changed):
 
 def image(library, side, format, scale, margin, pixels_a_metre, room):
     return file_of(library.library.qrproved_image, (SQUARE, len(SQUARE), side, format, scale, margin, pixels_a_metre, 0, 0), room)
+
+
+def png(library, side, scale, margin, pixels_a_metre, room):
+    return file_of(library.library.qrproved_png, (SQUARE, len(SQUARE), side, scale, margin, pixels_a_metre, 0x010203FF, 0xFFFFFFFF), room)
+
+
+def written_png(library, modules, *settings):
+    return file_of(library.library.qrproved_png, (modules, len(modules), *settings), 25_000)
 
 
 def written_image(library, modules, *settings):
@@ -835,6 +848,34 @@ DOCUMENTS = [
     ("two squares as EPS", 2, 2, EPS, 0, 25_400, 900, done(SQUARES_AS_EPS)),
     ("two squares as PDF", 2, 2, PDF, 0, 25_400, 900, done(SQUARES_AS_PDF)),
 ]
+# 51, 102 and 255 are fractions 0.2, 0.4 and 1 of 255, and 128 is 0.502 to three places.
+DARK, LIGHT, CLEAR = 0x3366FFFF, 0xFF8000FF, 0xFF800000
+WITHOUT_GROUND = SQUARES_AS_PDF.replace(b"1 g 0 0 2 2 re f\n0 g\n", b"0.200 0.400 1.000 rg\n")
+# Each page has 34 bytes more, and its length a digit more.
+IN_COLOURS = SQUARES_AS_PDF
+for shown, instead in ((b"1 g 0 0", b"1.000 0.502 0.000 rg 0 0"), (b"\n0 g\n", b"\n0.200 0.400 1.000 rg\n"), (b"/Length 76", b"/Length 110"),
+                       (b"0000000342", b"0000000377"), (b"0000000450", b"0000000485"), (b"startxref\n573", b"startxref\n643")):
+    IN_COLOURS = IN_COLOURS.replace(shown, instead)
+PDF_IN_COLOURS = [
+    ("two colours", 2, 2, 0, 25_400, DARK, LIGHT, 900, done(IN_COLOURS)),
+    ("no ground", 2, 2, 0, 25_400, DARK, CLEAR, 900, done(WITHOUT_GROUND)),
+]
+REFUSED_PDF = [
+    ("side 0", 0, 1, 0, 1, DARK, LIGHT, 8, SETTINGS),
+    ("side 178", 178, 1, 0, 1, DARK, LIGHT, 8, SETTINGS),
+    ("no square", 2, 0, 0, 1, DARK, LIGHT, 8, SETTINGS),
+    ("17 squares", 1, 17, 0, 1, DARK, LIGHT, 8, SETTINGS),
+    ("margin 101", 2, 1, 101, 1, DARK, LIGHT, 8, SETTINGS),
+    ("no width", 2, 1, 0, 0, DARK, LIGHT, 8, SETTINGS),
+    ("a metre and more", 2, 1, 0, 1_000_001, DARK, LIGHT, 8, SETTINGS),
+    ("a dark colour that is not opaque", 2, 1, 0, 1, DARK - 1, LIGHT, 8, SETTINGS),
+    ("a dark colour that is not drawn", 2, 1, 0, 1, DARK - 255, LIGHT, 8, SETTINGS),
+    ("a light colour that is not opaque", 2, 1, 0, 1, DARK, LIGHT - 1, 8, SETTINGS),
+    ("a light colour that is hardly seen", 2, 1, 0, 1, DARK, CLEAR + 1, 8, SETTINGS),
+    ("three squares", 2, 3, 0, 1, DARK, LIGHT, 8, NO_SQUARES),
+    ("no room", 2, 2, 0, 25_400, DARK, LIGHT, 0, too_short(IN_COLOURS)),
+    ("too little room", 2, 2, 0, 25_400, DARK, CLEAR, 9, too_short(WITHOUT_GROUND)),
+]
 REFUSED_DOCUMENTS = [
     ("side 0", 0, 1, SVG_MM, 0, 1, 8, SETTINGS),
     ("side 178", 178, 1, SVG_MM, 0, 1, 8, SETTINGS),
@@ -1186,6 +1227,33 @@ FILES = [
     ("a label in TSPL", PATTERN, 3, TSPL, 3, 1, 0, 12, 345, done(TSPL_LABEL)),
     ("a label in ZPL", PATTERN, 3, ZPL, 50, 1, 0, 12, 345, done(ZPL_LABEL)),
 ]
+
+
+def in_colours(file, *chunks):
+    """Returns a PNG file with a palette in place of grey, and with these chunks before its data."""
+    def chunk(kind, content):
+        return len(content).to_bytes(4, "big") + kind + content + zlib.crc32(kind + content).to_bytes(4, "big")
+
+    data = file.index(b"IDAT") - 4
+    return file[:8] + chunk(b"IHDR", file[16:25] + b"\3\0\0\0") + file[33:data] + b"".join(chunk(*it) for it in chunks) + file[data:]
+
+
+PALETTE = b"PLTE", bytes([0x12, 0x34, 0x56, 0xFE, 0xDC, 0xBA])
+COLOURED = [
+    ("two opaque colours", PATTERN, 3, 1, 1, 0, 0x123456FF, 0xFEDCBAFF, done(in_colours(NARROW, PALETTE))),
+    ("colours and a size", PATTERN, 3, 4, 4, 11_811, 0x123456FF, 0xFEDCBAFF, done(in_colours(FOURFOLD, PALETTE))),
+    ("a ground that is not seen", PATTERN, 3, 4, 4, 11_811, 0x123456FF, 0xFEDCBA00, done(in_colours(FOURFOLD, PALETTE, (b"tRNS", b"\xFF\0")))),
+    ("a dark colour that is half opaque", b"\1", 1, 1, 0, 0, 0x12345680, 0xFEDCBAFF, done(in_colours(ONE_PIXEL, PALETTE, (b"tRNS", b"\x80\xFF")))),
+]
+REFUSED_COLOURS = [
+    ("side 0", 0, 1, 0, 0, 999, SETTINGS),
+    ("side 178", 178, 1, 0, 0, 999, SETTINGS),
+    ("scale 0", 2, 0, 0, 0, 999, SETTINGS),
+    ("scale 101", 2, 101, 0, 0, 999, SETTINGS),
+    ("margin 101", 2, 1, 101, 0, 999, SETTINGS),
+    ("2^31 pixels a metre", 2, 1, 0, 1 << 31, 999, SETTINGS),
+    ("three rows", 3, 1, 0, 0, 999, NO_SQUARES),
+]
 LARGE_FILES = [
     ("a PNG file of several parts", STRIPES, 60, PNG, 7, 2, 0, 0, 0, ("DONE", 2370, 343_634, 404_228_413)),
     ("a receipt of several bands", PATTERN, 3, ESCPOS, 60, 1, 0, 0, 0, ("DONE", 11_416, 446_266, 2_272_986_780)),
@@ -1364,6 +1432,8 @@ TABLES = {
     "no line": (draw_row, REFUSED_LINES),
     "document": (document, DOCUMENTS),
     "no document": (document, REFUSED_DOCUMENTS),
+    "document in colours": (pdf, PDF_IN_COLOURS),
+    "no document in colours": (pdf, REFUSED_PDF),
     "written document": (written_document, WRITTEN),
     "large document": (partial(sums_of, written_document), LARGE_DOCUMENTS),
     "sheets": (sheets, SHEETS),
@@ -1373,6 +1443,8 @@ TABLES = {
     "no image": (image, REFUSED_IMAGES),
     "written image": (written_image, FILES),
     "large image": (partial(sums_of, written_image), LARGE_FILES),
+    "image in colours": (written_png, COLOURED),
+    "no image in colours": (png, REFUSED_COLOURS),
     "parsed": (parsed, PARSED),
     "drawn and parsed": (parsed_again, PARSED_AGAIN),
     "drawn, parsed and read": (parsed_and_read, PARSED_AND_READ),

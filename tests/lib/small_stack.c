@@ -90,9 +90,23 @@ static void *image(void *none)
 	return none;
 }
 
+static void *png(void *none)
+{
+	static uint8_t file[150000];
+	size_t length;
+	status = qrproved_png(modules, (size_t)side * side, side, 4, 4, 11811, 0x102030FF, 0, file, sizeof file, &length);
+	return none;
+}
+
 static void *document(void *none)
 {
 	status = qrproved_document(modules, (size_t)side * side * count, side, count, drawing % 3, 4, 330, text, sizeof text, &written);
+	return none;
+}
+
+static void *pdf(void *none)
+{
+	status = qrproved_pdf(modules, (size_t)side * side * count, side, count, 4, 330, 0x102030FF, 0xFFFFFFFF, text, sizeof text, &written);
 	return none;
 }
 
@@ -238,6 +252,7 @@ static void all(void)
 				mend_until_refused(0);
 				for (drawing = 0, count = 1; drawing < DRAWINGS; drawing++) {
 					want("document", in_small_stack(document), QRPROVED_DONE);
+					want("pdf", in_small_stack(pdf), QRPROVED_DONE);
 					want("sheets", in_small_stack(sheets), QRPROVED_DONE);
 					want("draw", in_small_stack(draw), QRPROVED_DONE);
 					want("draw_row", in_small_stack(draw_row), QRPROVED_DONE);
@@ -245,6 +260,7 @@ static void all(void)
 				}
 				for (format = 0; format < FORMATS; format++)
 					want("image", in_small_stack(image), QRPROVED_DONE);
+				want("png", in_small_stack(png), QRPROVED_DONE);
 				input_len *= 3;
 				want("encode_series", in_small_stack(encode_series), QRPROVED_DONE);
 				count = series.count;
@@ -261,7 +277,7 @@ static int once(const char *name)
 	static const struct { const char *name; void *(*call)(void *); } CALLS[] = {
 		{"encode", encode}, {"encode_bits", encode_bits}, {"encode_logo", encode_logo},
 		{"encode_series", encode_series}, {"read", read_symbol}, {"mend", mend},
-		{"draw", draw}, {"draw_row", draw_row}, {"document", document}, {"sheets", sheets}, {"image", image},
+		{"draw", draw}, {"draw_row", draw_row}, {"document", document}, {"pdf", pdf}, {"sheets", sheets}, {"image", image}, {"png", png},
 		{"parse_drawing", parse_drawing}, {"find", find}, {"room", room}};
 	written = fread(text, 1, sizeof text, stdin);
 	memcpy(modules, text, written < sizeof modules ? written : sizeof modules);

@@ -1,7 +1,8 @@
 -- Which bytes are written for print, for each format. A module is `micrometres` micrometres wide and high.
-use Rattle.std.specs.Prelude.{ℕ, ◌*◌, List, ◌++◌, codes, length}
+use Rattle.std.specs.Prelude.{ℕ, ◌*◌, List, ◌++◌, codes, length, Option}
 use Rattle.qr_matrix.specs.Grid.{Grid}
 use Rattle.qr_matrix.specs.Raster.{raster_width}
+use Rattle.qr_drawing.specs.declared.colours.Colours.{Colours}
 use Rattle.qr_drawing.specs.declared.document.Document.{Document}
 use Rattle.qr_drawing.specs.declared.document.Document.TheVariants.{Eps, Pdf, Svg}
 use Rattle.qr_drawing.specs.declared.document.DocumentSettings.{DocumentSettings}
@@ -32,12 +33,12 @@ sized_svg micrometres margin squares =
     declaration ++ (opening_start ++ size_in_mm micrometres width height ++ opening_rest width height)
     ++ background width height ++ foreground margin squares ++ closing
 
--- The document in this format [own]
-abbrev pub document_in : Document → ℕ → ℕ → List Grid → List ℕ
-document_in Svg micrometres margin squares = sized_svg micrometres margin squares
-document_in Eps micrometres margin squares = eps_document micrometres margin squares
-document_in Pdf micrometres margin squares = pdf_document micrometres margin squares
+-- The document in this format. The colours are those of a PDF document; SVG and EPS documents are black on white [own]
+abbrev pub document_in : Document → Option Colours → ℕ → ℕ → List Grid → List ℕ
+document_in Svg colours micrometres margin squares = sized_svg micrometres margin squares
+document_in Eps colours micrometres margin squares = eps_document micrometres margin squares
+document_in Pdf colours micrometres margin squares = pdf_document colours micrometres margin squares
 
 -- The document of the squares, as its settings say. Around each square is a light margin [own]
 abbrev pub document : DocumentSettings → List Grid → List ℕ
-document s squares = document_in s.format s.micrometres s.margin squares
+document s squares = document_in s.format s.colours s.micrometres s.margin squares

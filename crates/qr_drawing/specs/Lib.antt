@@ -4,6 +4,7 @@ pub mod Text
 pub mod Svg
 pub mod Measures
 pub mod Boxes
+pub mod Colours
 pub mod Eps
 pub mod Pdf
 pub mod Sheets

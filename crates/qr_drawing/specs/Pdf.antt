@@ -1,10 +1,12 @@
 -- PDF documents. Such a document consists of a header, objects, a table of the places of these objects, and a trailer
 -- (ISO 32000-1, 7.5). A length on paper is given in micrometres, and so is `micrometres`, the width of a module, which
 -- is also its height.
-use Rattle.std.specs.Prelude.{ℕ, ◌+◌, ◌-◌, ◌*◌, ◌/◌, ◌%◌, ◌==◌, if◌then◌else◌, List, ◌++◌, codes, decimal, length}
+use Rattle.std.specs.Prelude.{ℕ, ◌+◌, ◌-◌, ◌*◌, ◌/◌, ◌%◌, ◌==◌, if◌then◌else◌, List, ◌++◌, codes, decimal, length, Option}
 use Rattle.qr_matrix.specs.Grid.{Grid}
 use Rattle.qr_matrix.specs.Raster.{raster_width}
 use Rattle.qr_drawing.specs.Boxes.{symbol_lines}
+use Rattle.qr_drawing.specs.Colours.{dark_colour, light_square}
+use Rattle.qr_drawing.specs.declared.colours.Colours.{Colours}
 use Rattle.qr_drawing.specs.Measures.{last_digits, points}
 use Rattle.qr_drawing.specs.Raster.{texts_below}
 use Rattle.qr_drawing.specs.Svg.{numbered, square_at}
@@ -97,29 +99,29 @@ document_of_pages p =
     let objects = objects_below p n in
     objects ++ table_of n (texts_below n (place_of p)) ++ trailer n (length objects)
 
--- The commands that make a module the unit and a square of `width` modules white, and choose black. The lower left corner
--- of the square is in `corner`, which has two numbers of points (ISO 32000-1, 8.3.4, 8.5.2, 8.6.8)
-unfoldable pub square_start : ℕ → List ℕ → ℕ → List ℕ
-square_start micrometres corner width =
-    points micrometres ++ codes " 0 0 " ++ points micrometres ++ codes " " ++ corner ++ numbered (codes " cm\n1 g 0 0 ") width
-    ++ numbered (codes " ") width ++ codes " re f\n0 g\n"
+-- The commands that make a module the unit and a square of `width` modules light, and choose the colour of dark modules.
+-- The lower left corner of the square is in `corner`, which has two numbers of points (ISO 32000-1, 8.3.4)
+unfoldable pub square_start : Option Colours → ℕ → List ℕ → ℕ → List ℕ
+square_start colours micrometres corner width =
+    points micrometres ++ codes " 0 0 " ++ points micrometres ++ codes " " ++ corner ++ codes " cm\n"
+    ++ light_square colours width ++ dark_colour colours
 
 -- The commands that draw a symbol with its margin: its boxes are filled together (ISO 32000-1, 8.5.3.1)
-unfoldable pub square_commands : ℕ → List ℕ → ℕ → Grid → List ℕ
-square_commands micrometres corner margin g =
-    square_start micrometres corner (raster_width margin g) ++ symbol_lines (codes " 1 re\n") 0 margin g ++ codes "f\n"
+unfoldable pub square_commands : Option Colours → ℕ → List ℕ → ℕ → Grid → List ℕ
+square_commands colours micrometres corner margin g =
+    square_start colours micrometres corner (raster_width margin g) ++ symbol_lines (codes " 1 re\n") 0 margin g ++ codes "f\n"
 
 -- The pages of symbols of which each has a page for itself, which is as large as its raster [own]
-abbrev pub symbol_pages : ℕ → ℕ → List Grid → Pages
-symbol_pages micrometres margin squares =
+abbrev pub symbol_pages : Option Colours → ℕ → ℕ → List Grid → Pages
+symbol_pages colours micrometres margin squares =
     let size : ℕ → ℕ = λ k. raster_width margin (square_at squares k) * micrometres in
     record {
       count = length squares;
       width = size;
       height = size;
-      commands = λ k. square_commands micrometres (codes "0 0") margin (square_at squares k);
+      commands = λ k. square_commands colours micrometres (codes "0 0") margin (square_at squares k);
     }
 
 -- The PDF document of the symbols, with a page for each [own]
-abbrev pub pdf_document : ℕ → ℕ → List Grid → List ℕ
-pdf_document micrometres margin squares = document_of_pages (symbol_pages micrometres margin squares)
+abbrev pub pdf_document : Option Colours → ℕ → ℕ → List Grid → List ℕ
+pdf_document colours micrometres margin squares = document_of_pages (symbol_pages colours micrometres margin squares)

@@ -1,6 +1,6 @@
 -- The PDF document of symbols as labels on sheets of label paper. A sheet has places for labels, in columns and rows.
 -- All lengths on paper are in micrometres. A label is a symbol with its light margin.
-use Rattle.std.specs.Prelude.{ℕ, ◌+◌, ◌-◌, ◌*◌, ◌/◌, ◌%◌, ◌<◌, ◌≤◌, nat_lt, if◌then◌else◌, List, [], ◌++◌, codes, length}
+use Rattle.std.specs.Prelude.{ℕ, ◌+◌, ◌-◌, ◌*◌, ◌/◌, ◌%◌, ◌<◌, ◌≤◌, nat_lt, if◌then◌else◌, List, [], ◌++◌, codes, length, None}
 use Rattle.qr_matrix.specs.Grid.{Grid}
 use Rattle.qr_matrix.specs.Raster.{raster_width}
 use Rattle.qr_drawing.specs.Measures.{points}
@@ -42,11 +42,11 @@ unfoldable pub corner_of : Sheet → ℕ → ℕ → List ℕ
 corner_of s size place =
     points (s.left + place % s.columns * s.across) ++ codes " " ++ points (s.height - (s.top + place / s.columns * s.down) - size)
 
--- The commands that draw a label. What they change for it, the unit and the origin, is restored after it (ISO 32000-1,
--- 8.4.2)
+-- The commands that draw a label, black on white. What they change for it, the unit, the origin and the colour, is
+-- restored after it (ISO 32000-1, 8.4.2)
 unfoldable pub label_commands : SheetSettings → Grid → ℕ → List ℕ
 label_commands s g place =
-    codes "q " ++ square_commands s.micrometres (corner_of s.sheet (label_size s g) place) s.margin g ++ codes "Q\n"
+    codes "q " ++ square_commands None s.micrometres (corner_of s.sheet (label_size s g) place) s.margin g ++ codes "Q\n"
 
 -- The commands for a place of a sheet. The places of all sheets are counted one after the other: the first ones stay
 -- free, then each has the next symbol, and those after the last symbol are free too [own]

@@ -9,12 +9,14 @@ ghost use Rattle.qr_drawing.specs.Document.{document, opening_rest, size_in_mm, 
 ghost use Rattle.qr_drawing.specs.Drawing.{HaveOneSide};
 ghost use Rattle.qr_drawing.specs.Steps.Document.{sized_head};
 
-use crate::drawing::{HasSquare, Raster};
+use crate::colours::Colours;
+use crate::drawing::Raster;
 use crate::eps::put_eps;
 use crate::measures::{LENGTH_MAX, push_millimetres};
 use crate::pdf::{SymbolPages, put_pdf};
 use crate::svg::{TAIL, push_background, push_numbered, push_tail, put_stack};
 use qr_devices::{DrawFault, PEN_SIZE, Pen, Piece, Sink, WRITE_MAX};
+use qr_matrix::HasSquare;
 
 /// The format of a document for print.
 #[derive(Clone, Copy, Debug, PartialEq, Eq)]
@@ -36,6 +38,8 @@ pub struct DocumentSettings {
     pub margin: u8,
     /// The width of a module in micrometres, 1 to 1,000,000, which is also its height.
     pub micrometres: u32,
+    /// The colours of a PDF document. Without them it is black on white, as SVG and EPS documents always are.
+    pub colours: Option<Colours>,
 }
 
 // How many bytes of room the pen has to have for all that comes before the first box of an SVG document.
@@ -112,6 +116,9 @@ fn put_sized_svg<S: HasSquare, W: Sink>(
 /// micrometres wide and high. In SVG and EPS the squares are one below the other. A PDF has a page for each, which is as
 /// large as the square with its margin.
 ///
+/// A PDF has the colours of `settings.colours`, and without them it is black on white. SVG and EPS documents are always
+/// black on white.
+///
 /// The document depends only on the settings and on the squares.
 ///
 /// Allocates no memory, and offers `out` at most 1,200 bytes at a time. Interrupted writes (EINTR) are tried again, at
@@ -157,6 +164,7 @@ pub fn write_document<S: HasSquare, W: Sink>(
                 symbols,
                 margin,
                 micrometres,
+                colours: settings.colours,
             };
             put_pdf(&mut pen, out, &pages)
         }

@@ -11,7 +11,7 @@ ghost use Rattle.qr_matrix.specs.Raster.{raster_width};
 use crate::svg::put_document;
 use crate::text::{TextStyle, put_texts};
 use qr_devices::{DrawFault, Pen, Sink, WRITE_MAX};
-use qr_symbol::{Matrix, Symbol};
+use qr_matrix::{HasSquare, Matrix};
 
 /// How symbols are drawn: as a text or as an SVG document.
 #[derive(Clone, Copy, Debug, PartialEq, Eq)]
@@ -24,34 +24,6 @@ pub enum Drawing {
     Utf8,
     /// A Scalable Vector Graphics document.
     Svg,
-}
-
-/// A type whose values have a square of modules, which can be drawn.
-pub trait HasSquare {
-    ghost use Rattle.qr_matrix.specs.Grid.{Grid};
-
-    // The square, as contracts see it.
-    ghost grid: { Self → Grid };
-
-    /// Returns the square, without a margin.
-    fn square(&self) -> &Matrix
-        ensures { result.now ≡ grid self.now };
-}
-
-impl HasSquare for Matrix {
-    ghost grid = { λ m. m };
-
-    fn square(&self) -> &Matrix {
-        self
-    }
-}
-
-impl HasSquare for Symbol {
-    ghost grid = { λ s. s.matrix };
-
-    fn square(&self) -> &Matrix {
-        &self.matrix
-    }
 }
 
 /// A square of 1 to 177 modules on a side whose modules can be read eight at a time. It need not be a `Matrix`, which is

@@ -10,10 +10,11 @@ ghost use Rattle.qr_drawing.specs.Steps.Document.{eps_head};
 ghost use Rattle.qr_drawing.specs.Svg.{square_at};
 
 use crate::boxes::put_lines;
-use crate::drawing::{HasSquare, Raster};
+use crate::drawing::Raster;
 use crate::measures::{LENGTH_MAX, push_points, push_whole_points};
 use crate::svg::push_numbered;
 use qr_devices::{DrawFault, PEN_SIZE, Pen, Piece, Sink, WRITE_MAX};
+use qr_matrix::HasSquare;
 
 // How many bytes of room the pen has to have for all that comes before the first box.
 const HEAD_MAX: usize = 400;

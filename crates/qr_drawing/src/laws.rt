@@ -1,10 +1,12 @@
 //! Laws of drawings: which characters show modules, what small squares look like, and which texts make an SVG document.
-//! Laws of documents for print: where the objects of a PDF document are, and how its size comes into an SVG document.
+//! Laws of documents for print: lengths and colours, where the objects of a PDF document are, and how its size comes into
+//! an SVG document.
 //! The contract of a function with an empty body is the law.
 
 ghost use Rattle.std.specs.Prelude.{◌≡◌, ◌==◌, ◌+◌, ◌*◌, ◌++◌, ◌∷◌, [], ℕ, List, codes, decimal};
 ghost use Rattle.qr_matrix.specs.Grid.{Grid, square};
-ghost use Rattle.qr_drawing.specs.Svg.{background, box_path, closing, declaration, foreground, opening, stack_path, svg_document};
+ghost use Rattle.qr_drawing.specs.Colours.{dark_colour, fill_colour, light_square};
+ghost use Rattle.qr_drawing.specs.Svg.{background, box_path, closing, declaration, foreground, numbered, opening, stack_path, svg_document};
 ghost use Rattle.qr_drawing.specs.Drawing.{drawn};
 ghost use Rattle.qr_drawing.specs.declared.drawing.Drawing.TheVariants.{Ascii, AsciiInverse, Utf8};
 ghost use Rattle.qr_drawing.specs.Laws.{CharactersOfModules, HasItsPlaces, IsSizedAlone};
@@ -47,6 +49,18 @@ pub fn measures_compute()
     ensures rounded { points 333 ≡ codes "0.943937" }
     ensures whole { whole_points 353 ≡ codes "2" }
     ensures exact { whole_points 25400 ≡ codes "72" }
+{}
+
+/// The commands that choose red, and the colour 0x336680: 51, 102 and 128 are 0.2, 0.4 and 0.502 of 255, the last one
+/// rounded. A square without colours is white and gets black modules. A square with colours is filled with the light
+/// one, or not at all if there is none.
+pub fn colours_compute()
+    ensures red { fill_colour 0xFF0000 ≡ codes "1.000 0.000 0.000 rg" }
+    ensures mixed { fill_colour 0x336680 ≡ codes "0.200 0.400 0.502 rg" }
+    ensures plain { (w : ℕ) → light_square None w ++ dark_colour None ≡ numbered (codes "1 g 0 0 ") w ++ numbered (codes " ") w ++ codes " re f\n0 g\n" }
+    ensures filled { (dark light w : ℕ) → light_square (Some (record { dark = dark; light = Some light })) w ≡ fill_colour light ++ numbered (codes " 0 0 ") w ++ numbered (codes " ") w ++ codes " re f\n" }
+    ensures bare { (dark w : ℕ) → light_square (Some (record { dark = dark; light = None })) w ≡ [] }
+    ensures modules { (dark light : ℕ) → dark_colour (Some (record { dark = dark; light = Some light })) ≡ fill_colour dark ++ codes "\n" }
 {}
 
 /// Each object of a PDF document begins after as many bytes as the table says, and the table after as many as the

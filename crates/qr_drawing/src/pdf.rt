@@ -12,11 +12,13 @@ ghost use Rattle.qr_drawing.specs.Raster.{texts_below};
 ghost use Rattle.qr_drawing.specs.Svg.{numbered, square_at};
 
 use crate::boxes::put_lines;
-use crate::drawing::{HasSquare, Raster};
+use crate::colours::{Colours, push_dark_colour, push_light_square};
+use crate::drawing::Raster;
 use crate::measures::{LENGTH_MAX, push_decimal, push_last_ten, push_points};
 use crate::svg::{push_number, push_numbered};
 use itoa::Buffer;
 use qr_devices::{DrawFault, PEN_SIZE, Pen, Piece, Sink, WRITE_MAX};
+use qr_matrix::HasSquare;
 
 // The number of bytes of the catalog.
 const CATALOG: u64 = 29;
@@ -123,33 +125,47 @@ fn decimal_length(number: u64) -> u64
     digits.format(number).len() as u64
 }
 
+// How many bytes of room the pen has to have for the commands before the boxes of a square.
+const SQUARE_START_MAX: usize = 200;
+
 // Appends the commands before the boxes of a square.
-fn push_square_start(text: &mut Piece<PEN_SIZE>, micrometres: u32, corner: &[u8], width: u16)
+fn push_square_start(
+    text: &mut Piece<PEN_SIZE>,
+    colours: Option<Colours>,
+    micrometres: u32,
+    corner: &[u8],
+    width: u16,
+)
     requires small { micrometres ≤ 1000000 }
     requires corner { length corner.now ≤ 60 }
-    requires room { length text.old + 180 ≤ WRITE_MAX }
-    ensures items { text.new ≡ text.old ++ square_start micrometres corner.now width }
-    ensures len { length text.new ≤ length text.old + 180 }
+    requires room { length text.old + SQUARE_START_MAX ≤ WRITE_MAX }
+    ensures items { text.new ≡ text.old ++ square_start colours micrometres corner.now width }
+    ensures len { length text.new ≤ length text.old + SQUARE_START_MAX }
 {
     push_points(text, u64::from(micrometres));
     text.push_all(b" 0 0 ");
     push_points(text, u64::from(micrometres));
     text.push(b' ');
     text.push_all(corner);
-    push_numbered(text, b" cm\n1 g 0 0 ", width);
-    push_numbered(text, b" ", width);
-    text.push_all(b" re f\n0 g\n");
+    text.push_all(b" cm\n");
+    push_light_square(text, colours, width);
+    push_dark_colour(text, colours);
 }
 
 /// Returns the length of the commands that draw a square with its margin.
-pub(crate) fn square_length(raster: &Raster, micrometres: u32, corner: &[u8]) -> u64
+pub(crate) fn square_length(
+    raster: &Raster,
+    colours: Option<Colours>,
+    micrometres: u32,
+    corner: &[u8],
+) -> u64
     requires small { micrometres ≤ 1000000 }
     requires corner { length corner.now ≤ 60 }
-    ensures value { result ≡ length (square_commands micrometres corner.now raster.now.margin raster.now.matrix.now) }
+    ensures value { result ≡ length (square_commands colours micrometres corner.now raster.now.margin raster.now.matrix.now) }
     ensures most { result ≤ 533000 }
 {
     let mut start = empty();
-    push_square_start(&mut start, micrometres, corner, raster.width());
+    push_square_start(&mut start, colours, micrometres, corner, raster.width());
     start.len() as u64 + u64::from(lines_length(raster)) + 2
 }
 
@@ -158,16 +174,17 @@ pub(crate) fn put_square<W: Sink>(
     pen: &mut Pen,
     out: &mut W,
     raster: &Raster,
+    colours: Option<Colours>,
     micrometres: u32,
     corner: &[u8],
 ) -> Result<(), DrawFault>
     requires small { micrometres ≤ 1000000 }
     requires corner { length corner.now ≤ 60 }
     ensures { Puts (W.device out.old) (W.device out.new)
-        pen.old pen.new (square_commands micrometres corner.now raster.now.margin raster.now.matrix.now) result }
+        pen.old pen.new (square_commands colours micrometres corner.now raster.now.margin raster.now.matrix.now) result }
 {
-    pen.reserve(out, 180)?;
-    push_square_start(&mut pen.piece, micrometres, corner, raster.width());
+    pen.reserve(out, SQUARE_START_MAX)?;
+    push_square_start(&mut pen.piece, colours, micrometres, corner, raster.width());
     put_lines(pen, out, raster, 0, b" 1 re\n")?;
     pen.reserve(out, 2)?;
     pen.piece.push_all(b"f\n");
@@ -481,6 +498,7 @@ pub(crate) struct SymbolPages<'a, S: HasSquare> {
     pub(crate) symbols: &'a [S],
     pub(crate) margin: u8,
     pub(crate) micrometres: u32,
+    pub(crate) colours: Option<Colours>,
     ghost some: { 0 < length symbols.now },
     ghost few: { length symbols.now ≤ 16 },
     ghost small: { micrometres ≤ 1000000 },
@@ -500,7 +518,7 @@ impl<S: HasSquare> SymbolPages<'_, S> {
 }
 
 impl<S: HasSquare> HasPages for SymbolPages<'_, S> {
-    ghost pages = { λ d. symbol_pages d.micrometres d.margin (map S.grid d.symbols.now) };
+    ghost pages = { λ d. symbol_pages d.colours d.micrometres d.margin (map S.grid d.symbols.now) };
 
     fn count(&self) -> u16 {
         self.symbols.len() as u16
@@ -512,7 +530,7 @@ impl<S: HasSquare> HasPages for SymbolPages<'_, S> {
     }
 
     fn commands_length(&self, page: u16) -> u64 {
-        square_length(&self.raster(page), self.micrometres, b"0 0")
+        square_length(&self.raster(page), self.colours, self.micrometres, b"0 0")
     }
 
     fn put_commands<W: Sink>(
@@ -521,6 +539,13 @@ impl<S: HasSquare> HasPages for SymbolPages<'_, S> {
         out: &mut W,
         page: u16,
     ) -> Result<(), DrawFault> {
-        put_square(pen, out, &self.raster(page), self.micrometres, b"0 0")
+        put_square(
+            pen,
+            out,
+            &self.raster(page),
+            self.colours,
+            self.micrometres,
+            b"0 0",
+        )
     }
 }

@@ -8,10 +8,11 @@ ghost use Rattle.qr_devices.specs.Device.{AppendsBeginning, IsWrittenWithin, cou
 ghost use Rattle.qr_devices.specs.Pen.{Puts};
 ghost use Rattle.qr_drawing.specs.Sheets.{FitsSheet, IsSheet, corner_of, label_size, places_of, sheet_pages, sheets_document};
 
-use crate::drawing::{HasSquare, Raster};
+use crate::drawing::Raster;
 use crate::measures::push_points;
 use crate::pdf::{HasPages, empty, put_pdf, put_square, square_length};
 use qr_devices::{DrawFault, PEN_SIZE, Pen, Piece, Sink, WRITE_MAX};
+use qr_matrix::HasSquare;
 
 /// Label paper. All lengths are in micrometres.
 #[derive(Clone, Copy, Debug)]
@@ -164,7 +165,7 @@ impl<S: HasSquare> SheetPages<'_, S> {
             return 0;
         };
         let corner = self.corner(&raster, place);
-        square_length(&raster, self.settings.micrometres, corner.as_slice()) + 4
+        square_length(&raster, None, self.settings.micrometres, corner.as_slice()) + 4
     }
 
     // Writes the commands for a place of a page.
@@ -189,6 +190,7 @@ impl<S: HasSquare> SheetPages<'_, S> {
             pen,
             out,
             &raster,
+            None,
             self.settings.micrometres,
             corner.as_slice(),
         )?;

@@ -9,9 +9,10 @@ ghost use Rattle.qr_devices.specs.Pen.{Puts};
 ghost use Rattle.qr_drawing.specs.Steps.Svg.{head, tail, width_path};
 ghost use Rattle.qr_drawing.specs.Svg.{background, box_path, numbered, opening, row_path, stack_path, svg_document, symbol_path};
 
-use crate::drawing::{HasSquare, Raster};
+use crate::drawing::Raster;
 use itoa::Buffer;
 use qr_devices::{DrawFault, PEN_SIZE, Pen, Piece, Sink, WRITE_MAX};
+use qr_matrix::HasSquare;
 
 // How many bytes of room the pen has to have before a box is appended. A box has at most 22 bytes. With another number
 // than 32 the writes would have other sizes, and `tests/devices` would fail.
@@ -29,7 +30,7 @@ pub(crate) const TAIL: usize = 11;
 // crate `itoa` does. They are used for the row of a box, and for its width if the box has ten modules or more. Smaller
 // widths come from the table `SHORT_RUNS`. For a column `push_column` takes the last two digits from the table
 // `TWO_DIGITS`, and computes the first of three digits, or the only one. `itoa` formats the numbers before the path.
-fn push_digit<const CAP: usize>(text: &mut Piece<CAP>, digit: u16)
+pub(crate) fn push_digit<const CAP: usize>(text: &mut Piece<CAP>, digit: u16)
     requires digit { digit < 10 }
     requires room { length text.old < CAP }
     ensures items { text.new ≡ text.old ++ (48 + digit) ∷ [] }

@@ -17,8 +17,9 @@ ghost use Rattle.qr_drawing.specs.Steps.Text.{AreDark, bits_text, cell_room, cel
 ghost use Rattle.qr_devices.specs.Pen.{Puts};
 ghost use Rattle.qr_drawing.specs.declared.text.TextStyle.TheVariants.{HalfBlocks, Plain};
 
-use crate::drawing::{Eights, HasSquare, Raster};
+use crate::drawing::{Eights, Raster};
 use qr_devices::{DrawFault, PEN_SIZE, Pen, Piece, Sink, WRITE_MAX};
+use qr_matrix::HasSquare;
 
 /// How a text shows modules.
 #[derive(Clone, Copy)]

@@ -17,7 +17,7 @@ use qr_devices::{DrawFault, Sink};
 /// The format of a file.
 #[derive(Clone, Copy, Debug, PartialEq, Eq)]
 pub enum Format {
-    /// Portable Network Graphics (ISO/IEC 15948), in grey with one bit a pixel.
+    /// Portable Network Graphics (ISO/IEC 15948), with one bit a pixel: in grey, or with a palette of two colours.
     Png,
     /// A raw bitmap of netpbm (P4). It cannot say how many pixels a metre has.
     Pbm,
@@ -31,6 +31,16 @@ pub enum Format {
     Zpl,
 }
 
+/// The colours of an image. Each is the number 0xRRGGBBAA: red, green and blue, and how opaque it is, from 0x00 for what
+/// is not seen to 0xFF.
+#[derive(Clone, Copy, Debug)]
+pub struct Colours {
+    /// The colour of dark modules.
+    pub dark: u32,
+    /// The colour of light modules and of the margin.
+    pub light: u32,
+}
+
 /// How an image is written.
 #[derive(Clone, Copy, Debug)]
 pub struct ImageSettings {
@@ -40,6 +50,8 @@ pub struct ImageSettings {
     pub scale: u8,
     /// The width of the light margin on each side in modules, 0 to 100.
     pub margin: u8,
+    /// The colours, or `None` for black on white. Formats that have no colours leave them out.
+    pub colours: Option<Colours>,
     /// How many pixels of the printed image a metre has, below 2^31, or 0 if the file is not to say it. Formats that
     /// cannot say it leave it out.
     pub pixels_a_metre: u32,

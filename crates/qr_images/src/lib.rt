@@ -53,5 +53,5 @@ mod tspl;
 mod zpl;
 
 pub use buffer::{fill_image, image_len, image_room};
-pub use image::{Format, ImageSettings, write_image};
+pub use image::{Colours, Format, ImageSettings, write_image};
 pub use modules::Modules;

@@ -7,6 +7,7 @@
 //! - `bytes`: the modules of a square as bytes
 //! - `dark_runs`: the dark runs of a row
 //! - `difference`: the number of modules in which two squares differ
+//! - `has_square`: values that have a square of modules
 //! - `laws`: laws of the penalty, of differences and of bytes
 //! - `matrix`: the square, stored and transposed; its definitions are in `Grid`
 //! - `matrix_pair`: two squares on which one operation works at once
@@ -20,6 +21,7 @@ mod bit_row;
 mod bytes;
 mod dark_runs;
 mod difference;
+mod has_square;
 pub mod laws;
 mod matrix;
 mod matrix_pair;
@@ -32,6 +34,7 @@ pub use bit_row::BitRow;
 pub use bytes::{matrices_of_bytes, matrix_of_bytes, write_square};
 pub use dark_runs::{DarkRuns, Run};
 pub use difference::differences;
+pub use has_square::HasSquare;
 pub use matrix::Matrix;
 pub use matrix_pair::MatrixPair;
 pub use penalties::penalty;

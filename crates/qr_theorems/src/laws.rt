@@ -164,8 +164,9 @@ pub fn damaged_series_are_mended(alloc: Global, damaged: &[Matrix]) -> Result<Ve
 }
 
 /// From the bytes of a PNG file to the bytes of the input: the file that `write_image` of `qr_images` writes for a symbol,
-/// read by the rules of PNG, is a picture, and reading the square in this picture yields the bytes of the input, the
-/// interpretation, the segments of fewest bits, and the structured append header, if the symbol has one.
+/// in black on white or in two other colours, is a picture by the rules of PNG. Reading the square in this picture yields
+/// the bytes of the input, the interpretation, the segments of fewest bits, and the structured append header, if the symbol
+/// has one.
 pub fn images_are_read(version: Version)
     ensures { ImagesAreRead version }
 {
@@ -173,8 +174,8 @@ pub fn images_are_read(version: Version)
 }
 
 /// From the bytes of a PNG file to the bytes of the input, by the code that reads pictures. Take the file that
-/// `write_image` of `qr_images` writes for a symbol, and the pixels of the picture that this file is by the rules of PNG.
-/// In these pixels `clean_square` finds the symbol. Reading the modules that `write_modules` then writes yields the bytes
+/// `write_image` of `qr_images` writes for a symbol, and the pixels of the picture that this file is by the rules of PNG, in
+/// grey. If its two colours are different greys, `clean_square` finds the symbol in these pixels. Reading the modules that `write_modules` then writes yields the bytes
 /// of the input, the interpretation, the segments of fewest bits, and the structured append header, if the symbol has one.
 pub fn pictures_are_read(
     version: Version,

@@ -1,5 +1,5 @@
 -- What `qrproved_document` writes, and when it refuses a buffer as too short. It takes squares as `qrproved_draw` does.
-use Rattle.std.specs.Prelude.{ℕ, ◌<◌, ◌≤◌, ◌==◌, if◌then◌else◌, List}
+use Rattle.std.specs.Prelude.{ℕ, ◌<◌, ◌≤◌, ◌==◌, if◌then◌else◌, List, None}
 use Rattle.qr_drawing.specs.declared.document.Document.{Document}
 use Rattle.qr_drawing.specs.declared.document.Document.TheVariants.{Eps, Pdf, Svg}
 use Rattle.qr_drawing.specs.Document.{document}
@@ -16,10 +16,10 @@ abbrev pub AreDocumentSettings : (side count format margin micrometres : ℕ) �
 AreDocumentSettings side count format margin micrometres =
     (1 ≤ side) × (side ≤ 177) × (1 ≤ count) × (count ≤ 16) × (format < 3) × (margin ≤ 100) × (1 ≤ micrometres) × (micrometres ≤ 1000000)
 
--- The document of the `count` squares that the first bytes of `bytes` give [own]
+-- The document of the `count` squares that the first bytes of `bytes` give, black on white [own]
 abbrev pub document_of_bytes : (side count format margin micrometres : ℕ) → List ℕ → List ℕ
 document_of_bytes side count format margin micrometres bytes =
-    document (record { format = format_of format; margin = margin; micrometres = micrometres }) (squares_of_bytes side count bytes)
+    document (record { format = format_of format; margin = margin; micrometres = micrometres; colours = None }) (squares_of_bytes side count bytes)
 
 -- The numbers are in range, but `modules` has fewer bytes than the squares have modules [own]
 abbrev pub LacksDocumentModules : (modules : List ℕ) (side count format margin micrometres : ℕ) → Type 0

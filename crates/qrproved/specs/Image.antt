@@ -1,6 +1,6 @@
 -- What `qrproved_image` writes, and when it refuses a buffer as too short. It writes the image of a square of `side`
 -- rows. The buffer `modules` begins with a byte for each module, row by row.
-use Rattle.std.specs.Prelude.{ℕ, ◌*◌, ◌<◌, ◌≤◌, ◌^◌, ◌==◌, if◌then◌else◌, List, length}
+use Rattle.std.specs.Prelude.{ℕ, ◌*◌, ◌<◌, ◌≤◌, ◌^◌, ◌==◌, if◌then◌else◌, List, None, length}
 use Rattle.qr_images.specs.Writing.{image_file}
 use Rattle.qr_images.specs.declared.image.Format.{Format}
 use Rattle.qr_images.specs.declared.image.Format.TheVariants.{EscPos, Pbm, Png, Tspl, Zpl}
@@ -15,7 +15,7 @@ format_of n = if n == 0 then Png else (if n == 1 then Pbm else (if n == 2 then E
 -- What the numbers of a caller mean [own]
 abbrev pub settings_of : (format scale margin pixels_a_metre left top : ℕ) → ImageSettings
 settings_of format scale margin pixels_a_metre left top =
-    record { format = format_of format; scale = scale; margin = margin; pixels_a_metre = pixels_a_metre; left = left; top = top }
+    record { format = format_of format; scale = scale; margin = margin; colours = None; pixels_a_metre = pixels_a_metre; left = left; top = top }
 
 -- The numbers of the settings are in range. PNG has room for 2^31 - 1 pixels a metre, and printers take positions of up
 -- to 32,000 dots [own]

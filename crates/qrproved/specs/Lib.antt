@@ -13,6 +13,8 @@ pub mod Row
 pub mod Document
 pub mod Sheets
 pub mod Image
+pub mod Png
+pub mod Pdf
 pub mod Parsing
 pub mod Finding
 pub mod Logo

@@ -13,13 +13,13 @@ use qr_devices::Counted;
 use qr_drawing::{Document, DocumentSettings, write_document};
 use std::alloc::{AllocError, Global};
 
-// The numbers of a caller, after they were checked.
+/// The numbers of a caller, after they were checked.
 #[derive(Clone, Copy)]
-struct DocumentNumbers {
-    // The number of rows and columns of each square.
-    side: u8,
-    count: u8,
-    settings: DocumentSettings,
+pub(crate) struct DocumentNumbers {
+    /// The number of rows and columns of each square.
+    pub(crate) side: u8,
+    pub(crate) count: u8,
+    pub(crate) settings: DocumentSettings,
 }
 
 fn format_of(number: u32) -> Option<Document>
@@ -44,7 +44,7 @@ fn document_numbers_of(
         (record {
           side = side;
           count = count;
-          settings = record { format = format_of format; margin = margin; micrometres = micrometres };
+          settings = record { format = format_of format; margin = margin; micrometres = micrometres; colours = None };
         }) }
 {
     let side = between(side, 1, 177)?;
@@ -61,13 +61,18 @@ fn document_numbers_of(
             format,
             margin,
             micrometres,
+            colours: None,
         },
     })
 }
 
-// Writes the document into memory. Each fault of `write_document` is then lack of memory, because the writer fails only
-// if its `Vec` cannot grow, and otherwise accepts all bytes.
-fn document(alloc: Global, modules: &[u8], asked: DocumentNumbers) -> Result<Vec<u8>, AllocError>
+/// Writes the document into memory. Each fault of `write_document` is then lack of memory, because the writer fails only
+/// if its `Vec` cannot grow, and otherwise accepts all bytes.
+pub(crate) fn document(
+    alloc: Global,
+    modules: &[u8],
+    asked: DocumentNumbers,
+) -> Result<Vec<u8>, AllocError>
     requires least { 1 ≤ asked.side }
     requires most { asked.side ≤ 177 }
     requires some { 1 ≤ asked.count }
@@ -90,7 +95,8 @@ fn document(alloc: Global, modules: &[u8], asked: DocumentNumbers) -> Result<Vec
 /// `side` rows, and need not be symbols. `modules` begins with their modules, one square after the other and row by
 /// row. A module is light if it is 0, and otherwise dark. `format` is 0 to 2 for SVG with a size in millimetres, EPS
 /// and PDF, `margin` is the number of light modules on each side of a square, and `micrometres` is the width of a
-/// module. In SVG and EPS the squares are one below the other, and in PDF each has a page of its own.
+/// module. In SVG and EPS the squares are one below the other, and in PDF each has a page of its own. The document is
+/// black on white.
 ///
 /// On status 0 `text` begins with the document, and `written` is its length in bytes.
 ///

@@ -48,16 +48,17 @@ fn image_settings_of(
         format: format_of(format)?,
         scale: between(scale, 1, 100)?,
         margin: between(margin, 0, 100)?,
+        colours: None,
         pixels_a_metre,
         left: left as u16,
         top: top as u16,
     })
 }
 
-// Writes the file to the beginning of a buffer, and returns its length.
+/// Writes the file to the beginning of a buffer, and returns its length.
 // It is never inlined, so that its variables are not in memory while the length is counted.
 #[inline(never)]
-fn put_image(square: &Modules, settings: &ImageSettings, image: &mut [u8]) -> usize
+pub(crate) fn put_image(square: &Modules, settings: &ImageSettings, image: &mut [u8]) -> usize
     requires scale_least { 1 ≤ settings.now.scale }
     requires scale_most { settings.now.scale ≤ 100 }
     requires margin { settings.now.margin ≤ 100 }

@@ -7,8 +7,8 @@
 //! The contracts of the calls hold if the caller fulfils the conditions under 'What the caller owes' in
 //! `docs/LIBRARY.md`. If a buffer is longer than the result, the bytes after the result stay as they are. On each
 //! status but 0 the buffers, structs and variables of the caller are unchanged. There are two exceptions: if a buffer is
-//! too short, `qrproved_draw`, `qrproved_draw_row`, `qrproved_document`, `qrproved_sheets` and `qrproved_image` still set
-//! `written`, and with the status `LOGO` `qrproved_encode_logo` sets `largest`.
+//! too short, each call that writes a text or a file still sets `written`,
+//! and with the status `LOGO` `qrproved_encode_logo` sets `largest`.
 //!
 //! If a call cannot do what it is asked for, it returns the status of the first cause that applies, in the order in
 //! which its comment lists the causes. If memory is refused, it returns `MEMORY`. The comment also names the causes
@@ -28,6 +28,8 @@
 //! - `mending`: the call that reads a damaged symbol and measures its damage
 //! - `modules`: squares of modules as bytes of a buffer
 //! - `parsing`: the call that parses a drawing
+//! - `pdf`: the call that writes a PDF document in two colours
+//! - `png`: the call that writes the image of a square as a PNG file in two colours
 //! - `reading`: the call that reads a symbol without error correction
 //! - `room`: the call that says how much fits a symbol
 //! - `row`: the call that draws one line of a text
@@ -50,6 +52,8 @@ mod logo;
 mod mending;
 mod modules;
 mod parsing;
+mod pdf;
+mod png;
 mod reading;
 mod room;
 mod row;

@@ -6,8 +6,7 @@ ghost use Rattle.qr_matrix.specs.Grid.{colour};
 ghost use Rattle.qr_matrix.specs.Bytes.{byte_of};
 ghost use Rattle.qrproved.specs.Modules.{HoldsSquares};
 
-use qr_drawing::HasSquare;
-use qr_matrix::Matrix;
+use qr_matrix::{HasSquare, Matrix};
 
 pub(crate) fn area(side: u8) -> usize
     ensures { result ≡ side * side }

@@ -27,6 +27,7 @@ static SIZED: ImageSettings = ImageSettings {
     format: Format::Png,
     scale: 4,
     margin: 4,
+    colours: None,
     pixels_a_metre: 11811,
     left: 0,
     top: 0,

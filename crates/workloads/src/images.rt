@@ -37,6 +37,7 @@ fn add_image(
         format,
         scale: scale.clamp(1, 100),
         margin: 4,
+        colours: None,
         pixels_a_metre: 8000,
         left: 40,
         top: 24,

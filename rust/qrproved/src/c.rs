@@ -210,6 +210,20 @@ extern "C" {
         written: *mut usize,
     ) -> u8;
 
+    pub fn qrproved_png(
+        modules: *const c_uchar,
+        modules_len: usize,
+        side: Setting,
+        scale: Setting,
+        margin: Setting,
+        pixels_a_metre: Setting,
+        dark: Setting,
+        light: Setting,
+        image: *mut c_uchar,
+        image_len: usize,
+        written: *mut usize,
+    ) -> u8;
+
     pub fn qrproved_image(
         modules: *const c_uchar,
         modules_len: usize,
@@ -233,6 +247,20 @@ extern "C" {
         format: Setting,
         margin: Setting,
         micrometres: Setting,
+        text: *mut c_uchar,
+        text_len: usize,
+        written: *mut usize,
+    ) -> u8;
+
+    pub fn qrproved_pdf(
+        modules: *const c_uchar,
+        modules_len: usize,
+        side: Setting,
+        count: Setting,
+        margin: Setting,
+        micrometres: Setting,
+        dark: Setting,
+        light: Setting,
         text: *mut c_uchar,
         text_len: usize,
         written: *mut usize,

@@ -304,6 +304,16 @@ pub enum Format {
     Zpl = 4,
 }
 
+/// The colours of a PNG file, or of a PDF document. Each is the number `0xRRGGBBAA`: red, green and blue, and how opaque it is, from `0x00` for a
+/// colour that is not seen to `0xFF`. Scanners need a dark colour on a light one.
+#[derive(Clone, Copy, Debug, PartialEq, Eq, Hash)]
+pub struct Colours {
+    /// The colour of dark modules.
+    pub dark: u32,
+    /// The colour of light modules and of the margin.
+    pub light: u32,
+}
+
 /// How an image is written.
 #[derive(Clone, Copy, Debug, PartialEq, Eq, Hash)]
 pub struct ImageOptions {
@@ -311,6 +321,8 @@ pub struct ImageOptions {
     pub scale: u8,
     /// Light modules on each side, from 0 to 100: 4, which a scanner needs.
     pub margin: u8,
+    /// The colours, or `None` for black on white. Only PNG has others: [`image`] refuses them in other formats.
+    pub colours: Option<Colours>,
     /// How many pixels of the printed image a metre has, below 2^31, or 0 if the file is not to say it. Only PNG can say it.
     pub pixels_a_metre: u32,
     /// How far the image is from the left edge of the label, in dots, from 0 to 32,000. Only ZPL and TSPL can say it.
@@ -324,6 +336,7 @@ impl Default for ImageOptions {
         ImageOptions {
             scale: 8,
             margin: 4,
+            colours: None,
             pixels_a_metre: 0,
             left: 0,
             top: 0,
@@ -895,6 +908,44 @@ pub fn document(
     measured(call)
 }
 
+/// Returns a PDF with a page for each of the symbols, as [`document`] does, in two colours. The dark one is opaque, and if the
+/// lowest byte of the light one is `0x00`, light modules and the margin are not drawn.
+///
+/// # Errors
+///
+/// Those of [`document`], and [`Error::Settings`] if a colour is not opaque in another way.
+pub fn document_in_colours(
+    symbols: &[Symbol],
+    colours: Colours,
+    margin: u8,
+    micrometres: u32,
+) -> Result<Vec<u8>, Error> {
+    check_library();
+    let (modules, side, count) = squares_of(symbols)?;
+    let call = |text: *mut u8, len: usize| {
+        let mut written = 0;
+        // SAFETY: the version is checked, each length is that of its slice, or 0 beside a null pointer, and only the
+        // call has `text` and `written`.
+        let status = unsafe {
+            c::qrproved_pdf(
+                modules.as_ptr(),
+                modules.len(),
+                side,
+                count,
+                c::Setting::from(margin),
+                micrometres,
+                colours.dark,
+                colours.light,
+                text,
+                len,
+                &mut written,
+            )
+        };
+        (status, written)
+    };
+    measured(call)
+}
+
 /// Returns a PDF with 1 to 10,000 symbols of one version on sheets of label paper, as many as they need. The symbols follow one
 /// another in rows, from the upper left place on. Each has `margin` light modules on each side; a scanner needs 4. A module is
 /// `micrometres` wide, from 1 to 1,000,000.
@@ -977,11 +1028,50 @@ fn measured(call: impl Fn(*mut u8, usize) -> (u8, usize)) -> Result<Vec<u8>, Err
 ///
 /// # Errors
 ///
-/// [`Error::Settings`] if a number of `options` is out of its range; [`Error::Memory`].
+/// [`Error::Settings`] if a number of `options` is out of its range, or if there are colours and the format is not PNG;
+/// [`Error::Memory`].
 pub fn image(symbol: &Symbol, format: Format, options: &ImageOptions) -> Result<Vec<u8>, Error> {
+    match options.colours {
+        None => plain_image(symbol, format, options),
+        Some(colours) if format == Format::Png => coloured_image(symbol, colours, options),
+        Some(_) => Err(Error::Settings),
+    }
+}
+
+fn coloured_image(
+    symbol: &Symbol,
+    colours: Colours,
+    options: &ImageOptions,
+) -> Result<Vec<u8>, Error> {
     check_library();
     let modules = symbol.modules();
-    let call = |image: *mut u8, len: usize| {
+    sized(modules, |image, len| {
+        let mut written = 0;
+        // SAFETY: the version is checked, each length is that of its slice, or 0 beside a null pointer, and only the
+        // call has `image` and `written`.
+        let status = unsafe {
+            c::qrproved_png(
+                modules.as_ptr(),
+                modules.len(),
+                symbol.side() as c::Setting,
+                c::Setting::from(options.scale),
+                c::Setting::from(options.margin),
+                options.pixels_a_metre,
+                colours.dark,
+                colours.light,
+                image,
+                len,
+                &mut written,
+            )
+        };
+        (status, written)
+    })
+}
+
+fn plain_image(symbol: &Symbol, format: Format, options: &ImageOptions) -> Result<Vec<u8>, Error> {
+    check_library();
+    let modules = symbol.modules();
+    sized(modules, |image, len| {
         let mut written = 0;
         // SAFETY: the version is checked, each length is that of its slice, or 0 beside a null pointer, and only the
         // call has `image` and `written`.
@@ -1002,9 +1092,13 @@ pub fn image(symbol: &Symbol, format: Format, options: &ImageOptions) -> Result<
             )
         };
         (status, written)
-    };
+    })
+}
+
+/// Returns the file that `call` writes, with room that is enough for most files, or with as much as it asks for.
+fn sized(modules: &[u8], call: impl Fn(*mut u8, usize) -> (u8, usize)) -> Result<Vec<u8>, Error> {
     // The library writes a PNG file in one run if there is surely room for it, which this is up to scale 8.
-    match filled(4096 + 3 * modules.len(), call) {
+    match filled(4096 + 3 * modules.len(), &call) {
         Err(Error::Room) => filled(call(std::ptr::null_mut(), 0).1, call),
         done => done,
     }

@@ -1,9 +1,9 @@
 //! What the crate adds to the library: its types, and its refusals. The symbols themselves are compared by tests/library.
 use qrproved::{
-    document, draw, draw_squares, draw_svg, encode, encode_series, encode_with_logo, find, image,
-    mend, parse_drawing, read, room, sheets, Content, Document, Drawing, Eci, Error, Fnc1, Format,
-    Header, ImageOptions, Interpretation, Level, Logo, LogoError, Mode, Options, Rule,
-    SettingError, Sheet, TextError, Version,
+    document, document_in_colours, draw, draw_squares, draw_svg, encode, encode_series,
+    encode_with_logo, find, image, mend, parse_drawing, read, room, sheets, Colours, Content,
+    Document, Drawing, Eci, Error, Fnc1, Format, Header, ImageOptions, Interpretation, Level, Logo,
+    LogoError, Mode, Options, Rule, SettingError, Sheet, TextError, Version,
 };
 
 /// What the command has: the level that is asked for.
@@ -227,6 +227,39 @@ fn images_and_documents() {
         ..options
     };
     assert_eq!(image(&symbol, Format::Png, &wrong), Err(Error::Settings));
+    let coloured = ImageOptions {
+        colours: Some(Colours {
+            dark: 0x0033_66FF,
+            light: 0xFFFF_FF00,
+        }),
+        ..options
+    };
+    let file = image(&symbol, Format::Png, &coloured).unwrap();
+    let places = |wanted: &[u8]| {
+        file.windows(wanted.len())
+            .filter(|it| *it == wanted)
+            .count()
+    };
+    assert_eq!(
+        (
+            places(b"PLTE\x00\x33\x66\xFF\xFF\xFF"),
+            places(b"tRNS\xFF\x00")
+        ),
+        (1, 1)
+    );
+    assert_eq!(image(&symbol, Format::Zpl, &coloured), Err(Error::Settings));
+    let colours = coloured.colours.unwrap();
+    let pages = document_in_colours(&[symbol.clone(), symbol.clone()], colours, 4, 330).unwrap();
+    let pages = String::from_utf8(pages).unwrap();
+    assert_eq!(pages.matches(" cm\n0.000 0.200 0.400 rg\n").count(), 2);
+    let clear = Colours {
+        dark: 0x0033_6680,
+        ..colours
+    };
+    assert_eq!(
+        document_in_colours(std::slice::from_ref(&symbol), clear, 4, 330),
+        Err(Error::Settings)
+    );
     for (mm, dpi, dots) in [
         (14.515, 203.0, 4),
         (18.142, 203.0, 4),
@@ -274,14 +307,26 @@ fn sheets_of_label_paper() {
     };
     let pages = sheets(&[symbol.clone(), symbol.clone()], &sheet, 4, 1_000).unwrap();
     let text = String::from_utf8(pages).unwrap();
-    assert_eq!(text.matches("/MediaBox[0 0 172.913385 266.456692]").count(), 2);
+    assert_eq!(
+        text.matches("/MediaBox[0 0 172.913385 266.456692]").count(),
+        2
+    );
     // 31 mm from the left, and 94 - 2 - 2 * 31 - 29 from the lower edge
     assert!(text.contains("stream\nq 2.834645 0 0 2.834645 87.874015 2.834645 cm\n"));
     for wrong in [
-        Sheet { width: 59_999, ..sheet },
-        Sheet { down: 31_501, ..sheet },
+        Sheet {
+            width: 59_999,
+            ..sheet
+        },
+        Sheet {
+            down: 31_501,
+            ..sheet
+        },
         Sheet { first: 6, ..sheet },
-        Sheet { columns: 0, ..sheet },
+        Sheet {
+            columns: 0,
+            ..sheet
+        },
     ] {
         let refused = sheets(&[symbol.clone()], &wrong, 4, 1_000);
         assert_eq!(refused, Err(Error::Settings), "{wrong:?}");

@@ -2,13 +2,13 @@
 use Rattle.qr_drawing.specs.{Boxes.{box_line, symbol_lines}, Raster.{raster_width, texts_below}}
 use Rattle.qr_drawing.specs.Pdf.{Pages, catalog, document_of_pages, numbered_object, object, object_content, object_count, object_start, objects_below, page, page_tree, pdf_header, place_of, square_commands, square_start, stream, stream_start, table_of, trailer}
 use Rattle.qr_drawing.specs.Svg.{numbered}
-use Rattle.qr_drawing.specs.Laws.{HasItsPlaces}
+use Rattle.qr_drawing.specs.{Laws.{HasItsPlaces}, declared.colours.Colours.{Colours}}
 use Rattle.qr_devices.{proofs.Facts.{writes-on, writes-stop}, specs.{Device.Writer, Writing.{Stops, Writes}, declared.pen.{DrawFault.DrawFault, Pen.Pen}}}
 use Rattle.qr_drawing.proofs.lemmas.{boxes.{line_of}, svg.{three, two}, text.LineLemmas.{texts_below-add, texts_below-more}}
 use Rattle.qr_matrix.proofs.Facts.{AreRunsFrom, all-runs, other-runs, run-in}
 use Rattle.qr_matrix.specs.{DarkRuns.AreDarkRuns, Grid.Grid, declared.dark_runs.Run.Run}
 use Rattle.std.proofs.{Common.{◌≡◌, ◌∙◌, sym, ap, refl, ℕ, ◌+◌, ◌-◌, ◌*◌, ◌/◌, ◌%◌, ◌<◌, ◌≤◌, ◌==◌, false, List, [], ◌∷◌, ◌++◌, append_assoc, append-nil, arith, length, length-append, Ok, Err}, lemmas.{Bool.Decides.nat_tests, Grind.flat_map-append, Fmt.decimal_digit}}
-use Rattle.std.specs.{List.flat_map, Prelude.{MatchResult, Result, codes, decimal}}
+use Rattle.std.specs.{List.flat_map, Prelude.{MatchResult, Option, Result, codes, decimal}}
 
 -- ---- lengths
 
@@ -40,10 +40,10 @@ pub few-runs : (g : Grid) (row : ℕ) (runs : List Run) → AreDarkRuns g row ru
 few-runs g row runs are = omega (arith, few-runs-from g row 0 runs (omega arith) (all-runs g row runs are))
 
 -- the length of the commands of a square
-pub square-length : (micrometres margin : ℕ) (corner : List ℕ) (g : Grid) → length (square_commands micrometres corner margin g)
-    ≡ length (square_start micrometres corner (raster_width margin g)) + length (symbol_lines (codes " 1 re\n") 0 margin g) + 2
+pub square-length : (colours : Option Colours) (micrometres margin : ℕ) (corner : List ℕ) (g : Grid) → length (square_commands colours micrometres corner margin g)
+    ≡ length (square_start colours micrometres corner (raster_width margin g)) + length (symbol_lines (codes " 1 re\n") 0 margin g) + 2
 unfolding square_commands
-square-length micrometres margin corner g = search (arith, length-append)
+square-length colours micrometres margin corner g = search (arith, length-append)
 
 -- the length of a stream
 pub stream-length : (text : List ℕ) → length (stream text) ≡ length (decimal (length text)) + length text + 29

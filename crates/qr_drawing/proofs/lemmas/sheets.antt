@@ -7,7 +7,7 @@ use Rattle.qr_matrix.specs.Grid.{Grid, light}
 use Rattle.std.proofs.Common.{◌≡◌, ap, subst, ℕ, ◌+◌, ◌-◌, ◌*◌, ◌/◌, ◌%◌, ◌<◌, ◌≤◌, false, true, List, [], ◌++◌, arith, get_or, length, length-append, map, refl}
 use Rattle.std.proofs.Math.Nat.{div-le_self, div-lt_iff_lt-mul, mul_comm, mul-le-mul, mul-le-mul_right, mod-lt}
 use Rattle.std.proofs.lemmas.{Bool.Decides.nat_tests, List.{Elements.All-get_or, length-map}}
-use Rattle.std.specs.{List.All, Prelude.{codes, nat_lt}}
+use Rattle.std.specs.{List.All, Prelude.{None, codes, nat_lt}}
 
 -- a sheet has at most 10,000 places
 pub few-places : (s : Sheet) → IsSheet s → places_of s ≤ 10000
@@ -77,19 +77,19 @@ fits-at grid s xs x i all lt is =
 
 -- the length of the commands of a label
 pub label-length : (s : SheetSettings) (g : Grid) (place : ℕ) → length (label_commands s g place)
-    ≡ length (square_commands s.micrometres (corner_of s.sheet (label_size s g) place) s.margin g) + 4
+    ≡ length (square_commands None s.micrometres (corner_of s.sheet (label_size s g) place) s.margin g) + 4
 unfolding label_commands
 label-length s g place = search (arith, length-append)
 
 -- the length of the commands of a place with a label
 pub label-length-is : (s : SheetSettings) (margin place n : ℕ) (g : Grid) (corner text : List ℕ) → text ≡ label_commands s g place → margin ≡ s.margin
-    → corner ≡ corner_of s.sheet (label_size s g) place → n ≡ length (square_commands s.micrometres corner margin g) → n + 4 ≡ length text
+    → corner ≡ corner_of s.sheet (label_size s g) place → n ≡ length (square_commands None s.micrometres corner margin g) → n + 4 ≡ length text
 label-length-is s margin place n g corner text e m k v =
-    let one : n ≡ length (square_commands s.micrometres (corner_of s.sheet (label_size s g) place) s.margin g) = cc (v, k, m) in
+    let one : n ≡ length (square_commands None s.micrometres (corner_of s.sheet (label_size s g) place) s.margin g) = cc (v, k, m) in
     omega (arith, one, label-length s g place, ap length e)
 
 -- the commands of a place with a label are written in three parts
 pub label-parts : (s : SheetSettings) (margin place : ℕ) (g : Grid) (corner text : List ℕ) → text ≡ label_commands s g place → margin ≡ s.margin
-    → corner ≡ corner_of s.sheet (label_size s g) place → text ≡ (codes "q " ++ square_commands s.micrometres corner margin g) ++ codes "Q\n"
+    → corner ≡ corner_of s.sheet (label_size s g) place → text ≡ (codes "q " ++ square_commands None s.micrometres corner margin g) ++ codes "Q\n"
 unfolding label_commands
 label-parts s margin place g corner text e m k = rw (e, m, k) refl

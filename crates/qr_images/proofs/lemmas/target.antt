@@ -1,5 +1,5 @@
 -- A device that only counts, or writes into a buffer.
-use Rattle.std.proofs.Common.{◌≡◌, ℕ, zero, suc, [], ◌∷◌, drop, drop-drop, ◌+◌, ◌^◌, ◌<◌, ◌≤◌, ◌++◌, refl, sym, ap, ◌∙◌, arith, Bool, true, false, if◌then◌else◌, ◌==◌, eqb, is_err, List, length, length-append, take, OnErr, OnOk, Result, Ok, Err, None, Some}
+use Rattle.std.proofs.Common.{◌≡◌, ℕ, drop, drop-drop, ◌+◌, ◌^◌, ◌<◌, ◌≤◌, ◌++◌, refl, sym, ap, ◌∙◌, arith, true, false, if◌then◌else◌, ◌==◌, eqb, is_err, List, length, length-append, take, OnErr, OnOk, Result, Ok, Err, None, Some}
 use Rattle.std.proofs.lemmas.List.{length-take-le}
 use Rattle.std.specs.Io.KnownBytes.{Appends}
 use Rattle.qr_devices.specs.{Device.{AppendsBeginning, counted, is_write_fault}, declared.{device.WriteCounts.WriteCounts, pen.DrawFault.DrawFault}}

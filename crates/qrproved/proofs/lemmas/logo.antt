@@ -1,10 +1,8 @@
 -- What the statuses mean for an input that is encoded for a logo.
-use Rattle.qr_layout.specs.{Version.side_of, declared.level.Level.Level}
+use Rattle.qr_layout.specs.{declared.level.Level.Level}
 use Rattle.qr_bits.specs.declared.{interpretation.Interpretation.Interpretation, modes.Rule.Rule}
-use Rattle.qr_logos.specs.{Encoding.{IsLargestCarried, IsLogoSize, MayCarry}, Steps.Encoding.AreLogoFaults, declared.fault.LogoFault.LogoFault}
-use Rattle.qr_symbol.specs.VersionChoice.{HasNoVersion, level_rank}
-use Rattle.std.proofs.Common.{◌≡◌, ◌≢◌, ◌<◌, ◌*◌, ◌↔◌, ◌⊎◌, ℕ, List, [], length, Result, Ok, Err, ap, arith}
-use Rattle.qr_logos.specs.declared.fault.LogoFault.TheVariants as fault
+use Rattle.qr_logos.specs.{Encoding.{IsLargestCarried, IsLogoSize}}
+use Rattle.std.proofs.Common.{◌≡◌, ◌<◌, ℕ, List, arith}
 
 -- a size that may have the logo leaves no larger one that is too small for it
 pub size-apart : (v : ℕ) (l : Level) (b : Rule) (how : Interpretation) (x : List ℕ) (share k w : ℕ) (m : Level) (n : ℕ)

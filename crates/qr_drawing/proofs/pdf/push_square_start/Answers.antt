@@ -4,9 +4,9 @@ use Rattle.qr_drawing.proofs.pdf.push_square_start.Goals as goal
 pub returns-clause-items : goal.returns-clause-items
 unfolding square_start
 returns-clause-items c = rw (
+  c.push_dark_colour.ensures.items,
+  c.push_light_square.ensures.items,
   c.push_all-3.ensures.items,
-  c.push_numbered-2.ensures.items,
-  c.push_numbered.ensures.items,
   c.push_all-2.ensures.items,
   c.push.ensures.items,
   c.push_points-2.ensures.items,

@@ -1,12 +1,12 @@
 -- The picture of the file of a symbol is a clean picture.
-use Rattle.std.proofs.Common.{◌≡◌, ℕ, ◌+◌, ◌-◌, ◌*◌, ◌/◌, ◌%◌, ◌^◌, ◌<◌, ◌≤◌, refl, sym, ap, subst, ◌∙◌, arith, Bool, true, false, not, min, max, cond, eqb, leb, ltb, List, Option, Some, ◌&&◌, ◌||◌, inl, inr}
+use Rattle.std.proofs.Common.{◌≡◌, ◌≢◌, ℕ, ◌+◌, ◌-◌, ◌*◌, ◌/◌, ◌%◌, ◌^◌, ◌<◌, ◌≤◌, refl, sym, ap, subst, ◌∙◌, arith, Bool, true, false, not, min, max, cond, eqb, leb, ltb, List, Option, Some, ◌&&◌, ◌||◌, inl, inr}
 use Rattle.std.proofs.lemmas.{Bool.{cases_Bool, cases_lt}, Bool.Decides.{nat_tests}, Nat.{div_below, div-add-mod', div-mul-add, le-div, mod-mul-add, mod_below}}
 use Rattle.std.proofs.Math.Nat.{mul-le-mul_right}
 use Rattle.qr_layout.specs.{Region.ring_of, Role.{finder_ring, pattern_colour, role_of}, Version.side_of, declared.level.Level.Level}
 use Rattle.qr_bits.specs.declared.{interpretation.Interpretation.Interpretation, modes.Rule.Rule, stream.Header.Header}
 use Rattle.qr_matrix.{proofs.Facts.{colour-square, square-same}, specs.{Grid.{Grid, IsSquare, colour, square}, Raster.{is_dark_at, raster_width}}}
 use Rattle.qr_symbol.specs.{Encoding.IsSymbolAt, Symbol.{colour_of, grid_of}}
-use Rattle.qr_images.specs.{Laws.{FilesAreReadBack, Shows}, Png.{Picture, is_white, picture}, Writing.png_file, declared.image.ImageSettings.ImageSettings}
+use Rattle.qr_images.specs.{Laws.{FilesAreReadBack, Shows, dark_of, light_of}, Png.{Colour, Picture, picture, pixel}, Writing.png_file, declared.image.ImageSettings.ImageSettings}
 use Rattle.qr_pictures.specs.{Clean.IsCleanPicture, Finders.{HasFinder, HasFinders}, Pixels.{IsDrawing, IsFrameIn, Pixels, drawn_grey, grey, is_inside}, Turns.turned}
 use Rattle.qr_pictures.specs.declared.{clean.CleanSquare.CleanSquare, frame.Frame.Frame, turn.Turn.TheVariants.Upright}
 use Rattle.qr_theorems.specs.Pictures.{HasPixelsOf}
@@ -89,9 +89,9 @@ dark-inside : (m y x : ℕ) (g : Grid) → m ≤ y → y < m + g.side → m ≤ 
 unfolding is_dark_at
 dark-inside m y x g a b c d = grind (arith, nat_tests)
 
--- the frame of a square in its raster
-abbrev pub frame-of : (side margin scale : ℕ) → Frame
-frame-of side margin scale = record { side = side; scale = scale; left = margin * scale; top = margin * scale; dark = 0; light = 255 }
+-- the frame of a square in its raster, in two greys
+abbrev pub frame-of : (side margin scale dark light : ℕ) → Frame
+frame-of side margin scale dark light = record { side = side; scale = scale; left = margin * scale; top = margin * scale; dark = dark; light = light }
 
 grey-outside : (f : Frame) (dark : ℕ → ℕ → Bool) (y x : ℕ) → is_inside f y x ≡ false → drawn_grey f dark y x ≡ f.light
 unfolding drawn_grey
@@ -101,26 +101,21 @@ grey-inside : (f : Frame) (dark : ℕ → ℕ → Bool) (y x : ℕ) → is_insid
 unfolding drawn_grey
 grey-inside f dark y x e = ap (λ b. cond (b && dark ((y - f.top) / f.scale) ((x - f.left) / f.scale)) f.dark f.light) e
 
-shade : (b : Bool) (white black : ℕ) → cond (not b) white black ≡ cond b black white
-shade true white black = refl
-shade false white black = refl
-
-raster-drawn : (m s y x : ℕ) (g : Grid) → 1 ≤ s → cond (not (is_dark_at m g (y / s) (x / s))) 255 0 ≡ drawn_grey (frame-of g.side m s) (colour g) y x
-raster-drawn m s y x g some =
-    let f : Frame = frame-of g.side m s in
-    shade (is_dark_at m g (y / s) (x / s)) 255 0 ∙
+raster-drawn : (m s dark light y x : ℕ) (g : Grid) → 1 ≤ s → cond (is_dark_at m g (y / s) (x / s)) dark light ≡ drawn_grey (frame-of g.side m s dark light) (colour g) y x
+raster-drawn m s dark light y x g some =
+    let f : Frame = frame-of g.side m s dark light in
     elim (cases_lt y (m * s)) [
-      | inl l ↦ ap (λ b. cond b 0 255) (dark-above m (y / s) (x / s) g (lower m s y some l)) ∙ sym (grey-outside f (colour g) y x (grind (arith, nat_tests)))
+      | inl l ↦ ap (λ b. cond b dark light) (dark-above m (y / s) (x / s) g (lower m s y some l)) ∙ sym (grey-outside f (colour g) y x (grind (arith, nat_tests)))
       | inr top ↦ elim (cases_lt x (m * s)) [
-        | inl l ↦ ap (λ b. cond b 0 255) (dark-before m (y / s) (x / s) g (lower m s x some l)) ∙ sym (grey-outside f (colour g) y x (grind (arith, nat_tests)))
+        | inl l ↦ ap (λ b. cond b dark light) (dark-before m (y / s) (x / s) g (lower m s x some l)) ∙ sym (grey-outside f (colour g) y x (grind (arith, nat_tests)))
         | inr left ↦ elim (cases_lt y (m * s + g.side * s)) [
-          | inr l ↦ ap (λ b. cond b 0 255) (dark-below m (y / s) (x / s) g (past m g.side s y some l)) ∙ sym (grey-outside f (colour g) y x (grind (arith, nat_tests)))
+          | inr l ↦ ap (λ b. cond b dark light) (dark-below m (y / s) (x / s) g (past m g.side s y some l)) ∙ sym (grey-outside f (colour g) y x (grind (arith, nat_tests)))
           | inl bottom ↦ elim (cases_lt x (m * s + g.side * s)) [
-            | inr l ↦ ap (λ b. cond b 0 255) (dark-after m (y / s) (x / s) g (past m g.side s x some l)) ∙ sym (grey-outside f (colour g) y x (grind (arith, nat_tests)))
+            | inr l ↦ ap (λ b. cond b dark light) (dark-after m (y / s) (x / s) g (past m g.side s x some l)) ∙ sym (grey-outside f (colour g) y x (grind (arith, nat_tests)))
             | inl right ↦
                 let r = inner m s y some top in
                 let c = inner m s x some left in
-                ap (λ b. cond b 0 255) (dark-inside m (y / s) (x / s) g r.0 (upper m g.side s y some bottom) c.0 (upper m g.side s x some right)
+                ap (λ b. cond b dark light) (dark-inside m (y / s) (x / s) g r.0 (upper m g.side s y some bottom) c.0 (upper m g.side s x some right)
                 ∙ ap (λ z. colour g z (x / s - m)) (sym r.1) ∙ ap (λ z. colour g ((y - m * s) / s) z) (sym c.1))
                 ∙ sym (grey-inside f (colour g) y x (grind (arith, nat_tests)))
           ]
@@ -132,11 +127,16 @@ raster-drawn m s y x g some =
 side-step : (v : ℕ) → side_of v % 4 ≡ 1
 side-step v = ap (λ z. z % 4) (let e : side_of v ≡ (4 + v) * 4 + 1 = omega arith in e) ∙ mod-mul-add (4 + v) 4 1 (omega arith)
 
+grey-of : (as_grey : Colour → ℕ) (b : Bool) (dark light : Colour) → as_grey (cond b dark light) ≡ cond b (as_grey dark) (as_grey light)
+grey-of as_grey true dark light = refl
+grey-of as_grey false dark light = refl
+
 -- the square of a symbol of side `n`, drawn upright with these colours
-drawn-clean : (n : ℕ) (colours : ℕ → ℕ → Bool) (margin scale per : ℕ) (p : Picture) (q : Pixels) → 21 ≤ n → n ≤ 177 → n % 4 ≡ 1 → HasFinders n (colour (square n colours)) → 1 ≤ scale
-    → Shows margin (square n colours) scale per p → HasPixelsOf q p → IsCleanPicture q (record { frame = frame-of n margin scale; turn = Upright }) (square n colours)
+drawn-clean : (n : ℕ) (colours : ℕ → ℕ → Bool) (margin scale per : ℕ) (dark light : Colour) (as_grey : Colour → ℕ) (p : Picture) (q : Pixels) → 21 ≤ n → n ≤ 177 → n % 4 ≡ 1
+    → HasFinders n (colour (square n colours)) → 1 ≤ scale → Shows margin (square n colours) scale per dark light p → HasPixelsOf as_grey q p → as_grey dark ≢ as_grey light
+    → IsCleanPicture q (record { frame = frame-of n margin scale (as_grey dark) (as_grey light); turn = Upright }) (square n colours)
 unfolding turned
-drawn-clean n colours margin scale per p q least most step finders some shows same =
+drawn-clean n colours margin scale per dark light as_grey p q least most step finders some shows same differ =
     let g : Grid = square n colours in
     let wide : margin * scale + n * scale ≤ q.width = omega (arith, same.width, shows.width) in
     let high : margin * scale + n * scale ≤ q.height = omega (arith, same.height, shows.height) in
@@ -145,32 +145,35 @@ drawn-clean n colours margin scale per p q least most step finders some shows sa
       finders = finders;
       fourth = λ h. refl;
       drawing = record {
-        frame = record { least = least; most = most; step = step; scaled = some; across = wide; down = high; differ = λ e. absurd (omega arith) };
+        frame = record { least = least; most = most; step = step; scaled = some; across = wide; down = high; differ = differ };
         pixels = λ y x l m.
             let down : y < p.height = omega (arith, same.height) in
             let across : x < p.width = omega (arith, same.width) in
-            same.pixels y x down across ∙ ap (λ b. cond b 255 0) (shows.pixels y x down across) ∙ raster-drawn margin scale y x g some;
+            same.pixels y x down across ∙ ap as_grey (shows.pixels y x down across) ∙ grey-of as_grey (is_dark_at margin g (y / scale) (x / scale)) dark light
+            ∙ raster-drawn margin scale (as_grey dark) (as_grey light) y x g some;
       };
     }
 
-pub symbol-clean : (v mask : ℕ) (l : Level) (cw : List ℕ) (g : Grid) (margin scale per : ℕ) (p : Picture) (q : Pixels) → 1 ≤ v → v ≤ 40 → g ≡ grid_of v l mask cw → 1 ≤ scale
-    → Shows margin g scale per p → HasPixelsOf q p → IsCleanPicture q (record { frame = frame-of (side_of v) margin scale; turn = Upright }) g
-symbol-clean v mask l cw g margin scale per p q some most e one shows same =
-    rw e (drawn-clean (side_of v) (colour_of v l mask cw) margin scale per p q (omega arith) (omega arith) (side-step v) (symbol-finders v mask l cw some) one (rw e at shows) same)
+pub symbol-clean : (v mask : ℕ) (l : Level) (cw : List ℕ) (g : Grid) (margin scale per : ℕ) (dark light : Colour) (as_grey : Colour → ℕ) (p : Picture) (q : Pixels) → 1 ≤ v → v ≤ 40
+    → g ≡ grid_of v l mask cw → 1 ≤ scale → Shows margin g scale per dark light p → HasPixelsOf as_grey q p → as_grey dark ≢ as_grey light
+    → IsCleanPicture q (record { frame = frame-of (side_of v) margin scale (as_grey dark) (as_grey light); turn = Upright }) g
+symbol-clean v mask l cw g margin scale per dark light as_grey p q some most e one shows same differ =
+    rw e (drawn-clean (side_of v) (colour_of v l mask cw) margin scale per dark light as_grey p q (omega arith) (omega arith) (side-step v) (symbol-finders v mask l cw some) one (rw e at shows) same differ)
 
 some-same : (p q : Picture) → Some p ≡ Some q → p ≡ q
 some-same p q e = cc
 
 -- where the square of a symbol is in the picture of its file
-abbrev pub clean-at : ℕ → ImageSettings → CleanSquare
-clean-at v o = record { frame = frame-of (side_of v) o.margin o.scale; turn = Upright }
+abbrev pub clean-at : ℕ → ImageSettings → (Colour → ℕ) → CleanSquare
+clean-at v o as_grey = record { frame = frame-of (side_of v) o.margin o.scale (as_grey (dark_of o.colours)) (as_grey (light_of o.colours)); turn = Upright }
 
 -- the pixels of the picture of a symbol's file are a clean picture of the symbol
-pub picture-clean : (v : ℕ) (l : Level) (rule : Rule) (i : Interpretation) (x : List ℕ) (h : Option Header) (mask : ℕ) (g : Grid) (o : ImageSettings) (p : Picture) (q : Pixels)
+pub picture-clean : (v : ℕ) (l : Level) (rule : Rule) (i : Interpretation) (x : List ℕ) (h : Option Header) (mask : ℕ) (g : Grid) (o : ImageSettings) (p : Picture) (as_grey : Colour → ℕ) (q : Pixels)
     → FilesAreReadBack → IsSymbolAt v l rule i x h mask g → 1 ≤ o.scale → o.scale ≤ 100 → o.margin ≤ 100 → o.pixels_a_metre < 2 ^ 31 → 1 ≤ v → v ≤ 40
-    → picture (png_file o g) ≡ Some p → HasPixelsOf q p → IsCleanPicture q (clean-at v o) g
-picture-clean v l rule i x h mask g o p q law s some scale margin metre least most file pixels =
+    → picture (png_file o g) ≡ Some p → HasPixelsOf as_grey q p → as_grey (dark_of o.colours) ≢ as_grey (light_of o.colours) → IsCleanPicture q (clean-at v o as_grey) g
+picture-clean v l rule i x h mask g o p as_grey q law s some scale margin metre least most file pixels differ =
     let side : g.side ≡ side_of v = ap (λ (k : Grid). k.side) s.drawn in
     let found = law o g some scale margin metre (omega (arith, side)) (omega (arith, side)) in
     let same : found.0 ≡ p = some-same found.0 p (sym found.1 ∙ file) in
-    symbol-clean v mask l s.codewords g o.margin o.scale o.pixels_a_metre p q least most s.drawn some (subst (λ z. Shows o.margin g o.scale o.pixels_a_metre z) same found.2) pixels
+    symbol-clean v mask l s.codewords g o.margin o.scale o.pixels_a_metre (dark_of o.colours) (light_of o.colours) as_grey p q least most s.drawn some
+    (subst (λ z. Shows o.margin g o.scale o.pixels_a_metre (dark_of o.colours) (light_of o.colours) z) same found.2) pixels differ

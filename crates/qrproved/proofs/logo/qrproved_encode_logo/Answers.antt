@@ -1,10 +1,10 @@
 use Rattle.qr_bits.specs.Interpretation.{MayWrite}
 use Rattle.qr_symbol.specs.{Reading.IsReadBack, VersionChoice.HasNoVersion}
-use Rattle.qr_logos.{proofs.Facts.size-fits, specs.{Encoding.{IsLogoSize, IsLogoSymbol}, Steps.Encoding.AreLogoFaults}}
+use Rattle.qr_logos.{proofs.Facts.size-fits, specs.{Encoding.{IsLogoSymbol}, Steps.Encoding.AreLogoFaults}}
 use Rattle.qr_layout.specs.{Version.side_of, declared.level.Level.Level}
 use Rattle.qrproved.proofs.lemmas.{encoding.refused-some, logo.{size-apart, size-one}, modules.one-held}
 use Rattle.qrproved.specs.{Logo.{AreLogoSettings, IsLargestForLogo}, Settings.{interpretation_of, level_of, rule_of}, declared.settings.Settings.Settings}
-use Rattle.std.proofs.Common.{◌≡◌, ◌≢◌, ◌<◌, ◌*◌, ℕ, [], Err, Ok, refl, sym, ap, subst, ◌∙◌, arith, rules}
+use Rattle.std.proofs.Common.{◌≡◌, ◌*◌, ℕ, [], Err, refl, ap, subst, ◌∙◌, arith, rules}
 use Rattle.qrproved.proofs.logo.qrproved_encode_logo.Goals.{After-encode_with_logo, After-long_inputs_have_none, Else-not-may_write, In-Err-Logo, In-Err-TooLong, In-Ok}
 use Rattle.qrproved.proofs.logo.qrproved_encode_logo.Goals as goal
 use Rattle.qr_logos.specs.declared.fault.LogoFault.TheVariants as fault
