@@ -1,6 +1,6 @@
 //! Moves the corners of a square of modules until the patterns that every symbol has fit it.
 
-use crate::fit::{Looks, Scene};
+use crate::fit::{Looks, Scene, place_of};
 use crate::number::Number;
 use crate::quad::Quad;
 use crate::view::Point;
@@ -24,29 +24,42 @@ fn moved(place: Point, step: Number, direction: usize) -> Point {
     Point { x, y }
 }
 
-// Moves each corner once in each direction in which the patterns fit better. Returns the square, its fit, and whether it was
-// moved.
-fn turn(
+// Moves the corners one after the other, each by a step in each direction in which the patterns fit better, up to three times.
+// Returns the square and its fit.
+fn moved_by(
     scene: &Scene,
     quad: Quad,
     best: i64,
     looks: Looks,
     steps: (Number, usize),
-) -> (Quad, i64, bool) {
-    let (mut quad, mut best, mut is_moved) = (quad, best, false);
+) -> (Quad, i64) {
+    let (mut quad, mut best) = (quad, best);
     let (step, corners) = steps;
-    for k in 0..corners.min(4) {
-        for direction in 0..4usize {
-            let trial = quad.with_place(k, moved(quad.place(k), step, direction));
-            let now = scene.fit(&trial, looks).sum;
-            if now > best {
-                best = now;
-                quad = trial;
-                is_moved = true;
-            }
+    // The number of steps, among the last ones, that are known to be in vain.
+    let mut still = 0usize;
+    let mut was_moved = false;
+    for k in 0..corners.min(4) * 12 {
+        if still >= corners.min(4) * 4 {
+            break;
+        }
+        let (corner, direction) = (k / 4 % corners.max(1), k % 4);
+        // The step back from a better place is not tried.
+        let is_back = direction % 2 == 1 && was_moved;
+        was_moved = false;
+        still = still.saturating_add(1);
+        if is_back {
+            continue;
+        }
+        let trial = quad.with_place(corner, moved(quad.place(corner), step, direction));
+        let now = scene.fit_above(&trial, looks, best).sum;
+        if now > best {
+            best = now;
+            quad = trial;
+            was_moved = true;
+            still = 0;
         }
     }
-    (quad, best, is_moved)
+    (quad, best)
 }
 
 /// Returns the square with its corners moved, one after the other, while the patterns fit better.
@@ -58,14 +71,9 @@ pub(crate) fn climb(scene: &Scene, quad: &Quad, steps: Steps, looks: Looks) -> Q
         if step < steps.least || step.0 <= 0 {
             break;
         }
-        for _ in 0..3 {
-            let (next, sum, is_moved) = turn(scene, quad, best, looks, (step, steps.corners));
-            quad = next;
-            best = sum;
-            if !is_moved {
-                break;
-            }
-        }
+        let (next, sum) = moved_by(scene, quad, best, looks, (step, steps.corners));
+        quad = next;
+        best = sum;
         step = step / 2;
     }
     quad
@@ -82,23 +90,14 @@ struct Target {
     down: Point,
 }
 
-// Returns where a place of the symbol is, in eighths of a module.
-fn place_of(quad: &Quad, u: usize, v: usize) -> Option<Point> {
-    let map = quad.map()?;
-    let (u, v) = (u.min(16_000) as u32, v.min(16_000) as u32);
-    Some(Point {
-        x: Number(i64::from(map.column_of(u, v))),
-        y: Number(i64::from(map.row_of(u, v))),
-    })
-}
-
 fn target_of(quad: &Quad) -> Option<Target> {
     let at = quad.last().saturating_mul(8).saturating_add(4);
-    let middle = place_of(quad, at, at)?;
+    let map = quad.map()?;
+    let middle = place_of(&map, at, at);
     Some(Target {
         middle,
-        right: place_of(quad, at.saturating_add(8), at)?.minus(middle),
-        down: place_of(quad, at, at.saturating_add(8))?.minus(middle),
+        right: place_of(&map, at.saturating_add(8), at).minus(middle),
+        down: place_of(&map, at, at.saturating_add(8)).minus(middle),
     })
 }
 
@@ -191,10 +190,12 @@ pub(crate) fn seek_alignment(scene: &Scene, quad: &Quad, reach: usize) -> Quad {
     };
     let at = quad.last().saturating_mul(8).saturating_add(4);
     for _ in 0..4 {
-        let Some(middle) = place_of(&quad, at, at) else {
+        let Some(map) = quad.map() else {
             break;
         };
-        let way = best.minus(middle).times(Number::of(quad.last()));
+        let way = best
+            .minus(place_of(&map, at, at))
+            .times(Number::of(quad.last()));
         let across = quad
             .across
             .plus(way.over(Number::of(quad.side.saturating_sub(10))));

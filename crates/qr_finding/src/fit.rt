@@ -72,37 +72,35 @@ impl Scene<'_, '_, '_, '_> {
     }
 
     fn look(&self, map: &Map, u: usize, v: usize, is_dark: bool) -> i64 {
-        let (u, v) = (u.min(16_000) as u32, v.min(16_000) as u32);
-        let place = Point {
-            x: Number(i64::from(map.column_of(u, v))),
-            y: Number(i64::from(map.row_of(u, v))),
-        };
+        let place = place_of(map, u, v);
         self.distance(place, self.thresholds.at(place), is_dark)
     }
 
-    // Looks at a module: at its middle, or at the corners of a square around it.
-    fn look_module(&self, map: &Map, spread: u32, place: (usize, usize), is_dark: bool) -> Fit {
+    // Adds the places of a module at which it is looked: its middle, or the corners of a square around it.
+    fn add_module(
+        &self,
+        map: &Map,
+        spread: u32,
+        place: (usize, usize),
+        is_dark: bool,
+        fit: Fit,
+    ) -> Fit {
         let (u, v) = (place.0.saturating_mul(8), place.1.saturating_mul(8));
-        if spread == 0 {
-            return Fit::NONE.plus(self.look(
-                map,
-                u.saturating_add(4),
-                v.saturating_add(4),
-                is_dark,
-            ));
-        }
         let low = 4usize.saturating_sub(spread as usize);
         let high = (spread as usize).saturating_add(4);
-        Fit::NONE
-            .plus(self.look(map, u.saturating_add(low), v.saturating_add(low), is_dark))
-            .plus(self.look(map, u.saturating_add(high), v.saturating_add(low), is_dark))
-            .plus(self.look(map, u.saturating_add(low), v.saturating_add(high), is_dark))
-            .plus(self.look(map, u.saturating_add(high), v.saturating_add(high), is_dark))
+        let mut all = fit;
+        for (x, y) in [(low, low), (high, low), (low, high), (high, high)] {
+            all = all.plus(self.look(map, u.saturating_add(x), v.saturating_add(y), is_dark));
+            if spread == 0 {
+                break;
+            }
+        }
+        all
     }
 
-    // The fit of the modules of a pattern of rings around a module, up to a distance from it, as far as they are in the symbol.
-    fn fit_of_rings(&self, map: &Map, side: usize, rings: Rings, spread: u32) -> Fit {
-        let mut all = Fit::NONE;
+    // Adds the modules of a pattern of rings around a module, up to a distance from it, as far as they are in the symbol.
+    fn add_rings(&self, map: &Map, side: usize, rings: Rings, spread: u32, fit: Fit) -> Fit {
+        let mut all = fit;
         let (column, row) = rings.middle;
         for y in row.saturating_sub(rings.reach)..row
             .saturating_add(rings.reach)
@@ -115,7 +113,7 @@ impl Scene<'_, '_, '_, '_> {
                 .min(side)
             {
                 let ring = x.abs_diff(column).max(y.abs_diff(row));
-                all = all.joined(self.look_module(map, spread, (x, y), rings.is_dark(ring)));
+                all = self.add_module(map, spread, (x, y), rings.is_dark(ring), all);
             }
         }
         all
@@ -134,6 +132,12 @@ impl Scene<'_, '_, '_, '_> {
 
     /// Returns how well the finder, the timing and maybe the alignment patterns fit.
     pub(crate) fn fit(&self, quad: &Quad, looks: Looks) -> Fit {
+        self.fit_above(quad, looks, i64::MIN)
+    }
+
+    /// The same, but if the sum is not above a number, not all of the modules need be looked at. Then the sum that is returned is
+    /// not above it either.
+    pub(crate) fn fit_above(&self, quad: &Quad, looks: Looks, least: i64) -> Fit {
         let Some(map) = quad.map() else {
             return Fit {
                 sum: -(1 << 30),
@@ -143,36 +147,44 @@ impl Scene<'_, '_, '_, '_> {
         };
         let side = quad.side;
         let far = side.saturating_sub(4);
+        let goal = Goal {
+            least,
+            all: looks.count(side),
+        };
         let mut all = Fit::NONE;
-        for middle in [(3, 3), (far, 3), (3, far)] {
-            all = all.joined(self.fit_of_rings(&map, side, Rings::finder(middle), looks.spread));
+        if looks.with_alignment {
+            all = self.add_alignment(&map, side, looks.spread, &goal, all);
+        }
+        if goal.is_out_of_reach(all) {
+            return all;
         }
         all = self.add_timing(&map, side, all);
-        if looks.with_alignment {
-            self.add_alignment(&map, side, looks.spread, all)
-        } else {
-            all
+        for middle in [(far, 3), (3, far), (3, 3)] {
+            if goal.is_out_of_reach(all) {
+                return all;
+            }
+            all = self.add_rings(&map, side, Rings::finder(middle), looks.spread, all);
         }
+        all
     }
 
-    // Adds the alignment patterns at the right, at the bottom and on the diagonal.
-    fn add_alignment(&self, map: &Map, side: usize, spread: u32, fit: Fit) -> Fit {
+    // Adds the alignment patterns at the right, at the bottom and on the diagonal, the last one first. If the goal is out of reach,
+    // the others are left out.
+    fn add_alignment(&self, map: &Map, side: usize, spread: u32, goal: &Goal, fit: Fit) -> Fit {
         let mut all = fit;
         let count = alignment_count(side);
-        for j in 0..count {
-            for i in 0..count {
+        for j in (0..count).rev() {
+            for i in (0..count).rev() {
                 let last = count.saturating_sub(1);
                 let is_finder = (i == 0 && j == 0)
                     || (i == 0 && j == last)
                     || (j == 0 && i == last);
                 if !is_finder && (i == last || j == last || i == j) {
                     let middle = (alignment_place(side, i), alignment_place(side, j));
-                    all = all.joined(self.fit_of_rings(
-                        map,
-                        side,
-                        Rings::alignment(middle),
-                        spread,
-                    ));
+                    all = self.add_rings(map, side, Rings::alignment(middle), spread, all);
+                    if goal.is_out_of_reach(all) {
+                        return all;
+                    }
                 }
             }
         }
@@ -197,13 +209,42 @@ impl Scene<'_, '_, '_, '_> {
     }
 }
 
-impl Fit {
-    fn joined(self, other: Fit) -> Fit {
-        Fit {
-            sum: self.sum.saturating_add(other.sum),
-            right: self.right.saturating_add(other.right),
-            all: self.all.saturating_add(other.all),
-        }
+/// Returns where a place of the symbol is, in eighths of a module.
+pub(crate) fn place_of(map: &Map, u: usize, v: usize) -> Point {
+    let (u, v) = (u.min(16_000) as u32, v.min(16_000) as u32);
+    Point {
+        x: Number(i64::from(map.column_of(u, v))),
+        y: Number(i64::from(map.row_of(u, v))),
+    }
+}
+
+impl Looks {
+    // Returns at how many places is looked, at most.
+    fn count(self, side: usize) -> i64 {
+        let alignments = if self.with_alignment {
+            alignment_count(side).saturating_mul(3).saturating_sub(5)
+        } else {
+            0
+        };
+        let modules = alignments.saturating_mul(25).saturating_add(3 * 64);
+        let places = if self.spread == 0 { 1 } else { 4 };
+        let timing = side.saturating_sub(16).saturating_mul(2);
+        Number::of(modules.saturating_mul(places).saturating_add(timing)).0
+    }
+}
+
+/// What a fit is for: a sum that is above a number, and at how many places is looked.
+#[derive(Clone, Copy)]
+struct Goal {
+    least: i64,
+    all: i64,
+}
+
+impl Goal {
+    // Returns whether the sum cannot be above the number, wherever the places that are left are.
+    fn is_out_of_reach(&self, fit: Fit) -> bool {
+        let left = self.all.saturating_sub(fit.all);
+        fit.sum.saturating_add(left.saturating_mul(STEP_MAX)) <= self.least
     }
 }
 
