@@ -99,6 +99,20 @@ fn first_above(counts: &[u32; 256], limit: u32, from_white: bool) -> usize {
     if from_white { 0 } else { 255 }
 }
 
+/// The columns of pixels of eight blocks that are beside each other. Loops over them are of a form of which compilers make
+/// operations on several pixels at once.
+const STRIP: usize = 8 * BLOCK;
+
+/// Of each column of a strip the sum of its pixels, and the least and the greatest of them, and the number of its rows.
+#[derive(Clone, Copy)]
+struct Strip {
+    sums: [u16; STRIP],
+    least: [u8; STRIP],
+    most: [u8; STRIP],
+    columns: usize,
+    rows: usize,
+}
+
 /// The mean of the pixels of a block, and the least and the greatest of them.
 #[derive(Clone, Copy)]
 struct Block {
@@ -107,28 +121,52 @@ struct Block {
     most: u8,
 }
 
-fn block_of(picture: &Picture, column: usize, row: usize) -> Block {
-    let width = usize::from(picture.width);
-    let height = usize::from(picture.height);
-    let left = column
-        .saturating_mul(BLOCK)
-        .min(width.saturating_sub(BLOCK));
-    let top = row.saturating_mul(BLOCK).min(height.saturating_sub(BLOCK));
-    let right = left.saturating_add(BLOCK).min(width);
-    let (mut sum, mut count, mut least, mut most) = (0u32, 0u32, 255u8, 0u8);
-    for y in top..top.saturating_add(BLOCK).min(height) {
-        let pixels = part(picture.row(y), left, right);
-        count = count.saturating_add(BLOCK.min(pixels.len()) as u32);
-        for pixel in pixels {
-            sum = sum.wrapping_add(u32::from(*pixel));
-            least = least.min(*pixel);
-            most = most.max(*pixel);
+impl Strip {
+    // Returns the strip of a row of blocks whose first column is `left`. The last row of blocks begins so that it is in the picture.
+    fn of(picture: &Picture, left: usize, row: usize) -> Strip {
+        let width = usize::from(picture.width);
+        let height = usize::from(picture.height);
+        let top = row.saturating_mul(BLOCK).min(height.saturating_sub(BLOCK));
+        let right = left.saturating_add(STRIP).min(width);
+        let mut strip = Strip {
+            sums: [0; STRIP],
+            least: [255; STRIP],
+            most: [0; STRIP],
+            columns: right.saturating_sub(left),
+            rows: 0,
+        };
+        for y in top..top.saturating_add(BLOCK).min(height) {
+            strip.add(part(picture.row(y), left, right));
+        }
+        strip
+    }
+
+    // Adds the pixels of a row.
+    fn add(&mut self, pixels: &[u8]) {
+        self.rows = self.rows.wrapping_add(1);
+        for k in 0..pixels.len().min(STRIP) {
+            self.sums[k] = self.sums[k].wrapping_add(u16::from(pixels[k]));
+            self.least[k] = self.least[k].min(pixels[k]);
+            self.most[k] = self.most[k].max(pixels[k]);
         }
     }
-    Block {
-        mean: (sum / count.max(1)).min(255) as u8,
-        least,
-        most,
+
+    // Returns what is known of the block with an index in the strip.
+    fn block(&self, index: usize) -> Block {
+        let start = index.saturating_mul(BLOCK);
+        let end = start.saturating_add(BLOCK).min(self.columns).min(STRIP);
+        let (mut sum, mut least, mut most) = (0u32, 255u8, 0u8);
+        for k in start..end {
+            sum = sum.wrapping_add(u32::from(self.sums[k]));
+            least = least.min(self.least[k]);
+            most = most.max(self.most[k]);
+        }
+        let count = end.saturating_sub(start).wrapping_mul(self.rows);
+        Block {
+            mean: (sum / (count.max(1).min(BLOCK * BLOCK) as u32)).min(255) as u8,
+            least,
+            most,
+        }
     }
 }
 
@@ -149,54 +187,83 @@ fn plain_level(levels: &[u8], at: usize, columns: usize, least: u8, low_range: u
 fn write_levels(picture: &Picture, low_range: u8, levels: &mut [u8]) {
     let grid = Grid::of(picture);
     for row in 0..grid.rows {
-        for column in 0..grid.columns {
-            let at = row.saturating_mul(grid.columns).saturating_add(column);
-            let block = block_of(picture, column, row);
-            let level = if block.most.saturating_sub(block.least) > low_range {
-                block.mean
-            } else if column > 0 && row > 0 {
-                plain_level(levels, at, grid.columns, block.least, low_range)
-            } else {
-                block.least.saturating_sub(low_range)
-            };
-            put(levels, at, level);
+        for first in (0..grid.columns).step_by(STRIP / BLOCK) {
+            let strip = Strip::of(picture, first.saturating_mul(BLOCK), row);
+            let after = first.saturating_add(STRIP / BLOCK).min(grid.columns);
+            for column in first..after {
+                let at = row.saturating_mul(grid.columns).saturating_add(column);
+                let block = strip.block(column - first);
+                let level = if block.most.saturating_sub(block.least) > low_range {
+                    block.mean
+                } else if column > 0 && row > 0 {
+                    plain_level(levels, at, grid.columns, block.least, low_range)
+                } else {
+                    block.least.saturating_sub(low_range)
+                };
+                put(levels, at, level);
+            }
         }
     }
 }
 
 // Returns the mean level of the blocks around one, up to `around` to each side.
 fn mean_around(levels: &[u8], grid: Grid, around: usize, column: usize, row: usize) -> u8 {
-    let (mut sum, mut count) = (0u32, 0u32);
     let left = column.saturating_sub(around);
     let right = column
         .saturating_add(around)
         .saturating_add(1)
         .min(grid.columns);
+    let (mut sum, mut count) = (0u32, 0usize);
     for y in row.saturating_sub(around)..row
         .saturating_add(around)
         .saturating_add(1)
         .min(grid.rows)
     {
         let start = y.saturating_mul(grid.columns);
-        for level in part(
+        let levels = part(
             levels,
             start.saturating_add(left),
             start.saturating_add(right),
-        ) {
-            sum = sum.saturating_add(u32::from(*level));
-            count = count.saturating_add(1);
+        );
+        count = count.wrapping_add(levels.len());
+        for level in levels {
+            sum = sum.wrapping_add(u32::from(*level));
         }
     }
-    (sum / count.max(1)).min(255) as u8
+    (sum / (count.max(1).min(1 << 16) as u32)).min(255) as u8
 }
 
-// Writes which pixels of a row are dark.
-fn write_row(pixels: &[u8], thresholds: &[u8], dark: &mut [u8]) {
-    let count = dark.len().min(pixels.len());
-    for (block, threshold) in thresholds.iter().enumerate() {
-        let start = block.saturating_mul(BLOCK);
-        for x in start..start.saturating_add(BLOCK).min(count) {
-            dark[x] = if pixels[x] <= *threshold { DARK } else { LIGHT };
+// Writes which pixels of a part of a row are dark, by the threshold of each.
+fn write_part(pixels: &[u8], limits: &[u8; STRIP], dark: &mut [u8]) {
+    for k in 0..dark.len().min(pixels.len()).min(STRIP) {
+        dark[k] = if pixels[k] <= limits[k] { DARK } else { LIGHT };
+    }
+}
+
+// Returns the thresholds of the columns of a strip, which begins at a block.
+fn limits_of(thresholds: &[u8], first: usize) -> [u8; STRIP] {
+    let mut limits = [0u8; STRIP];
+    for block in 0..STRIP / BLOCK {
+        let threshold = byte_at(thresholds, first.saturating_add(block));
+        for k in 0..BLOCK {
+            limits[block * BLOCK + k] = threshold;
+        }
+    }
+    limits
+}
+
+// Writes which pixels of a row of blocks are dark, by the thresholds of these blocks.
+fn write_rows(picture: &Picture, row: usize, thresholds: &[u8], dark: &mut [u8]) {
+    let width = usize::from(picture.width);
+    let top = row.saturating_mul(BLOCK);
+    for left in (0..width).step_by(STRIP) {
+        let right = left.saturating_add(STRIP).min(width);
+        let limits = limits_of(thresholds, left / BLOCK);
+        for y in top..top.saturating_add(BLOCK).min(usize::from(picture.height)) {
+            let from = y.saturating_mul(width);
+            if let Some(to) = dark.get_mut(from.saturating_add(left)..from.saturating_add(right)) {
+                write_part(part(picture.row(y), left, right), &limits, to);
+            }
         }
     }
 }
@@ -223,13 +290,9 @@ pub(crate) fn write_dark(
             );
         }
     }
-    let width = usize::from(picture.width);
-    for y in 0..usize::from(picture.height) {
-        let start = (y / BLOCK).saturating_mul(grid.columns);
-        let row = part(thresholds, start, start.saturating_add(grid.columns));
-        let from = y.saturating_mul(width);
-        if let Some(to) = dark.get_mut(from..from.saturating_add(width)) {
-            write_row(picture.row(y), row, to);
-        }
+    for row in 0..grid.rows {
+        let start = row.saturating_mul(grid.columns);
+        let thresholds = part(thresholds, start, start.saturating_add(grid.columns));
+        write_rows(picture, row, thresholds, dark);
     }
 }
