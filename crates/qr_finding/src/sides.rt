@@ -18,13 +18,15 @@ pub(crate) fn toward(from: Point, to: Point, length: Number) -> Point {
 fn second_end(view: &View, pattern: &Pattern, way: Point) -> Option<Number> {
     let mut before = view.at_place(pattern.middle);
     let mut changes = 0u8;
+    // The place is counted in 64ths of a sixteenth.
+    let mut place = pattern.middle.times(Number(64));
     for k in 1..pattern.unit.index().min(100_000) {
-        let far = Number::of(k) * 4;
-        let now = view.at_place(pattern.middle.plus(way.times(far).over(Number(256))));
+        place = place.plus(way);
+        let now = view.at(place.x.0 >> 10, place.y.0 >> 10);
         if now != before {
             before = now;
             if changes == 1 {
-                return Some(far);
+                return Some(Number::of(k) * 4);
             }
             changes = 1;
         }
@@ -62,8 +64,12 @@ fn changes_between(view: &View, from: Point, to: Point) -> usize {
     let steps = way.x.size().most(way.y.size()) / 8 + 1;
     let mut before = view.at_place(from);
     let mut changes = 0usize;
-    for k in 1..steps.index().min(200_000).saturating_add(1) {
-        let now = view.at_place(from.plus(way.times(Number::of(k)).over(steps)));
+    // The place and the step are counted in parts of a sixteenth, of which it has 2^16.
+    let mut place = from.times(Number(1 << 16));
+    let step = way.times(Number(1 << 16)).over(steps);
+    for _ in 0..steps.index().min(200_000) {
+        place = place.plus(step);
+        let now = view.at(place.x.0 >> 20, place.y.0 >> 20);
         if now != before {
             before = now;
             changes = changes.saturating_add(1);
