@@ -193,9 +193,18 @@ fn limit_of(unit: Number) -> u32
     (unit * 5 / 16 + 2).index().min(3_999) as u32
 }
 
-// Looks whether five runs of a row, which end before the pixel `end`, are the middle of a pattern.
+/// A module is so long, in sixteenths of a pixel, for each row from one that is looked at to the next. So these rows are half a module
+/// apart, and where modules are small every row is looked at.
+const ROWS_APART: i64 = 32;
+
+// Looks whether five runs of a row, which end before the pixel `end`, are the middle of a pattern. In place of rows that are not
+// looked at, what is seen in the others counts more often.
 fn pattern_at(view: &View, y: usize, end: usize, runs: Runs) -> Option<Pattern> {
     let unit = runs.unit();
+    let every = (unit / ROWS_APART).index().max(1);
+    if y % every != 0 {
+        return None;
+    }
     let limit = limit_of(unit);
     let core_end = Number::of(end) - i64::from(runs.last) - i64::from(runs.other);
     let x = core_end - i64::from(runs.core.div_ceil(2));
@@ -231,7 +240,7 @@ fn pattern_at(view: &View, y: usize, end: usize, runs: Runs) -> Option<Pattern> 
             y: middle_y,
         },
         unit: (column_unit + row_unit) / 2,
-        hits: Number(hits),
+        hits: Number::of(every) * hits,
         quality: Number(0),
         is_inverse: view.at(x.0, row.0) != DARK,
         is_used: false,
