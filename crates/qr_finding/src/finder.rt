@@ -33,6 +33,12 @@ const MANY: usize = 160;
 /// The greatest number of squares that are tried with all effort from one list of triples, without success.
 const LOOKS_MAX: usize = 8;
 
+/// The same of the squares whose corners are not moved.
+const PLAIN_LOOKS_MAX: usize = 16;
+
+/// The number of ways in which a square is sampled before its corners are moved.
+const PLAIN_WAYS: u8 = 4;
+
 /// The greatest number of symbols that are found.
 const SYMBOLS_MAX: usize = 64;
 
@@ -135,6 +141,8 @@ pub struct Finder {
     pass: usize,
     is_ready: bool,
     list: List,
+    /// Whether the corners of squares are moved. First all triples of a list are tried without this, because it takes much longer.
+    is_thorough: bool,
     width: usize,
     height: usize,
     seen: usize,
@@ -156,6 +164,7 @@ impl Finder {
             pass: 0,
             is_ready: false,
             list: List::OfFirst,
+            is_thorough: false,
             width: 0,
             height: 0,
             seen: 0,
@@ -318,6 +327,8 @@ impl Finder {
         let trial = self.trial;
         let reach = ((trial.unit + 8) / 64).index().min(4) as u32;
         let is_sharpened = trial.variant >= 4;
+        // A square is sampled first at fewer places, which mostly is enough.
+        let is_quick = trial.attempt == 1 && trial.variant < 2;
         let near = if trial.unit < Number(40) {
             0
         } else if reach > 0 {
@@ -328,7 +339,13 @@ impl Finder {
         Some(Sampling {
             map: trial.quad.map()?,
             side: trial.quad.side,
-            reach: if is_sharpened { near } else { reach },
+            reach: if is_sharpened {
+                near
+            } else if is_quick {
+                reach / 2
+            } else {
+                reach
+            },
             is_sharpened,
             is_decided: trial.variant / 2 % 2 == 1,
             is_inverse: trial.is_inverse,
@@ -346,7 +363,11 @@ impl Finder {
     ) -> Option<Found>
         ensures { IfSome result (IsOffer picture.now modules.new) }
     {
-        let ways = if self.trial.attempt == 1 { 4 } else { 8 };
+        let ways = if self.trial.attempt == 1 {
+            PLAIN_WAYS
+        } else {
+            8
+        };
         if self.trial.variant >= ways {
             return None;
         }
@@ -377,7 +398,11 @@ impl Finder {
         thresholds: &[u8],
         tried: &mut [Quad],
     ) {
-        let ways = if self.trial.attempt == 1 { 4 } else { 8 };
+        let ways = if self.trial.attempt == 1 {
+            PLAIN_WAYS
+        } else {
+            8
+        };
         if self.trial.variant < ways {
             return;
         }
@@ -398,6 +423,11 @@ impl Finder {
             is_inverse: self.trial.is_inverse,
         };
         if self.trial.attempt == 1 {
+            if !self.is_thorough {
+                self.trial.attempt = 0;
+                self.looks = self.looks.saturating_add(1);
+                return;
+            }
             if self.was_tried(tried) {
                 self.trial.attempt = 0;
                 return;
@@ -496,8 +526,17 @@ impl Finder {
         patterns: &mut [Pattern],
         triples: &mut [Triple],
     ) {
-        if self.looks >= LOOKS_MAX || self.triple >= self.triples || self.symbols >= SYMBOLS_MAX {
-            self.end_list(pixels.0, patterns, triples);
+        let looks_max = if self.is_thorough {
+            LOOKS_MAX
+        } else {
+            PLAIN_LOOKS_MAX
+        };
+        if self.looks >= looks_max || self.triple >= self.triples || self.symbols >= SYMBOLS_MAX {
+            if self.looks > 0 && !self.is_thorough {
+                self.begin_list(true);
+            } else {
+                self.end_list(pixels.0, patterns, triples);
+            }
             return;
         }
         let index = self.triple;
@@ -560,7 +599,7 @@ impl Finder {
         if scene.share(&quad) < Number(800) {
             return;
         }
-        if quad.side > 21 {
+        if quad.side > 21 && !self.is_thorough {
             quad = seek_alignment(scene, &quad, 4);
         }
         self.trial = Trial {
@@ -570,7 +609,8 @@ impl Finder {
             quality: corners.worst_quality(),
             is_inverse: self.trial.is_inverse,
             attempt: 1,
-            variant: 0,
+            // (the first attempt was made before)
+            variant: if self.is_thorough { PLAIN_WAYS } else { 0 },
         };
     }
 
@@ -609,6 +649,12 @@ impl Finder {
     ) {
         let (count, most) = bounds;
         self.triples = write_triples(patterns, count, most, triples);
+        self.begin_list(false);
+    }
+
+    // Goes to the first triple of the list.
+    fn begin_list(&mut self, is_thorough: bool) {
+        self.is_thorough = is_thorough;
         self.triple = 0;
         self.looks = 0;
     }
@@ -623,8 +669,7 @@ impl Finder {
         let (patterns, triples) = complete(&view, patterns, self.patterns, triples);
         self.patterns = patterns;
         self.triples = triples;
-        self.triple = 0;
-        self.looks = 0;
+        self.begin_list(false);
     }
 
     // Prepares a pass: the dark pixels, the patterns, and the triples of the first ones.

@@ -13,8 +13,8 @@
 //! 3. Three patterns that may be the corners of a symbol are a triple. The likeliest triples are tried first. If none of the
 //!    first pass is a symbol, a third pattern is looked for where two may be those of a symbol.
 //! 4. From the sizes of the modules and the timing patterns comes the side of the symbol, and from the alignment pattern at
-//!    the lower right its fourth corner. Then its modules are sampled. If this is in vain, the corners are moved while the
-//!    patterns that every symbol has fit better.
+//!    the lower right its fourth corner. Then its modules are sampled. After all triples were tried so, those for which it was in
+//!    vain are tried again: then the corners are moved while the patterns that every symbol has fit better.
 //!
 //! Nothing is allocated: the caller gives the work memory. A sum that does not fit 64 bits stops at their end, which no
 //! picture reaches.
