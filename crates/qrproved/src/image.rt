@@ -1,6 +1,6 @@
 //! The call that writes the image of a square of modules as a file.
 
-ghost use Rattle.std.specs.Prelude.{◌≡◌, ◌≢◌, ◌*◌, ◌<◌, ◌≤◌, ◌^◌, ◌++◌, ◌↔◌, ◌⊎◌, drop, length, SomeIff};
+ghost use Rattle.std.specs.Prelude.{◌≡◌, ◌≢◌, ◌*◌, ◌<◌, ◌≤◌, ◌^◌, ◌++◌, ◌↔◌, ◌⊎◌, drop, false, length, true, SomeIff};
 ghost use Rattle.qr_images.specs.Writing.{image_file};
 ghost use Rattle.qrproved.specs.Drawing.{HoldsText};
 ghost use Rattle.qrproved.specs.Image.{AreImageSettings, AreSettings, HasFewImageModules, HasNoImageRoom, format_of, image_of_bytes, settings_of};
@@ -55,10 +55,10 @@ fn image_settings_of(
     })
 }
 
-/// Writes the file to the beginning of a buffer, and returns its length.
+// Writes the file to the beginning of a buffer, and returns its length.
 // It is never inlined, so that its variables are not in memory while the length is counted.
 #[inline(never)]
-pub(crate) fn put_image(square: &Modules, settings: &ImageSettings, image: &mut [u8]) -> usize
+fn put_image(square: &Modules, settings: &ImageSettings, image: &mut [u8]) -> usize
     requires scale_least { 1 ≤ settings.now.scale }
     requires scale_most { settings.now.scale ≤ 100 }
     requires margin { settings.now.margin ≤ 100 }
@@ -70,6 +70,41 @@ pub(crate) fn put_image(square: &Modules, settings: &ImageSettings, image: &mut 
     ensures len { result ≡ length (image_file settings.now square.now) }
 {
     fill_image(square, settings, image)
+}
+
+/// Writes the file of a square to the beginning of a buffer and its length to `written`, and returns true. If the file has
+/// no room, writes only its length, and returns false.
+// It is never inlined, since two calls make it.
+#[inline(never)]
+pub(crate) fn has_put(
+    square: &Modules,
+    settings: &ImageSettings,
+    image: &mut [u8],
+    written: &mut usize,
+) -> bool
+    requires scale_least { 1 ≤ settings.now.scale }
+    requires scale_most { settings.now.scale ≤ 100 }
+    requires margin { settings.now.margin ≤ 100 }
+    requires size { settings.now.pixels_a_metre < 2 ^ 31 }
+    requires left { settings.now.left ≤ 32000 }
+    requires top { settings.now.top ≤ 32000 }
+    ensures put { result ≡ true → HoldsText (image_file settings.now square.now) image.old image.new written.new }
+    ensures short { result ≡ false → length image.old < length (image_file settings.now square.now) }
+    ensures unchanged { result ≡ false → image.new ≡ image.old }
+    ensures needed { result ≡ false → written.new ≡ length (image_file settings.now square.now) }
+{
+    if image_room(square, settings) <= image.len() as u64 {
+        *written = put_image(square, settings, image);
+        return true;
+    }
+    // The file may have no room, so its bytes are counted.
+    let len = image_len(square, settings);
+    *written = len as usize;
+    if (image.len() as u64) < len {
+        return false;
+    }
+    *written = put_image(square, settings, image);
+    true
 }
 
 /// Writes the image of a square of modules to `image`, as a file (ISO/IEC 18004:2015, 6.3.8). The square has `side`
@@ -124,16 +159,9 @@ pub extern "C" fn qrproved_image(
         return ROOM;
     }
     let square = Modules::new(modules, side);
-    if image_room(&square, &settings) <= image.len() as u64 {
-        *written = put_image(&square, &settings, image);
-        return DONE;
+    if has_put(&square, &settings, image, written) {
+        DONE
+    } else {
+        ROOM
     }
-    // The file may have no room, so its bytes are counted.
-    let len = image_len(&square, &settings);
-    *written = len as usize;
-    if (image.len() as u64) < len {
-        return ROOM;
-    }
-    *written = put_image(&square, &settings, image);
-    DONE
 }

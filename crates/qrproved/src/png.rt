@@ -4,11 +4,11 @@ ghost use Rattle.std.specs.Prelude.{◌≡◌, ◌≢◌, ◌*◌, ◌<◌, ◌�
 ghost use Rattle.qrproved.specs.Drawing.{HoldsText};
 ghost use Rattle.qrproved.specs.Png.{ArePngSettings, LacksPngModules, LacksPngRoom, png_of_bytes, settings_of};
 
-use crate::image::put_image;
+use crate::image::has_put;
 use crate::modules::area;
 use crate::settings::between;
 use crate::status::{DONE, ROOM, SETTINGS};
-use qr_images::{Colours, Format, ImageSettings, Modules, image_len, image_room};
+use qr_images::{Colours, Format, ImageSettings, Modules};
 
 fn png_settings_of(
     scale: u32,
@@ -82,16 +82,9 @@ pub extern "C" fn qrproved_png(
         return ROOM;
     }
     let square = Modules::new(modules, side);
-    if image_room(&square, &settings) <= image.len() as u64 {
-        *written = put_image(&square, &settings, image);
-        return DONE;
+    if has_put(&square, &settings, image, written) {
+        DONE
+    } else {
+        ROOM
     }
-    // The file may have no room, so its bytes are counted.
-    let len = image_len(&square, &settings);
-    *written = len as usize;
-    if (image.len() as u64) < len {
-        return ROOM;
-    }
-    *written = put_image(&square, &settings, image);
-    DONE
 }
