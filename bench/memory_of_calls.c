@@ -83,7 +83,10 @@ static __attribute__((noinline)) void make(void)
 		status = qrproved_encode_logo(input, input_len, number, level, rule, interpretation, 10, 50, out, sizeof out, &symbol, &largest);
 	else if (!strcmp(call, "encode_series"))
 		status = qrproved_encode_series(input, input_len, number, level, rule, interpretation, out, sizeof out, &series);
-	else if (!strcmp(call, "read"))
+	else if (!strcmp(call, "set_mask")) {
+		memcpy(out, input, input_len);
+		status = qrproved_set_mask(out, input_len, number, level);
+	} else if (!strcmp(call, "read"))
 		status = qrproved_read(input, input_len, number, out, sizeof out, NULL, 0, &content);
 	else if (!strcmp(call, "draw"))
 		status = qrproved_draw(input, input_len, number, (uint32_t)(input_len / number / number), level, 4, out, sizeof out, &written);

@@ -1,7 +1,8 @@
-/* QR Code symbols (ISO/IEC 18004:2015, QR Code Model 2): calls that encode an input as a symbol, as one with room for a logo or as a series,
- * draw symbols as text or as SVG, write their images as files, parse drawings, find symbols in pictures, read symbols, mend
- * damaged ones, and say how much fits a symbol. The calls are proved to meet their contracts, which are in crates/qrproved; docs/LIBRARY.md says what
- * the contracts mean for a caller. tests/library compares this file with the exports of the library.
+/* QR Code symbols (ISO/IEC 18004:2015, QR Code Model 2): calls that encode an input as a symbol, as one with room for a logo
+ * or as a series, draw symbols once more under another mask, draw them as text or as SVG, write their images as files, parse
+ * drawings, find symbols in pictures, read symbols, mend damaged ones, and say how much fits a symbol. The calls are proved to
+ * meet their contracts, which are in crates/qrproved; docs/LIBRARY.md says what the contracts mean for a caller. tests/library
+ * compares this file with the exports of the library.
  *
  * A module is a byte in a buffer of the caller, in which the modules are row by row, from the top left. The buffer does not
  * contain the quiet zone, which is the four light modules that a drawing needs on each side; qrproved_draw and
@@ -42,6 +43,7 @@ extern "C" {
 #define QRPROVED_BYTES_MAX 7089    /* bytes that suffice for the content of any symbol: so many digits fit version 40, level L */
 #define QRPROVED_ECIS_MAX 1970     /* structs that suffice for the ECI headers of any symbol: version 40, level L has 23,648
                                     * bits of data, and each header takes at least 12 of them */
+#define QRPROVED_MASK_MAX 7        /* masks are numbered from 0 */
 #define QRPROVED_MARGIN_MAX 100    /* the widest light margin on each side of a drawing or an image, in modules */
 #define QRPROVED_SCALE_MAX 100     /* the most pixels of a module on each side of an image */
 #define QRPROVED_LABELS_MAX 10000  /* squares in a document of labels */
@@ -318,11 +320,13 @@ QRPROVED_HOLDS(offsetof(struct qrproved_found, is_read) == 39);
 #undef QRPROVED_HOLDS
 
 /* The caller has to use the result of a call, and may not pass NULL as the pointer to a struct or to a number. Compilers that
- * know the attributes of QRPROVED_CALL and QRPROVED_CALL_2 warn of a call that breaks one of these rules. */
+ * know the attributes of QRPROVED_RESULT, QRPROVED_CALL and QRPROVED_CALL_2 warn of a call that breaks one of these rules. */
 #if defined(__GNUC__)
+#define QRPROVED_RESULT __attribute__((warn_unused_result))
 #define QRPROVED_CALL(pointer) __attribute__((warn_unused_result, nonnull(pointer)))
 #define QRPROVED_CALL_2(one, other) __attribute__((warn_unused_result, nonnull(one, other)))
 #else
+#define QRPROVED_RESULT
 #define QRPROVED_CALL(pointer)
 #define QRPROVED_CALL_2(one, other)
 #endif
@@ -446,6 +450,30 @@ uint8_t qrproved_encode_logo(const uint8_t *input, size_t input_len, uint32_t ve
 QRPROVED_CALL(9)
 uint8_t qrproved_encode_series(const uint8_t *input, size_t input_len, uint32_t version, uint32_t level, uint32_t rule,
                                uint32_t interpretation, uint8_t *modules, size_t modules_len, struct qrproved_series *series);
+
+/* Draws a symbol once more, under another mask. The buffer `modules` contains its modules, in the order in which qrproved_encode
+ * writes them. Any byte but 0 is a dark module. The call writes the modules of the new symbol in their place, and leaves the rest
+ * of the buffer unchanged. The new symbol has the version, the level and the codewords of the old one, so its content is the same.
+ * qrproved_encode and the other calls that encode choose the mask with the least penalty, as the standard asks. Another mask is for
+ * tests, and for comparing symbols with those of other programs; scanners may read it less well.
+ *
+ * side  number of modules on a side: 21, 25, and so on to 177
+ * mask  from 0 to QRPROVED_MASK_MAX
+ *
+ * The codewords are read as qrproved_read reads them, but whether they are damaged is not checked. The function patterns, the
+ * version information, the format information and the remainder bits of the new symbol are as the standard says, whatever they
+ * were before.
+ *
+ * Returns the first of these statuses whose cause applies:
+ *   SETTINGS  mask is out of its range
+ *   SIDE      no version has so many modules on a side
+ *   ROOM      modules_len is less than side times side
+ *   FORMAT    the first copy of the format information belongs to no level and mask
+ *   DONE      the call succeeded
+ * If memory is refused, the call returns MEMORY in place of FORMAT and DONE.
+ */
+QRPROVED_RESULT
+uint8_t qrproved_set_mask(uint8_t *modules, size_t modules_len, uint32_t side, uint32_t mask);
 
 /* Reads a symbol. The buffer `modules` contains its modules, in the order in which qrproved_encode writes them. Any byte but
  * 0 is a dark module, and bytes after the last module are ignored. The call writes the content of the symbol to the start of

@@ -51,6 +51,15 @@ export function encodedSeries({ data, interpretation }, version, level, rule) {
   });
 }
 
+/** Returns the modules of a symbol once more, under a mask. */
+export function maskedOf(modules, side, mask) {
+  return run(() => {
+    const at = put(modules);
+    throwFor(call('qrproved_set_mask', BigInt(at), BigInt(modules.length), side, mask));
+    return copied(at, modules.length);
+  });
+}
+
 /** Returns an application indicator as it is printed: two digits, or the letter whose code is 100 less. */
 function applicationOf(number) {
   return number < 100 ? String(number).padStart(2, '0') : String.fromCharCode(number - 100);

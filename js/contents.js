@@ -150,6 +150,7 @@ function namesIn(pieces) {
 
 /** Returns the text of a kind of content, with its fields by their names. */
 export function contentText(kind, given) {
+  if (!Object.hasOwn(KINDS, kind)) throw new TypeError(`there is no content ${kind}; there are ${Object.keys(KINDS).join(', ')}`);
   const table = KINDS[kind], { [table.form]: form = '', ...fields } = checkedOf(kind, given), pieces = table.forms[form], placed = namesIn(pieces);
   const other = form === '' ? undefined : Object.keys(fields).find((it) => !placed.includes(it) && !table.fields[it].everywhere);
   if (other !== undefined) throw wrongOf(other, 'place', form);

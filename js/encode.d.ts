@@ -1,6 +1,6 @@
 /**
  * Encodes and draws QR Code symbols, and nothing else. The calls, options and errors are those of 'qrproved', but a string is always encoded in
- * UTF-8, and GS1 data are passed as bytes.
+ * UTF-8, GS1 data are passed as bytes, and encode takes no mask and no logo.
  */
 import type { Colours, Level, Options } from './qrproved.js';
 

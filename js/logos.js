@@ -28,6 +28,7 @@ export function encodedWithLogo(given, version, level, rule, boost, { logo, shar
   if (typeof logo !== 'number') throw new TypeError(`logo is a number, and not of type ${typeof logo}`);
   const percent = wholePercent(share ?? LIMITS.SHARE / 100);
   if (!(logo > 0 && logo < 1)) {
+    if (!Number.isInteger(logo)) throw new SettingsError(`logo is a number of modules, or a fraction of the side between 0 and 1, and not ${logo}`);
     return encodedForLogo(given, version, level, rule, whole('logo', logo, 0, LIMITS.SIDE_MAX), percent, `${logo} by ${logo} modules`);
   }
   for (let least = version; ;) {

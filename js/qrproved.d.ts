@@ -140,6 +140,15 @@ export interface Colours {
   inverse?: boolean;
 }
 
+/** A mask that is chosen by hand. */
+export interface MaskOption {
+  /**
+   * The number of the mask, from 0 to 7, in place of the one with the least penalty, which the standard asks for. Scanners may read the symbol
+   * less well.
+   */
+  mask?: number;
+}
+
 /** A logo in the middle of a symbol. */
 export interface LogoOptions {
   /**
@@ -261,14 +270,14 @@ export class Mended {
  * for a string in a set that is not known; Gs1Error for a string that is no GS1 data, and FieldsError for such bytes. Throws LogoError if no
  * symbol of the input may have the logo.
  */
-export function encode(input: Input, options?: Options & LogoOptions & { boost?: boolean }): QRSymbol;
+export function encode(input: Input, options?: Options & MaskOption & LogoOptions & { boost?: boolean }): QRSymbol;
 
 /**
  * Returns the symbols of a series (structured append), all of one version and level: from 1 to 16. An input that fits one symbol is one
  * plain symbol. Each symbol has the ECI header, or says that its data are GS1 data. Throws as encode does, but TooManyError in place
  * of TooLongError, if the input takes more than 16 symbols.
  */
-export function encodeSeries(input: Input, options: Options & { version: number }): QRSymbol[];
+export function encodeSeries(input: Input, options: Options & MaskOption & { version: number }): QRSymbol[];
 
 /**
  * Returns what a symbol contains, whose modules are given row by row: 0 is light, any other byte is dark. Corrects no errors.

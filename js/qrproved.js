@@ -2,7 +2,7 @@
  * QR Code symbols (ISO/IEC 18004:2015, QR Code Model 2) by the library libqrproved as WebAssembly, whose calls are proved to meet
  * their contracts. README.md shows the calls; qrproved.d.ts describes each.
  */
-import { colouredPdf, colouredPng, drawn, encodedSeries, foundIn, imageOf, mayHaveKanji, mendedOf, parsedOf, printed, readOf, sheetsBy } from './calls.js';
+import { colouredPdf, colouredPng, drawn, encodedSeries, foundIn, imageOf, maskedOf, mayHaveKanji, mendedOf, parsedOf, printed, readOf, sheetsBy } from './calls.js';
 import { DARK, LIGHT, coloursOf, numbersOf } from './colours.js';
 import { DOCUMENTS, GRADES, LABELS, LIMITS } from './common.js';
 import { CheckError, Gs1Error, NoDrawingError, PictureError, SettingsError, SideError } from './errors.js';
@@ -68,10 +68,11 @@ export class QRSymbol extends PlainSymbol {
 
   toCanvas(canvas, options = {}) {
     const { logo, ...others } = chosen(options, { logo: undefined, scale: PIXELS, margin: 4, quiet: false, dark: undefined, light: undefined, inverse: undefined });
+    const longest = logo === undefined ? 0 : Math.max(logo.width, logo.height);
+    if (logo !== undefined && !(longest > 0)) throw new TypeError('the logo of a canvas is an image that is loaded, or another canvas');
     super.toCanvas(canvas, others, drawnModules(this));
     if (logo !== undefined) {
-      const { first, side } = pictureBox(this, others.margin), { width, height } = logo, wide = others.scale * side, longest = Math.max(width, height);
-      if (!(longest > 0)) throw new TypeError('the logo of a canvas is an image that is loaded, or another canvas');
+      const { first, side } = pictureBox(this, others.margin), { width, height } = logo, wide = others.scale * side;
       const [across, down] = [wide * width / longest, wide * height / longest], at = others.scale * first;
       canvas.getContext('2d').drawImage(logo, at + (wide - across) / 2, at + (wide - down) / 2, across, down);
     }
@@ -241,17 +242,32 @@ export class Found {
   }
 }
 
-const CALLS = { encoded: encodedWithLogo, mayHaveKanji, dataOf, encodedText, others: OF_LOGO };
+// The option of encode and encodeSeries that names a mask.
+const OF_MASK = { mask: undefined };
+
+/** Returns what draws a symbol once more under the mask that is asked for; without one each symbol stays as it is. */
+function underMask({ mask }) {
+  if (mask === undefined) return (symbol) => symbol;
+  whole('mask', mask, 0, LIMITS.MASK_MAX);
+  return (symbol) => ({ ...symbol, mask, modules: maskedOf(symbol.modules, symbol.side, mask) });
+}
+
+function encodedAsAsked(given, version, level, rule, boost, asked) {
+  const under = underMask(asked);
+  return under(encodedWithLogo(given, version, level, rule, boost, asked));
+}
+
+const CALLS = { encoded: encodedAsAsked, mayHaveKanji, dataOf, encodedText, others: { ...OF_MASK, ...OF_LOGO } };
 
 export function encode(input, options = {}) {
   return new QRSymbol(symbolAsked(input, options, CALLS));
 }
 
 export function encodeSeries(input, options = {}) {
-  const asked = chosen(options, OF_SERIES);
+  const asked = chosen(options, { ...OF_SERIES, ...OF_MASK }), under = underMask(asked);
   if (asked.version === undefined) throw new TypeError('a series needs the version of its symbols, as in { version: 5 }');
   const [given, version, level, rule] = inputAsked(input, asked, CALLS), { side, squares } = encodedSeries(given, version, level, rule);
-  return squares.map((modules) => new QRSymbol({ version, side, mask: null, level: LEVELS[level], modules }));
+  return squares.map((modules) => new QRSymbol(under({ version, side, mask: null, level: LEVELS[level], modules })));
 }
 
 /** Returns the one symbol of a picture. If none can be mended, it is what looks most like one. */

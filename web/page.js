@@ -38,6 +38,19 @@ function say(element, text, kind = '') {
   element.className = kind;
 }
 
+/** Returns the image of a file; rejects for a file that is none. */
+async function imageOf(file) {
+  const image = new Image();
+  image.src = await new Promise((resolve, reject) => {
+    const reader = new FileReader();
+    reader.addEventListener('load', () => resolve(reader.result));
+    reader.addEventListener('error', () => reject(reader.error));
+    reader.readAsDataURL(file);
+  });
+  await image.decode();
+  return image;
+}
+
 /** Returns a number of a field, or null if it is out of range, which the field shows. */
 function numberIn(id) {
   return on(id).validity.valid && on(id).value !== '' ? on(id).valueAsNumber : null;
@@ -48,6 +61,9 @@ function numberIn(id) {
 let symbols = []; // those that are shown
 let content = null; // the text that the fields of a content make, or null for another kind of input
 let fault = ''; // what is wrong with a field of it
+let logo = null; // the bytes of the logo's file and its image, or null without a logo
+let logoFault = ''; // why a file that was chosen is no logo
+const LOGO_TYPES = ['image/png', 'image/svg+xml'];
 
 function isContent(kind) {
   return Object.hasOwn(KINDS, kind);
@@ -205,6 +221,36 @@ function showFile() {
   }
 }
 
+/** Takes the file that is chosen as the logo. */
+async function takeLogo() {
+  const [file] = on('logo').files;
+  [logo, logoFault] = [null, ''];
+  try {
+    if (file && !LOGO_TYPES.includes(file.type)) throw new TypeError(file.type);
+    const opened = file ? { bytes: new Uint8Array(await file.arrayBuffer()), image: await imageOf(file) } : null;
+    // (another file may have been chosen since)
+    if (on('logo').files[0] === file) logo = opened;
+  } catch {
+    logoFault = `${file.name} is no PNG or SVG file that this browser shows.`;
+  }
+  show();
+}
+
+function removeLogo() {
+  on('logo').value = '';
+  takeLogo();
+}
+
+/** Returns whether the symbol has a logo: neither a series has one, nor a payment, whose level is fixed. */
+function hasLogo() {
+  return logo !== null && !on('series').checked && on('kind').value !== 'payment';
+}
+
+/** Returns the options of svg that draw the logo. */
+function drawnLogo() {
+  return hasLogo() ? { logo: logo.bytes } : {};
+}
+
 /** Draws the symbol of the text that is in the field now. */
 function show() {
   const text = content ?? on('text').value, version = Number(on('version').value), margin = numberIn('margin'), isPayment = on('kind').value === 'payment';
@@ -215,21 +261,30 @@ function show() {
     if (text === '') say(on('facts'), fault || 'Type a text.', fault && 'fault');
     else if (margin === null) say(on('facts'), 'The margin is a number from 0 to 100.', 'fault');
     else if (!on('mm').validity.valid) say(on('facts'), 'The width is a number from 1 to 1000.', 'fault');
+    else if (hasLogo() && numberIn('logo-side') === null) say(on('facts'), 'The side of the logo is from 1 to 60 % of the symbol.', 'fault');
     else {
-      symbols = on('series').checked ? encodeSeries(input, { version, level, ...rule }) : [encode(input, { version, level, boost, ...rule })];
+      const place = hasLogo() ? { logo: numberIn('logo-side') / 100 } : {};
+      symbols = on('series').checked ? encodeSeries(input, { version, level, ...rule }) : [encode(input, { version, level, boost, ...place, ...rule })];
+      const drawings = symbols.map((it) => it.svg({ margin, quiet: true, inline: true, ...drawnLogo() }));
+      on('drawing').replaceChildren(...drawings.map((it, k) => figureOf(it, text, symbols.length > 1 ? `${k + 1} of ${symbols.length}` : '')));
       say(on('facts'), factsOf(margin));
     }
   } catch (error) {
     if (!isRefusal(error)) throw error;
+    symbols = [];
     say(on('facts'), sentenceOf(error, text), 'fault');
   }
+  if (symbols.length === 0) on('drawing').replaceChildren();
+  if (logoFault) say(on('facts'), logoFault, 'fault');
+  on('logo').disabled = on('series').checked || isPayment;
+  on('logo-side').disabled = on('logo').disabled;
+  on('logo-buttons').hidden = logo === null && !logoFault;
   on('letters').textContent = ofCharacters(text, on('kind').value);
   on('letters').hidden = on('letters').textContent === '';
-  on('boost').disabled = on('series').checked || isPayment;
+  // with a logo the symbol has the highest level
+  on('boost').disabled = on('series').checked || isPayment || hasLogo();
   on('level').disabled = isPayment;
   on('version-name').textContent = on('series').checked ? 'Version of each' : 'Version, at least';
-  const caption = (k) => (symbols.length > 1 ? `${k + 1} of ${symbols.length}` : '');
-  on('drawing').replaceChildren(...symbols.map((it, k) => figureOf(it.svg({ margin, quiet: true, inline: true }), text, caption(k))));
   on('drawing').style.setProperty('--mm', `${numberIn('mm') ?? 60}mm`);
   on('drawing').classList.toggle('many', symbols.length > 1);
   for (const id of ['save-svg', 'save-png', 'copy', 'print-symbol']) on(id).disabled = symbols.length === 0;
@@ -249,6 +304,7 @@ function save(name, type, parts) {
 /** Returns the document of all symbols, one below the other, with the width that is wanted. */
 function svgOf() {
   const mm = numberIn('mm'), margin = numberIn('margin');
+  if (hasLogo()) return symbols[0].svg({ margin, mm: mm ?? undefined, quiet: true, ...drawnLogo() });
   return mm === null ? draw(symbols, { type: 'SVG', margin }) : new TextDecoder().decode(documentOf(symbols, { type: 'svg', margin, mm, quiet: true }));
 }
 
@@ -256,11 +312,19 @@ function saveDocument() {
   save('symbol.svg', 'image/svg+xml', [svgOf()]);
 }
 
+/** Returns the image of the symbol with its logo as a PNG file. It is drawn on a canvas, which does not say how wide it is in mm. */
+function pngWithLogo(scale, margin) {
+  const canvas = document.createElement('canvas');
+  symbols[0].toCanvas(canvas, { scale, margin, quiet: true, logo: logo.image });
+  return Uint8Array.from(atob(canvas.toDataURL('image/png').split(',')[1]), (it) => it.charCodeAt(0));
+}
+
 function pngs() {
   const scale = numberIn('scale');
   if (scale === null) say(on('facts'), 'A module has from 1 to 100 pixels on a side.', 'fault');
   const margin = numberIn('margin'), mm = numberIn('mm') ?? undefined;
-  return scale === null ? [] : symbols.map((it) => it.png({ scale, margin, mm, quiet: true }));
+  if (scale === null) return [];
+  return hasLogo() ? [pngWithLogo(scale, margin)] : symbols.map((it) => it.png({ scale, margin, mm, quiet: true }));
 }
 
 /** Saves a file of the symbols, or one of each of them. */
@@ -397,6 +461,12 @@ function paperOfFields() {
   for (const [id, name] of Object.entries(OPTIONAL_SIZES)) sheet[name] = numberIn(id) ?? 0;
   const [width, height] = PAPER_DATA.sizes[on('paper-size').value];
   return { width, height, ...sheet, first: place - 1 };
+}
+
+/** Returns what is wrong with the fields of label paper, if the paper has no place of this number or a size is out of range. */
+function faultOfPaper() {
+  const places = (numberIn('columns') ?? 0) * (numberIn('rows') ?? 0), place = numberIn('place');
+  return places > 0 && (place === null || place > places) ? `The place of the first label is from 1 to ${places}` : 'A size of the label paper is out of range';
 }
 
 /** Returns how wide and high a label is, in micrometres. */
@@ -622,7 +692,7 @@ function showSheetFile() {
   try {
     if (facts.hidden || allLabels.length === 0) say(facts, '', 'wide');
     else if (isPdf) {
-      if (layout === null) throw new TypeError(on('paper').checked ? 'A size of the label paper is out of range' : 'A PDF has sheets of label paper: choose it above');
+      if (layout === null) throw new TypeError(on('paper').checked ? faultOfPaper() : 'A PDF has sheets of label paper: choose it above');
       if (layout.shown.length === 0) throw new TypeError('No label has room for its symbol and its caption');
       const faulty = layout.shown.map(faultInPdf).find((it) => it !== null);
       if (faulty) throw faulty;
@@ -681,7 +751,7 @@ function arrange() {
   const count = shown.length.toLocaleString('en'), facts = [`${count} ${shown.length === 1 ? 'label' : 'labels'}.`, ...warnings], faults = faultsOf(refused, layout?.crowded ?? []);
   const rest = unknown ? [`${unknown.toLocaleString('en')} lines are not encoded yet.`] : [];
   if (width === null) say(on('sheet-facts'), `A symbol is from ${WIDTH_LEAST} to 180 mm wide.`, 'wide fault');
-  else if (!isInRange) say(on('sheet-facts'), 'A size of the label paper is out of range.', 'wide fault');
+  else if (!isInRange) say(on('sheet-facts'), `${faultOfPaper()}.`, 'wide fault');
   else say(on('sheet-facts'), [...facts, ...rest, ...faults].join(' '), faults.length ? 'wide fault' : 'wide');
   showSheetFile();
   clearTimeout(waiting);
@@ -1057,6 +1127,9 @@ on('fields').addEventListener('input', () => {
   show();
 });
 for (const id of ['text', 'kind', 'level', 'version', 'margin', 'scale', 'mm', 'boost', 'series', 'warn']) on(id).addEventListener('input', show);
+on('logo').addEventListener('change', takeLogo);
+on('logo-side').addEventListener('input', show);
+on('no-logo').addEventListener('click', removeLogo);
 on('paper-name').append(...PAPERS.map((name) => new Option(name, name)));
 on('paper-size').append(...Object.entries(PAPER_DATA.sizes).map(([name, [width, height]]) => new Option(`${name}, ${width} × ${height} mm`, name)));
 on('paper-name').value = 'Avery 3475';

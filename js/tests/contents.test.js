@@ -77,3 +77,7 @@ test('a link is GS1 data again', () => {
   const gs1 = '[01]09506000134352[10]A(12)%/[17]261231';
   assert.equal(gs1Of(link({ gs1 })), gs1);
 });
+
+test('a content that there is not', () => {
+  assert.throws(() => contents.contentText('foo', {}), { name: 'TypeError', message: 'there is no content foo; there are wifi, contact, event, geo, mail, sms, tel, payment, link' });
+});

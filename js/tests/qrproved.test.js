@@ -66,6 +66,32 @@ test('eight digits at 1-M', () => {
   assert.ok(symbol.dark(13, 8) && !symbol.dark(7, 7));
 });
 
+test('a logo is a whole number of modules or a fraction', () => {
+  for (const logo of [1.5, -0.2, 177.5]) {
+    assert.throws(() => encode('A', { logo }), { name: 'SettingsError', message: `logo is a number of modules, or a fraction of the side between 0 and 1, and not ${logo}` });
+  }
+});
+
+test('a mask by hand', () => {
+  const symbol = encode('01234567', { level: 'M', boost: false, mask: 0 });
+  assert.deepEqual([symbol.modules, symbol.mask, symbol.level], [EIGHT_DIGITS, 0, 'M']);
+  const parts = encodeSeries('SHELF 12, CRATE 7', { version: 1, level: 'H' }).length;
+  assert.ok(parts > 1);
+  for (let mask = 0; mask < 8; mask++) {
+    const mended = mend(encode('Shelf 12', { mask }));
+    assert.deepEqual([mended.mask, mended.wrongModules, mended.content.text()], [mask, 0, 'Shelf 12']);
+    const logo = encode('Shelf 12', { mask, logo: 3 });
+    assert.deepEqual([logo.mask, logo.logo, mend(logo).mask, read(logo).text()], [mask, 3, mask, 'Shelf 12']);
+    const series = encodeSeries('SHELF 12, CRATE 7', { version: 1, level: 'H', mask });
+    assert.deepEqual(series.map((it) => [it.mask, mend(it).mask, mend(it).isSound]), Array(parts).fill([mask, mask, true]));
+  }
+  for (const mask of [-1, 8, 2 ** 32, 1.5]) {
+    assert.throws(() => encode('A', { mask }), { name: 'SettingsError', message: `mask is a whole number from 0 to 7, and not ${mask}` });
+    assert.throws(() => encodeSeries('A', { version: 1, mask }), { name: 'SettingsError' });
+  }
+  assert.throws(() => encode('A', { mask: '3' }), TypeError);
+});
+
 test('defaults are those of the command', () => {
   const symbol = encode('A', { boost: false });
   assert.deepEqual([symbol.level, symbol.version], ['L', 1]);

@@ -430,6 +430,12 @@ uint8_t qrproved_encode_series(const uint8_t *input, size_t input_len, uint32_t 
 	                                BYTES(series));
 }
 
+uint8_t qrproved_set_mask(uint8_t *modules, size_t modules_len, uint32_t side, uint32_t mask)
+{
+	struct heap heap = SYSTEM;
+	return m_qrproved_set_mask(&heap, modules, modules_len, side, mask);
+}
+
 uint8_t qrproved_read(const uint8_t *modules, size_t modules_len, uint32_t side, uint8_t *bytes, size_t bytes_len,
                       struct qrproved_eci *ecis, size_t ecis_len, struct qrproved_content *content)
 {

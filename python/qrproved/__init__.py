@@ -20,8 +20,9 @@ import os
 import re
 import sys
 import warnings
-from dataclasses import dataclass
+from dataclasses import dataclass, replace
 from enum import IntEnum
+from pathlib import Path
 from typing import TYPE_CHECKING, BinaryIO, List, NamedTuple, NoReturn, Optional, Tuple, Union
 
 from . import _colours, _library, _logos, _papers, contents
@@ -38,6 +39,7 @@ if TYPE_CHECKING:
     from collections.abc import Callable, Iterable, Mapping, Sequence
     from typing import Any
 
+    LogoFile = Union[bytes, bytearray, memoryview, str, os.PathLike[str], BinaryIO]
     Picture = Any  # bytes, a path, an open file, an image of Pillow, or an array of numpy
     Bytes = Union[bytes, bytearray, memoryview]
     Input = Union[str, bytes, bytearray, memoryview]
@@ -55,6 +57,7 @@ FNC1_FIRST, FNC1_SECOND = 1, 2
 VERSION_MAX, ECI_MAX = LIMITS["VERSION_MAX"], LIMITS["ECI_MAX"]
 SCALE_MAX = LIMITS["SCALE_MAX"]
 SIZE_MAX = LIMITS["SIZE_MAX"]  # of mm and dpi
+MASK_MAX = LIMITS["MASK_MAX"]
 SHARE_MAX, SHARE = LIMITS["SHARE_MAX"], LIMITS["SHARE"]  # of what can be corrected, in percent
 PLACE_MAX, DPI, DOTS = LIMITS["PLACE_MAX"], LIMITS["DPI"], LIMITS["DOTS"]
 FORMATS, DOCUMENTS = DATA["formats"], DATA["documents"]
@@ -146,7 +149,7 @@ class Symbol:
     side: int
     """Modules on a side: 17 + 4 * version."""
     mask: Optional[int]
-    """From 0 to 7; None in a series, whose call does not return it."""
+    """From 0 to 7; None in a series unless it was asked for, since the call does not return it."""
     modules: bytes
     """side * side bytes, row by row: 1 is dark, 0 is light."""
     level: Optional[Level] = None
@@ -211,7 +214,7 @@ class Symbol:
 
     def png(self, *wrong: NoReturn, scale: Optional[int] = None, margin: int = 4, mm: Optional[float] = None, dpi: Optional[float] = None,
             fit_mm: Optional[float] = None, dark: str = _colours.DARK, light: Optional[str] = _colours.LIGHT, inverse: bool = False,
-            logo: Optional[Bytes] = None, **others: NoReturn) -> bytes:
+            logo: Optional[LogoFile] = None, **others: NoReturn) -> bytes:
         """Returns the drawing as a PNG picture.
 
         scale   the pixels of a module on each side, from 1 to SCALE_MAX: 8 unless fit_mm is given
@@ -223,7 +226,7 @@ class Symbol:
                 given, prints a dot for each pixel
         dark, light, inverse
                 the colours, as in svg. With light=None the ground is transparent
-        logo    a PNG file, which is drawn in the place of the logo for which the symbol was encoded, within a light ring of one module. It
+        logo    a PNG file, as its bytes, by its path or open, which is drawn in the place of the logo for which the symbol was encoded, within a light ring of one module. It
                 has 8 bits a channel and is not interlaced
 
         Without mm, dpi and fit_mm the picture does not say how large it is. Raises SettingsError if a number is out of range, if the size
@@ -236,7 +239,7 @@ class Symbol:
 
     def svg(self, *wrong: NoReturn, margin: int = 4, mm: Optional[float] = None, inline: bool = False, dark: str = _colours.DARK,
             light: Optional[str] = _colours.LIGHT, inverse: bool = False, title: Optional[str] = None, class_name: Optional[str] = None,
-            caption: Optional[str] = None, logo: Optional[Bytes] = None, **others: NoReturn) -> bytes:
+            caption: Optional[str] = None, logo: Optional[LogoFile] = None, **others: NoReturn) -> bytes:
         """Returns the drawing as an SVG document.
 
         margin      light modules on each side
@@ -249,7 +252,7 @@ class Symbol:
         title       what the drawing is called by programs that read it aloud; it has then the role of an image
         class_name  its class in a page
         caption     a line of text below the symbol and its margin, which makes the drawing four modules higher
-        logo        a PNG or SVG file, which becomes a part of the document, in the place of the logo for which the symbol was encoded, within a
+        logo        a PNG or SVG file, as its bytes, by its path or open, which becomes a part of the document, in the place of the logo for which the symbol was encoded, within a
                     light ring of one module
 
         Raises as document does, and raises SettingsError for colours with a contrast under 3 (WCAG 2.1), and for an order of them that
@@ -258,7 +261,7 @@ class Symbol:
         colours = _colours.colours_of(dark, light, bool(_flag("inverse", inverse)))
         document = _coloured(self._svg(margin, mm), colours, title, class_name)
         if logo is not None:
-            document = _logos.in_svg(document, _bytes("logo", logo), self._place(margin))
+            document = _logos.in_svg(document, _logo_file(logo), self._place(margin))
         if caption is not None:
             document = _captioned(document, self.side + 2 * margin, caption, colours[0])
         return document.split(b"?>\n", 1)[-1] if _flag("inline", inline) else document
@@ -337,7 +340,7 @@ class Symbol:
 
     def save(self, path: Union[str, os.PathLike[str], BinaryIO], *wrong: NoReturn, kind: Optional[str] = None, scale: Optional[int] = None,
              margin: int = 4, mm: Optional[float] = None, dpi: Optional[float] = None, x: int = 0, y: int = 0, fit_mm: Optional[float] = None,
-             dark: str = _colours.DARK, light: Optional[str] = _colours.LIGHT, inverse: bool = False, logo: Optional[Bytes] = None,
+             dark: str = _colours.DARK, light: Optional[str] = _colours.LIGHT, inverse: bool = False, logo: Optional[LogoFile] = None,
              **others: NoReturn) -> None:
         """Writes the drawing to a file, or to an object with a method `write` that takes bytes.
 
@@ -372,7 +375,7 @@ class Symbol:
         media = {"png": "image/png", "svg": "image/svg+xml"}[kind]
         return f"data:{media};base64,{base64.b64encode(self._drawn(kind, _Sizes(scale, mm), margin, 0, 0)).decode()}"
 
-    def _png(self, sizes: _Sizes, margin: int, logo: Optional[Bytes] = None, colours: _colours.Colours = _colours.PLAIN) -> bytes:
+    def _png(self, sizes: _Sizes, margin: int, logo: Optional[LogoFile] = None, colours: _colours.Colours = _colours.PLAIN) -> bytes:
         light = _setting("margin", margin, 0, MARGIN_MAX)
         scale, mm, dpi, _ = sizes.fitted("png", self, light)
         pixels = _setting("scale", PIXELS if scale is None else scale, 1, SCALE_MAX)
@@ -387,7 +390,7 @@ class Symbol:
             raise SettingsError(f"a PNG picture of {width} pixels cannot say that it is {size:.3g} mm wide")
         _warn(light, None if size is None else size / (self.side + 2 * light))
         if logo is not None:
-            picture, place = _bytes("logo", logo), self._place(0)
+            picture, place = _logo_file(logo), self._place(0)
             return _logos.in_png(self._shown(), self.side, pixels, light, _nearest(pixels_a_metre), picture, place, colours)
         if colours != _colours.PLAIN:
             return self._coloured_png(pixels, light, _nearest(pixels_a_metre), colours)
@@ -430,7 +433,7 @@ class Symbol:
         _warn(margin, None)
         return document
 
-    def _drawn(self, kind: str, sizes: _Sizes, margin: int, x: int, y: int, logo: Optional[Bytes] = None,
+    def _drawn(self, kind: str, sizes: _Sizes, margin: int, x: int, y: int, logo: Optional[LogoFile] = None,
                colours: _colours.Colours = _colours.PLAIN) -> bytes:
         if colours != _colours.PLAIN and kind not in ("png", "svg", "pdf"):
             raise TypeError("PNG, SVG and PDF have colours; other drawings are black on white")
@@ -453,7 +456,7 @@ class Symbol:
             if dpi is not None:
                 raise TypeError("an SVG document has no pixels, and so no dpi: its size is given by mm")
             document = _coloured(self._svg(margin, mm), colours, None, None)
-            return document if logo is None else _logos.in_svg(document, _bytes("logo", logo), self._place(margin))
+            return document if logo is None else _logos.in_svg(document, _logo_file(logo), self._place(margin))
         if kind in ("pdf", "eps"):
             if dpi is not None:
                 raise TypeError("a document for print has no pixels, and so no dpi: its size is given by mm")
@@ -705,7 +708,8 @@ def _settings(version: int, level: Name, rule: Optional[Name]) -> tuple[int, int
 # What segno, python-qrcode and other packages call the options.
 OTHER_NAMES = {"error": "level", "error_correction": "level", "ec_level": "level", "ecl": "level", "mode": "rule", "encoding": "eci",
                "boost_error": "boost", "border": "margin", "quiet_zone": "margin", "box_size": "scale", "module_size": "scale",
-               "format": "kind", "xmldecl": "inline", "fill_color": "dark", "back_color": "light", "svgclass": "class_name"}
+               "format": "kind", "xmldecl": "inline", "fill_color": "dark", "back_color": "light", "svgclass": "class_name",
+               "mask_pattern": "mask", "ecc": "level", "color": "dark", "foreground": "dark", "background": "light"}
 
 
 def _no_more(call: str, first: str, wrong: Sequence[object], others: Mapping[str, object], *names: str) -> None:
@@ -797,6 +801,16 @@ def _bytes(name: str, data: Optional[Bytes]) -> bytes:
         raise TypeError(f"{name} is a text or bytes, and not of type {type(data).__name__}") from None
 
 
+def _logo_file(logo: LogoFile) -> bytes:
+    """Returns the file of a logo, which is given as its bytes, open, or by its path."""
+    given = Path(logo).read_bytes() if isinstance(logo, (str, os.PathLike)) else logo.read() if hasattr(logo, "read") else logo
+    try:
+        return _copied(given)
+    except TypeError:
+        raise TypeError("the picture of a logo is a PNG or SVG file: its bytes, its path or an open file, and not of type"
+                        f" {type(logo).__name__}") from None
+
+
 def _square(call: str, modules: Union[Symbol, Found, Bytes], side: Optional[int]) -> tuple[bytes, int]:
     """Returns modules and their side, which a symbol has itself."""
     if isinstance(modules, (Symbol, Found)):
@@ -836,8 +850,8 @@ def _room_of_lines(kind: str, rows: int, scale: int) -> int:
 
 
 def encode(data: Optional[Input] = None, *wrong: NoReturn, version: int = 1, level: Name = Level.L, rule: Optional[Name] = None,
-           eci: Optional[int] = None, gs1: Optional[Input] = None, boost: bool = True, logo: Optional[float] = None,
-           share: Optional[float] = None, **others: NoReturn) -> Symbol:
+           eci: Optional[int] = None, gs1: Optional[Input] = None, boost: bool = True, mask: Optional[int] = None,
+           logo: Optional[float] = None, share: Optional[float] = None, **others: NoReturn) -> Symbol:
     """Returns the symbol of a text, of some bytes or of GS1 data, of the least version from `version` on that holds them.
 
     data     a text, or bytes; from 1 byte to BYTES_MAX
@@ -850,6 +864,8 @@ def encode(data: Optional[Input] = None, *wrong: NoReturn, version: int = 1, lev
     gs1      in place of data, GS1 data as a text like '(01)04012345678901(10)AB', or in brackets like '[01]04012345678901[10]AB';
              or their bytes, in which the byte 1D separates fields, which are not looked at
     boost    take the highest level from `level` on that fits the same version
+    mask     the number of the mask, from 0 to 7, in place of the one with the least penalty, which the standard asks for. Scanners may
+             read the symbol less well
     logo     leave place for a logo in the middle: its side in modules, as 7, or a fraction of the symbol's side, as 0.2. The symbol has
              the least version from `version` on with which, at some level from `level` on, the logo is allowed, and the highest such
              level, whatever `boost` is. With the logo, whatever it shows, the library is proved to mend the symbol to exactly its
@@ -865,17 +881,32 @@ def encode(data: Optional[Input] = None, *wrong: NoReturn, version: int = 1, lev
     not in the character set, and for a text in a set that is not known; Gs1Error, which is one too, for a text that is no GS1 data,
     and FieldsError for such bytes. Raises LogoError if no symbol of the input may have the logo.
     """
-    _no_more("encode", "data, ", wrong, others, "version", "level", "rule", "eci", "gs1", "boost", "logo", "share")
+    _no_more("encode", "data, ", wrong, others, "version", "level", "rule", "eci", "gs1", "boost", "mask", "logo", "share")
     (given, settings), is_boosted = _asked(data, gs1, eci, version, level, rule), _flag("boost", boost)
+    under = _mask(mask)
     if logo is not None:
-        return _for_logo(given, settings, logo, _percent(SHARE / 100 if share is None else share))
+        return under(_for_logo(given, settings, logo, _percent(SHARE / 100 if share is None else share)))
     if share is not None:
         raise TypeError("share says how much a logo may use up: it is given beside logo")
     modules, symbol = (ctypes.c_uint8 * SYMBOL_MAX)(), _library.Symbol()
     status = _calls.qrproved_encode(given.data, len(given.data), *settings, given.interpretation, is_boosted, modules, SYMBOL_MAX,
                                     ctypes.byref(symbol))
     _raise_of_encoding(status, given, settings)
-    return Symbol(symbol.version, symbol.side, symbol.mask, _first(modules, symbol.side ** 2), Level(symbol.level))
+    return under(Symbol(symbol.version, symbol.side, symbol.mask, _first(modules, symbol.side ** 2), Level(symbol.level)))
+
+
+def _mask(mask: Optional[int]) -> Callable[[Symbol], Symbol]:
+    """Returns what draws a symbol once more under this mask; without one each symbol stays as it is."""
+    if mask is None:
+        return lambda symbol: symbol
+    number = _setting("mask", mask, 0, MASK_MAX)
+
+    def under(symbol: Symbol) -> Symbol:
+        modules = (ctypes.c_uint8 * len(symbol.modules)).from_buffer_copy(symbol.modules)
+        raise_for(_calls.qrproved_set_mask(modules, len(modules), symbol.side, number))
+        return replace(symbol, mask=number, modules=bytes(modules))
+
+    return under
 
 
 def _raise_of_encoding(status: int, given: _Given, settings: tuple[int, int, int]) -> None:
@@ -923,17 +954,18 @@ def _with_logo(given: _Given, settings: tuple[int, int, int], logo: int, share: 
 
 
 def encode_series(data: Optional[Input] = None, *wrong: NoReturn, version: Optional[int] = None, level: Name = Level.L,
-                  rule: Optional[Name] = None, eci: Optional[int] = None, gs1: Optional[Input] = None, **others: NoReturn) -> list[Symbol]:
+                  rule: Optional[Name] = None, eci: Optional[int] = None, gs1: Optional[Input] = None, mask: Optional[int] = None,
+                  **others: NoReturn) -> list[Symbol]:
     """Returns the symbols of the series of a text, of some bytes or of GS1 data, all of `version`, from 1 to COUNT_MAX of them.
 
     What fits one symbol is one plain symbol. Each symbol has the ECI header, or says that its data are GS1 data. The arguments are
     those of encode, but `version` has to be given: without it a TypeError is raised. Raises as encode does, but in place of
     TooLongError TooManyError, if the bytes take more than COUNT_MAX symbols.
     """
-    _no_more("encode_series", "data, ", wrong, others, "version", "level", "rule", "eci", "gs1")
+    _no_more("encode_series", "data, ", wrong, others, "version", "level", "rule", "eci", "gs1", "mask")
     if version is None:
         raise TypeError("encode_series: the version of all symbols has to be given: encode_series(data, version=5)")
-    given, settings = _asked(data, gs1, eci, version, level, rule)
+    (given, settings), under = _asked(data, gs1, eci, version, level, rule), _mask(mask)
     modules, series = (ctypes.c_uint8 * SERIES_MAX)(), _library.Series()
     status = _calls.qrproved_encode_series(given.data, len(given.data), *settings, given.interpretation, modules, SERIES_MAX,
                                            ctypes.byref(series))
@@ -944,7 +976,8 @@ def encode_series(data: Optional[Input] = None, *wrong: NoReturn, version: Optio
     area = series.side ** 2
     written = _first(modules, series.count * area)
     level_of_all = Level(settings[1])
-    return [Symbol(settings[0], series.side, None, written[k * area:(k + 1) * area], level_of_all) for k in range(series.count)]
+    symbols = [Symbol(settings[0], series.side, None, written[k * area:(k + 1) * area], level_of_all) for k in range(series.count)]
+    return [under(symbol) for symbol in symbols]
 
 
 def read(modules: Union[Symbol, Found, Bytes, Picture], side: Optional[int] = None) -> Content:
@@ -1101,6 +1134,8 @@ def sheets(symbols: Union[Symbol, Iterable[Symbol]], sheet: Sheet, *wrong: NoRet
     and OutOfMemoryError. Warns by PrintWarning of what scanners may not read.
     """
     _no_more("sheets", "symbols, sheet, ", wrong, others, "margin", "mm", "captions")
+    if not isinstance(sheet, Sheet):
+        raise TypeError(f"sheet is a Sheet, as paper('Avery L7160') returns it, and not of type {type(sheet).__name__}")
     light, (given, count, side) = _setting("margin", margin, 0, MARGIN_MAX), _squares(_listed(symbols), LABELS_MAX)
     return _sheets(given, count, side, sheet, light, mm, None if captions is None else _captions(captions, count))
 

@@ -336,6 +336,8 @@ def add_drawing(parser: argparse.ArgumentParser, of_batch: str) -> None:
                         f" ESC/POS{of_batch}")
     parser.add_argument("-t", "--type", choices=sorted(SUFFIXES), type=str.lower, help="the type of the drawing, if the file does not tell")
     parser.add_argument("-v", "--version", type=int, metavar="N", help="the least version, from 1 to 40; 1. The version of a series")
+    parser.add_argument("--mask", type=int, metavar="N", help="the mask, from 0 to 7, in place of the one with the least penalty, which the standard asks"
+                        " for")
     parser.add_argument("-m", "--margin", type=int, default=4, metavar="N", help="light modules on each side, from 0 to 100; 4")
     parser.add_argument("-s", "--scale", type=int, metavar="N", help="pixels of a module of a PNG or a PBM, from 1 to 100, or dots for a printer;"
                         " 8, or 4 dots")
@@ -604,7 +606,7 @@ def main(words: Optional[list[str]] = None) -> int:
         settings = Settings(given.type, version, Level[given.level], rule, given.margin, given.scale, given.mm, given.dpi,
                             given.eci, given.gs1, given.boost, given.x, given.y, given.series, given.is_one_file, given.fit_mm,
                             given.dark, given.light, given.inverse, picture_of(given.logo), LOGO_SIDE if given.logo_side is None else given.logo_side,
-                            given.share)
+                            given.share, given.mask)
         told = set()  # the warnings that were said
 
         def warn(message: Union[Warning, str], *_: object) -> None:

@@ -69,6 +69,7 @@ PARAMETERS = {
     "qrproved_encode": [*BYTES, SETTING, SETTING, SETTING, SETTING, SETTING, *BUFFER, ctypes.POINTER(Symbol)],
     "qrproved_encode_logo": [*BYTES, *[SETTING] * 6, *BUFFER, ctypes.POINTER(Symbol), ctypes.POINTER(c_uint8)],
     "qrproved_encode_series": [*BYTES, SETTING, SETTING, SETTING, SETTING, *BUFFER, ctypes.POINTER(Series)],
+    "qrproved_set_mask": [*BUFFER, SETTING, SETTING],
     "qrproved_read": [*BYTES, SETTING, *BUFFER, *BUFFER, ctypes.POINTER(Content)],
     "qrproved_mend": [*BYTES, SETTING, *BUFFER, *BUFFER, ctypes.POINTER(Mended)],
     "qrproved_draw": [*BYTES, SETTING, SETTING, SETTING, SETTING, *BUFFER, ctypes.POINTER(c_size_t)],

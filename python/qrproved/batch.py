@@ -61,6 +61,7 @@ class Settings(NamedTuple):
     """The picture in the middle of a PNG or SVG."""
     logo_side: float = LOGO_SIDE
     share: Optional[float] = None
+    mask: Optional[int] = None
 
     def encoded(self, data: Union[str, bytes]) -> list[Symbol]:
         """Returns the symbol of a text or of some bytes, or their series. GS1 data are a text of ASCII: other bytes are refused with it."""
@@ -68,7 +69,7 @@ class Settings(NamedTuple):
             given = {"gs1": data.decode("latin-1") if isinstance(data, bytes) else data}
         else:
             given = {"data": data, "eci": self.eci}
-        settings = {"version": self.version, "level": self.level, "rule": self.rule}
+        settings = {"version": self.version, "level": self.level, "rule": self.rule, "mask": self.mask}
         if self.is_series:
             return qrproved.encode_series(**given, **settings)
         of_logo = {} if self.logo is None else {"logo": self.logo_side, "share": self.share}

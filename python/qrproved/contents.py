@@ -205,6 +205,8 @@ def _names_in(pieces: list[Any]) -> set[str]:
 
 def content_text(kind: str, given: dict[str, Any]) -> str:
     """Returns the text of a kind of content, with its fields by their names."""
+    if kind not in KINDS:
+        raise TypeError(f"there is no content {kind}; there are {', '.join(KINDS)}")
     table = KINDS[kind]
     fields = _checked(kind, given)
     form = fields.pop(table["form"]) if "form" in table else ""

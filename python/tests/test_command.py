@@ -54,6 +54,17 @@ class Command(unittest.TestCase):
         for words in (["--mm", "5", "--dpi", "300", "-t", "png"], ["--mm", "5"], ["--dpi", "300", "-t", "svg"]):
             self.assertIn("--mm" if "--mm" in words else "--dpi", run("A", *words, status=2)[1])
 
+    def test_a_mask_by_hand(self):
+        path = self.room / "a.svg"
+        for mask in (0, 7):
+            self.assertEqual(run("Shelf 12", "-o", path, "--mask", str(mask)), (b"", ""))
+            self.assertEqual(path.read_bytes(), qrproved.encode("Shelf 12", mask=mask).svg())
+        self.assertEqual(run("wifi", "ssid=a", "-t", "ascii", "--mask", "5")[0],
+                         qrproved.encode("WIFI:T:nopass;S:a;;", mask=5).text(drawing="ascii").encode())
+        run("--batch", "-", "-o", self.room / "few", "-t", "svg", "--mask", "5", given=b"Shelf 12\n")
+        self.assertEqual((self.room / "few/00001.svg").read_bytes(), qrproved.encode("Shelf 12", mask=5).svg())
+        self.assertIn("mask is from 0 to 7, and not 8", run("A", "-t", "ascii", "--mask", "8", status=1)[1])
+
     def test_colours(self):
         symbol, path = qrproved.encode("Shelf 12"), self.room / "a.svg"
         for kind in ("png", "pdf"):

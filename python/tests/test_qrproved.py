@@ -54,6 +54,26 @@ class Calls(unittest.TestCase):
     def test_a_dark_module_is_any_byte_but_0(self):
         self.assertEqual(qrproved.read(bytes(255 * module for module in EIGHT_DIGITS) + b"more", 21).data, b"01234567")
 
+    def test_a_mask_by_hand(self):
+        symbol = qrproved.encode("01234567", level="M", boost=False, mask=0)
+        self.assertEqual((symbol.modules, symbol.mask, symbol.level), (EIGHT_DIGITS, 0, Level.M))
+        of_series = {"version": 1, "level": "H"}
+        chosen = [qrproved.mend(it).mask for it in qrproved.encode_series("SHELF 12, CRATE 7", **of_series)]
+        self.assertGreater(len(chosen), 1)
+        for mask in range(8):
+            mended = qrproved.mend(qrproved.encode("Shelf 12", mask=mask))
+            self.assertEqual((mended.mask, mended.wrong_modules, mended.content.data), (mask, 0, b"Shelf 12"))
+            logo = qrproved.encode("Shelf 12", mask=mask, logo=3)
+            self.assertEqual((logo.mask, logo.logo, qrproved.mend(logo).mask, qrproved.read(logo).text()), (mask, 3, mask, "Shelf 12"))
+            series = qrproved.encode_series("SHELF 12, CRATE 7", mask=mask, **of_series)
+            self.assertEqual([(it.mask, qrproved.mend(it).mask, qrproved.mend(it).is_sound) for it in series], [(mask, mask, True)] * len(chosen))
+            self.assertEqual(b"".join(qrproved.read(it).data for it in series), b"SHELF 12, CRATE 7")
+        for wrong in (-1, 8, 2 ** 32, -2 ** 32 + 3):
+            with self.assertRaisesRegex(SettingsError, f"mask is from 0 to 7, and not {wrong}"):
+                qrproved.encode("A", mask=wrong)
+        with self.assertRaisesRegex(TypeError, "mask is an integer, and not of type str"):
+            qrproved.encode("A", mask="3")
+
     def test_a_symbol_has_its_numbers(self):
         symbol = qrproved.encode(b"01234567")
         self.assertEqual((symbol.version, symbol.side, len(symbol.modules)), (1, 21, 441))
@@ -255,7 +275,7 @@ class Refusals(unittest.TestCase):
         self.assertTrue(str(caught.exception))
 
     def test_settings_without_a_name(self):
-        symbol, listed = qrproved.encode("A"), "encode: version, level, rule, eci, gs1, boost, logo and share are given by name: "
+        symbol, listed = qrproved.encode("A"), "encode: version, level, rule, eci, gs1, boost, mask, logo and share are given by name: "
         rows = [(lambda: qrproved.encode("A", 7, "Q"), listed + "encode(data, version=7, level='Q')"),
                 (lambda: qrproved.encode("A", Level.Q), listed + "encode(data, level='Q')"),
                 (lambda: qrproved.encode("A", "q", 7, Rule.AUTO), listed + "encode(data, level='q', version=7, rule='AUTO')"),
@@ -269,12 +289,12 @@ class Refusals(unittest.TestCase):
             self.assertIn(wanted, str(caught.exception))
 
     def test_options_of_other_packages(self):
-        symbol, of_encode = qrproved.encode("A"), "there are version, level, rule, eci, gs1, boost, logo, share"
+        symbol, of_encode = qrproved.encode("A"), "there are version, level, rule, eci, gs1, boost, mask, logo, share"
         rows = [(lambda: qrproved.encode("A", error="H"), "error; did you mean level?"),
                 (lambda: qrproved.encode("A", error_correction=1), "error_correction; did you mean level?"),
                 (lambda: qrproved.encode("A", boost_error=False), "boost_error; did you mean boost?"),
-                (lambda: qrproved.encode("A", mask=3), f"mask; {of_encode}"), (lambda: qrproved.encode("A", border=4), f"border; {of_encode}"),
-                (lambda: qrproved.encode_series("A", version=1, boost=True), "boost; there are version, level, rule, eci, gs1"),
+                (lambda: qrproved.encode("A", masks=3), f"masks; {of_encode}"), (lambda: qrproved.encode("A", border=4), f"border; {of_encode}"),
+                (lambda: qrproved.encode_series("A", version=1, boost=True), "boost; there are version, level, rule, eci, gs1, mask"),
                 (lambda: symbol.png(border=4), "border; did you mean margin?"), (lambda: symbol.png(box_size=4), "box_size; did you mean scale?"),
                 (lambda: symbol.png(title="A"), "title; there are scale, margin, mm, dpi, fit_mm, dark, light, inverse, logo"),
                 (lambda: symbol.svg(back_color="red"), "back_color; did you mean light?"), (lambda: symbol.svg(svgclass="a"), "svgclass; did you mean class_name?"),

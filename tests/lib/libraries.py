@@ -117,6 +117,7 @@ PARAMETERS = {
     "qrproved_encode_bits": INPUT + NUMBER * 5 + BUFFER + POINTER,
     "qrproved_encode_logo": INPUT + NUMBER * 6 + BUFFER + POINTER * 2,
     "qrproved_encode_series": INPUT + NUMBER * 4 + BUFFER + POINTER,
+    "qrproved_set_mask": BUFFER + NUMBER * 2,
     "qrproved_read": BUFFER + NUMBER + BUFFER * 2 + POINTER,
     "qrproved_mend": BUFFER + NUMBER + BUFFER * 2 + POINTER,
     "qrproved_draw": BUFFER + NUMBER * 4 + BUFFER + POINTER,

@@ -481,6 +481,14 @@ static int edges(void)
 	want("a long series", qrproved_encode_series(modules, 200000, 40, 0, 0, NONE, modules + 200000, 31329, &series) == QRPROVED_TOO_MANY);
 	want("a series of 2", qrproved_encode_series(TEXT, 8, 1, 3, 1, NONE, modules, 882, &series) == QRPROVED_DONE);
 	want("no more is written for a series", series.count == 2 && series.side == 21 && is_marked(modules, 882, sizeof modules));
+	want("no modules to redraw", qrproved_set_mask(NULL, 0, 21, 7) == QRPROVED_ROOM);
+	want("440 modules to redraw", qrproved_set_mask(modules, 440, 21, 7) == QRPROVED_ROOM);
+	want("mask 8", qrproved_set_mask(NULL, 0, 0, 8) == QRPROVED_SETTINGS);
+	want("mask 2^32 - 1", qrproved_set_mask(modules, 441, 21, UINT32_MAX) == QRPROVED_SETTINGS);
+	want("side 22 to redraw", qrproved_set_mask(modules, sizeof modules, 22, 0) == QRPROVED_SIDE);
+	want("side 277 to redraw", qrproved_set_mask(modules, sizeof modules, 277, 0) == QRPROVED_SIDE);
+	memset(bytes, MARK, sizeof bytes);
+	want("no format information", qrproved_set_mask(bytes, 441, 21, 0) == QRPROVED_FORMAT && is_marked(bytes, 0, sizeof bytes));
 	memset(bytes, MARK, sizeof bytes);
 	want("no modules", qrproved_read(NULL, 0, 21, bytes, sizeof bytes, NULL, 0, &content) == QRPROVED_ROOM);
 	want("no room", qrproved_read(modules, 441, 21, NULL, 0, NULL, 0, &content) == QRPROVED_ROOM);

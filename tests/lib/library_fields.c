@@ -7,6 +7,7 @@
 #include "qrproved.h"
 #include <stdio.h>
 #include <stdlib.h>
+#include <string.h>
 
 #define TELL(field) printf("%s %llu\n", #field, (unsigned long long)(field))
 
@@ -68,6 +69,10 @@ static void encode_series(void)
 	tell_all("series", modules, (size_t)series.count * series.side * series.side);
 	want_done("draw", qrproved_draw(modules, sizeof modules, series.side, 2, QRPROVED_ASCIIi, 6, text, sizeof text, &written));
 	tell_all("text", text, written);
+	static uint8_t masked[29 * 29];
+	memcpy(masked, modules, sizeof masked);
+	want_done("set_mask", qrproved_set_mask(masked, sizeof masked, 29, 5));
+	tell_all("masked", masked, sizeof masked);
 	want_done("image", qrproved_image(modules, sizeof modules, series.side, QRPROVED_TSPL, 2, 3, 5, 7, 11, document, sizeof document, &document_len));
 	tell_all("image", document, document_len);
 	want_done("png", qrproved_png(modules, sizeof modules, series.side, 2, 3, 11, 0x01020304, 0xFAFBFCFD, document, sizeof document, &document_len));

@@ -15,7 +15,7 @@ from typing import NamedTuple
 from damage import inverted, unread
 from libraries import DEFAULT, ECI_UTF8, GS1, LEVELS, MARK, STATUSES, Content, Drawn, Found, Library, Mended, Series, Sheet, Symbol, check
 from samples import EIGHT_DIGITS, LETTER
-from squares import codewords_of, data_of, interleaved, largest_logo, layout, side_of, square_of
+from squares import blocks, codewords_of, correction_len, data_of, interleaved, largest_logo, layout, side_of, square_of
 
 SPARE = 8  # bytes of a buffer after the room that a call is told of
 # Numbers of levels and rules.
@@ -1396,6 +1396,51 @@ BESIDE = [
     ("the right one cannot be mended", SOUND, SPOILT, ("DONE", [(1, 0), (0, 1)])),
 ]
 
+# ---- symbols under other masks
+
+def drawn_under(version, level, mask, wrong=()):
+    """Returns the symbol of some data codewords, which are no content, drawn by the independent model, with some modules inverted."""
+    count = sum(map(len, blocks(version, level))) - len(blocks(version, level)) * correction_len(version, level)
+    return inverted(square_of(version, level, mask, interleaved(version, level, bytes(7 * k % 251 for k in range(count)))), wrong)
+
+
+def set_mask(library, modules, side, mask, spare=b""):
+    """Returns the status, and the buffer after the call."""
+    buffer = (ctypes.c_uint8 * (len(modules) + len(spare)))(*modules, *spare)
+    return STATUSES[library.library.qrproved_set_mask(buffer, len(buffer), side, mask)], bytes(buffer)
+
+
+def each_mask(library, version, level):
+    """Draws a symbol under each mask, and each of these under each mask. Returns the pairs of masks of which another symbol comes out."""
+    of = [drawn_under(version, level, mask) for mask in range(8)]
+    return [(a, b) for a in range(8) for b in range(8) if set_mask(library, of[a], side_of(version), b) != ("DONE", of[b])]
+
+
+EACH_MASK = [(f"{version}-{level}", version, level, []) for version, level in
+             ((1, "L"), (2, "H"), (5, "Q"), (7, "M"), (13, "L"), (14, "H"), (25, "Q"), (40, "M"))]
+PLAIN = drawn_under(1, "M", 2)
+# A corner of a finder pattern, timing patterns, the second copy of the format information and the dark module.
+OUTSIDE = places((0, 0), (6, 10), (10, 6), (8, 20), (13, 8))
+# The first module of the region, which belongs to a codeword.
+IN_A_CODEWORD = places((20, 20))
+# The first copy of the format information. With these bits inverted it belongs to no level and mask, since three wrong bits are noticed.
+FIRST_COPY = places((8, 0), (8, 1), (8, 2))
+REDRAWN = [
+    ("modules of no codeword are put right", inverted(PLAIN, OUTSIDE), 21, 5, b"", ("DONE", drawn_under(1, "M", 5))),
+    ("a wrong codeword stays wrong", inverted(PLAIN, IN_A_CODEWORD), 21, 5, b"", ("DONE", drawn_under(1, "M", 5, IN_A_CODEWORD))),
+    ("other dark modules", bytes(255 * module for module in PLAIN), 21, 5, b"", ("DONE", drawn_under(1, "M", 5))),
+    ("the same mask", PLAIN, 21, 2, b"", ("DONE", PLAIN)),
+    ("more bytes", PLAIN, 21, 5, b"\2\0\xFF", ("DONE", drawn_under(1, "M", 5) + b"\2\0\xFF")),
+    ("no format information", inverted(PLAIN, FIRST_COPY), 21, 5, b"", ("FORMAT", inverted(PLAIN, FIRST_COPY))),
+    ("440 modules", PLAIN[:440], 21, 5, b"", ("ROOM", PLAIN[:440])),
+    ("no modules", b"", 21, 5, b"", ("ROOM", b"")),
+    ("a side of no version", PLAIN, 20, 5, b"", ("SIDE", PLAIN)),
+    ("side 277", PLAIN, 277, 5, b"", ("SIDE", PLAIN)),
+    ("mask 8", PLAIN, 21, 8, b"", ("SETTINGS", PLAIN)),
+    ("mask 256", PLAIN, 21, 256, b"", ("SETTINGS", PLAIN)),
+    ("mask 8 of no side", PLAIN, 0, 8, b"", ("SETTINGS", PLAIN)),
+]
+
 # ---- all of them
 
 # What makes the calls, and its rows: a name, what it is given after the library, and at the end what it has to return.
@@ -1420,6 +1465,8 @@ TABLES = {
     "encoded and read": (read_back, READ_BACK),
     "read in a series": (read_part, READ_PARTS),
     "not read": (reading_verdict, UNREAD),
+    "under each mask": (each_mask, EACH_MASK),
+    "under another mask": (set_mask, REDRAWN),
     "mended": (mended_digits, MENDED_DIGITS),
     "mended with modules not known": (mended_unknown, MENDED_UNKNOWN),
     "mended in a series": (mended_part, MENDED_PARTS),

@@ -56,6 +56,12 @@ static void *encode_series(void *none)
 	return none;
 }
 
+static void *set_mask(void *none)
+{
+	status = qrproved_set_mask(modules, (size_t)side * side, side, level);
+	return none;
+}
+
 static void *read_symbol(void *none)
 {
 	status = qrproved_read(modules, (size_t)side * side, side, bytes, sizeof bytes, ecis, QRPROVED_ECIS_MAX, &content);
@@ -247,6 +253,7 @@ static void all(void)
 				want("encode_bits", in_small_stack(encode_bits), QRPROVED_DONE);
 				if (level == 3 && version < 30)
 					want("encode_logo", in_small_stack(encode_logo), QRPROVED_DONE);
+				want("set_mask", in_small_stack(set_mask), QRPROVED_DONE);
 				want("read", in_small_stack(read_symbol), QRPROVED_DONE);
 				mend_until_refused(1);
 				mend_until_refused(0);
@@ -276,7 +283,7 @@ static int once(const char *name)
 {
 	static const struct { const char *name; void *(*call)(void *); } CALLS[] = {
 		{"encode", encode}, {"encode_bits", encode_bits}, {"encode_logo", encode_logo},
-		{"encode_series", encode_series}, {"read", read_symbol}, {"mend", mend},
+		{"encode_series", encode_series}, {"set_mask", set_mask}, {"read", read_symbol}, {"mend", mend},
 		{"draw", draw}, {"draw_row", draw_row}, {"document", document}, {"pdf", pdf}, {"sheets", sheets}, {"image", image}, {"png", png},
 		{"parse_drawing", parse_drawing}, {"find", find}, {"room", room}};
 	written = fread(text, 1, sizeof text, stdin);

@@ -8,6 +8,7 @@ pub use Rattle.qr_symbol.proofs.lemmas.joining.{joined-refused, joining-one, rea
 pub use Rattle.qr_symbol.proofs.lemmas.interleaving.MessageLemmas.{sizes-whole, data-sizes-whole, final-one, final-whole, take-front}
 pub use Rattle.qr_symbol.proofs.lemmas.interleaving.RankLemmas.{map-at, position-of, positions-one}
 pub use Rattle.qr_symbol.proofs.lemmas.reading.ReadLemmas.{bits-one, message-one, read-one, read-some}
+pub use Rattle.qr_symbol.proofs.lemmas.reading.RedrawingLemmas.{redrawn-drawn, redrawn-read}
 pub use Rattle.qr_symbol.proofs.lemmas.reading.RefusalLemmas.{exactly, moved, FaultsAreOne}
 pub use Rattle.qr_symbol.proofs.lemmas.reading.RoundTripLemmas.{symbol-format, symbol-holds, symbol-parsed, symbol-read}
 pub use Rattle.qr_symbol.proofs.lemmas.series.SeriesLemmas.{long-has-no-series, series-joined, series-one}

@@ -6,6 +6,7 @@ pub mod VersionChoice
 pub mod Encoding
 pub mod Series
 pub mod Reading
+pub mod Redrawing
 pub mod Joining
 pub mod Fault
 pub mod Interleaving

@@ -33,6 +33,7 @@
 //! - `patterns`: the colours of function patterns, format information and version information
 //! - `placement`: draws the codewords into the strips
 //! - `reading`: reads one symbol, without error correction
+//! - `redrawing`: draws a symbol once more under another mask
 //! - `series`: encodes an input as a series
 //! - `spans`: the rows of a strip that are drawn or read at once
 //! - `symbol`: makes the symbol of given codewords under a given mask
@@ -51,6 +52,7 @@ mod mask;
 mod patterns;
 mod placement;
 mod reading;
+mod redrawing;
 mod series;
 mod spans;
 mod symbol;
@@ -66,5 +68,6 @@ pub use qr_bits::{INPUT_MAX, Interpretation, Rule, Writing, may_write};
 pub use qr_layout::{Level, Size, Version};
 pub use qr_matrix::{Matrix, penalty};
 pub use reading::{read_codewords, read_symbol, read_unmasked};
+pub use redrawing::with_mask;
 pub use series::encode_series;
 pub use symbol::{Symbol, build_masked, draw_symbol};

@@ -3,12 +3,12 @@
 //! the data codewords are parsed. Errors are not corrected: a symbol is refused if the error correction codewords of
 //! some block do not belong to its data codewords.
 
-ghost use Rattle.std.specs.Prelude.{◌≡◌, ℕ, ◌<◌, ◌≤◌, Err, length, IfOk, MatchOption, MatchResult};
+ghost use Rattle.std.specs.Prelude.{◌≡◌, ℕ, ◌<◌, ◌≤◌, ◌⊎◌, Err, length, IfErr, IfOk, MatchOption, MatchResult};
 ghost use Rattle.std.specs.Bool.{Decides};
 ghost use Rattle.qr_symbol.specs.declared.fault.ReadFault.{ReadFault};
 ghost use Rattle.qr_layout.specs.declared.level.Level.{Level};
 ghost use Rattle.qr_layout.specs.Version.{side_of, total_codewords_of};
-ghost use Rattle.qr_symbol.specs.Reading.{IsFormat, IsRead, IsReading, IsReadUnmasked, IsUnread};
+ghost use Rattle.qr_symbol.specs.Reading.{IsFormat, IsOfVersion, IsRead, IsReading, IsReadUnmasked, IsUnread};
 ghost use Rattle.qr_symbol.specs.Steps.Placement.{region_grid};
 
 use crate::collecting::collect_codewords;
@@ -17,7 +17,7 @@ use crate::interleaving::deinterleave;
 use crate::mask::{MASK_COUNT, set_masked};
 use crate::patterns::region_of;
 use qr_bits::{Parsed, parse};
-use qr_layout::{FORMAT_BITS, Level, Version, format_place, format_word};
+use qr_layout::{FORMAT_BITS, Level, Size, Version, format_place, format_word};
 use qr_matrix::Matrix;
 use std::alloc::{AllocError, Global};
 
@@ -128,21 +128,31 @@ pub fn read_codewords(
     read_without_mask(alloc, version, &unmasked, &region)
 }
 
-// Reads the content of a square whose format information has this level and mask.
-fn read_with(
-    alloc: Global,
-    matrix: &Matrix,
-    version: Version,
-    level: Level,
-    mask: u8,
-) -> Result<Parsed, ReadFault>
-    requires side { matrix.now.side ≡ side_of version }
-    requires format { IsFormat matrix.now level mask }
+// The size of a symbol and its mask, as the number of rows and the format information state them.
+pub(crate) fn size_and_mask(matrix: &Matrix) -> Result<(Size, u8), ReadFault>
+    ensures size { IfOk result (λ it. IsOfVersion matrix.now it.0.version) }
+    ensures format { IfOk result (λ it. IsFormat matrix.now it.0.level it.1) }
+    ensures unread { IfErr result (IsUnread matrix.now) }
+    ensures fault { IfErr result (λ e. (e ≡ ReadFault.Side) ⊎ (e ≡ ReadFault.Format)) }
+{
+    let Some(version) = Version::of_side(matrix.side()) else {
+        return Err(ReadFault::Side);
+    };
+    let Some((level, mask)) = format_of(matrix) else {
+        return Err(ReadFault::Format);
+    };
+    Ok((Size { version, level }, mask))
+}
+
+// Reads the content of a square of this size whose format information has this mask.
+fn read_with(alloc: Global, matrix: &Matrix, size: Size, mask: u8) -> Result<Parsed, ReadFault>
+    requires side { matrix.now.side ≡ side_of size.version }
+    requires format { IsFormat matrix.now size.level mask }
     ensures { MatchResult result (IsReading matrix.now) (IsUnread matrix.now) }
 {
-    let codewords = read_codewords(alloc, version, mask, matrix)?;
-    let message = deinterleave(alloc, version, level, &codewords)?;
-    Ok(parse(alloc, &message, version)?)
+    let codewords = read_codewords(alloc, size.version, mask, matrix)?;
+    let message = deinterleave(alloc, size.version, size.level, &codewords)?;
+    Ok(parse(alloc, &message, size.version)?)
 }
 
 /// Reads a symbol, without correcting errors (ISO/IEC 18004:2015, 12). The number of rows gives the version. Level and
@@ -161,11 +171,6 @@ pub fn read_symbol(alloc: Global, m: &Matrix) -> Result<Parsed, ReadFault>
     ensures side { IsUnread m.now ReadFault.Side → result ≡ Err ReadFault.Side }
     ensures format { IsUnread m.now ReadFault.Format → result ≡ Err ReadFault.Format }
 {
-    let Some(version) = Version::of_side(m.side()) else {
-        return Err(ReadFault::Side);
-    };
-    let Some((level, mask)) = format_of(m) else {
-        return Err(ReadFault::Format);
-    };
-    read_with(alloc, m, version, level, mask)
+    let (size, mask) = size_and_mask(m)?;
+    read_with(alloc, m, size, mask)
 }

@@ -1,6 +1,8 @@
 //! The theorems, in the order of README's claims. The contract of each function is the theorem.
 
 ghost use Rattle.std.specs.Prelude.{List, MatchResult, Option, false, length, ℕ, ◌*◌, ◌<◌, ◌≡◌, ◌≤◌};
+ghost use Rattle.std.specs.List.{All};
+ghost use Rattle.qr_layout.specs.Version.{total_codewords_of};
 ghost use Rattle.qr_layout.specs.declared.level.Level.{Level};
 ghost use Rattle.qr_matrix.specs.Grid.{Grid};
 ghost use Rattle.qr_bits.specs.Interpretation.{MayWrite};
@@ -13,7 +15,9 @@ ghost use Rattle.qr_bits.specs.declared.stream.Header.{Header};
 ghost use Rattle.qr_symbol.specs.Encoding.{IsSymbolAt};
 ghost use Rattle.qr_symbol.specs.Joining.{IsJoined};
 ghost use Rattle.qr_symbol.specs.Reading.{IsReading, interpreted_content};
+ghost use Rattle.qr_symbol.specs.Redrawing.{IsRedrawn};
 ghost use Rattle.qr_symbol.specs.Series.{AreParts, FitParts, HasNoSeries, IsSeries, NeedsParts, squares_of};
+ghost use Rattle.qr_symbol.specs.Symbol.{grid_of};
 ghost use Rattle.qr_symbol.specs.declared.fault.ReadFault.{ReadFault};
 ghost use Rattle.qr_symbol.specs.declared.symbol.Symbol.{Symbol};
 ghost use Rattle.qr_mending.specs.Format.{IsNearFormat, format_cost};
@@ -191,3 +195,12 @@ pub fn pictures_are_read(
     write_modules(picture, &square, modules);
     Some(square)
 }
+
+/// A symbol that is drawn once more under another mask has the version, the level and the codewords that it had, and its
+/// content is the same. `with_mask` of `qr_symbol` draws a symbol once more, and `qrproved_set_mask` of the library calls it.
+pub fn redrawn_symbols_keep_their_content(version: Version, level: Level)
+    ensures drawn { (former mask : ℕ) (cw : List ℕ) (g : Grid) → former < 8 → length cw ≡ total_codewords_of version
+        → All (λ x. x < 256) cw → IsRedrawn (grid_of version level former cw) mask g → g ≡ grid_of version level mask cw }
+    ensures read { (from g : Grid) (mask : ℕ) (c : Content) → mask < 8 → IsReading from c → IsRedrawn from mask g
+        → IsReading g c }
+{}

@@ -7,6 +7,7 @@ pub mod Encoding
 pub mod Series
 pub mod Interpretation
 pub mod Reading
+pub mod Masking
 pub mod Mending
 pub mod Drawing
 pub mod Row

@@ -1,8 +1,9 @@
 //! A library for C, and for each language that can call C functions. In the comments of this crate a call is one of the
-//! library's functions, which `include/qrproved.h` declares. The calls encode an input as a symbol, also for a logo, or as a series, read
-//! symbols, mend damaged ones, draw squares of modules, write them as documents for print, as labels or as images, parse
-//! drawings, find symbols in pictures, and say how much fits a symbol. A call writes modules, bytes, ECI headers, texts and files to buffers of the
-//! caller, and numbers to a struct or a variable of the caller. It keeps no memory, so there is nothing to free.
+//! library's functions, which `include/qrproved.h` declares. The calls encode an input as a symbol, also for a logo, or
+//! as a series, draw symbols under other masks, read symbols, mend damaged ones, draw squares of modules, write them as
+//! documents for print, as labels or as images, parse drawings, find symbols in pictures, and say how much fits a
+//! symbol. A call writes modules, bytes, ECI headers, texts and files to buffers of the caller, and numbers to a struct
+//! or a variable of the caller. It keeps no memory, so there is nothing to free.
 //!
 //! The contracts of the calls hold if the caller fulfils the conditions under 'What the caller owes' in
 //! `docs/LIBRARY.md`. If a buffer is longer than the result, the bytes after the result stay as they are. On each
@@ -25,6 +26,7 @@
 //! - `interpretation`: ECI headers and FNC1, as numbers for C
 //! - `laws`: laws about the calls and their numbers
 //! - `logo`: the call that encodes an input as a symbol that may have a logo
+//! - `masking`: the call that draws a symbol once more under another mask
 //! - `mending`: the call that reads a damaged symbol and measures its damage
 //! - `modules`: squares of modules as bytes of a buffer
 //! - `parsing`: the call that parses a drawing
@@ -49,6 +51,7 @@ mod image;
 mod interpretation;
 pub mod laws;
 mod logo;
+mod masking;
 mod mending;
 mod modules;
 mod parsing;
@@ -70,6 +73,7 @@ pub use finding::{QrprovedFound, qrproved_find};
 pub use image::qrproved_image;
 pub use interpretation::QrprovedEci;
 pub use logo::qrproved_encode_logo;
+pub use masking::qrproved_set_mask;
 pub use mending::{QrprovedMended, qrproved_mend};
 pub use parsing::{QrprovedDrawn, qrproved_parse_drawing};
 pub use reading::{QrprovedContent, qrproved_read};

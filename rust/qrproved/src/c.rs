@@ -176,6 +176,13 @@ extern "C" {
         series: *mut Series,
     ) -> u8;
 
+    pub fn qrproved_set_mask(
+        modules: *mut c_uchar,
+        modules_len: usize,
+        side: Setting,
+        mask: Setting,
+    ) -> u8;
+
     pub fn qrproved_read(
         modules: *const c_uchar,
         modules_len: usize,

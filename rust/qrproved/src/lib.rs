@@ -373,6 +373,42 @@ impl Symbol {
         self.mask
     }
 
+    /// Draws the symbol once more, under a mask from 0 to 7. [`encode`] takes the mask with the least penalty, which the standard
+    /// asks for. With another one the symbol has the same content, but scanners may read it less well.
+    ///
+    /// ```
+    /// use qrproved::{encode, read, Error, Level, Options, Version};
+    ///
+    /// let symbol = encode(b"Shelf 12", Version::MIN, Level::L, &Options::default())?.with_mask(3)?;
+    /// assert_eq!(symbol.mask(), Some(3));
+    /// assert_eq!(read(symbol.modules(), symbol.side())?.data, b"Shelf 12");
+    /// # Ok::<(), Error>(())
+    /// ```
+    ///
+    /// # Errors
+    ///
+    /// [`Error::Settings`] if the mask is above 7; [`Error::Memory`].
+    pub fn with_mask(mut self, mask: u8) -> Result<Symbol, Error> {
+        let side = setting(self.side())?;
+        check_library();
+        // SAFETY: the version was checked, the length is that of the modules, and only the call has them.
+        let status = unsafe {
+            c::qrproved_set_mask(
+                self.modules.as_mut_ptr(),
+                self.modules.len(),
+                side,
+                c::Setting::from(mask),
+            )
+        };
+        match Error::of_status(status) {
+            Some(error) => Err(error),
+            None => Ok(Symbol {
+                mask: Some(mask),
+                ..self
+            }),
+        }
+    }
+
     /// Returns the modules on a side, from 21 to 177.
     #[must_use]
     pub fn side(&self) -> usize {

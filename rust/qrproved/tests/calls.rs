@@ -473,6 +473,25 @@ fn a_symbol_has_a_mask_and_in_a_series_none() {
 }
 
 #[test]
+fn a_mask_may_be_chosen_by_hand() {
+    let symbol = encode(b"01234567", Version::MIN, Level::M, &PLAIN).unwrap();
+    let of_the_standard = symbol.clone().with_mask(0).unwrap();
+    assert_eq!(
+        (of_the_standard.mask(), of_the_standard.modules()),
+        (Some(0), eight_digits().as_slice())
+    );
+    for mask in 0..8 {
+        let masked = of_the_standard.clone().with_mask(mask).unwrap();
+        let mended = mend(masked.modules(), masked.side()).unwrap();
+        assert_eq!(
+            (mended.mask, mended.wrong_modules, mended.content.data),
+            (mask, 0, b"01234567".to_vec())
+        );
+    }
+    assert_eq!(symbol.with_mask(8), Err(Error::Settings));
+}
+
+#[test]
 #[should_panic(expected = "no module at row 0 and column 21")]
 fn a_column_past_the_side_is_none() {
     let symbol = encode(b"A", Version::MIN, Level::L, &PLAIN).unwrap();

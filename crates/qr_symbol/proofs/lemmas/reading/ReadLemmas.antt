@@ -87,6 +87,10 @@ read-some v mask g p h =
     let same = append-front _ _ [] (drop (8 * t) bits) (let l = length-bits_of (bytes_of t bits) in omega arith) (append-nil _ ∙ w.2) in
     search arith
 
+-- the codewords of which a square is drawn are read from it
+pub grid-read : (v : ℕ) (l : Level) (mask : ℕ) (cw : List ℕ) → 1 ≤ v → v ≤ 40 → length cw ≡ total_codewords_of v → All (λ x. x < 256) cw → IsRead v mask (grid_of v l mask cw) cw
+grid-read v l mask cw p h n a = let o = to_come-start v in search (arith, read-grid)
+
 -- the square that is drawn for the codewords of a message contains this message
 pub message-read : (v : ℕ) (l : Level) (mask : ℕ) (d cw : List ℕ) → 1 ≤ v → v ≤ 40 → length cw ≡ total_codewords_of v → All (λ x. x < 256) cw → length d ≡ data_codewords_of v l → IsInterleaved v l d cw → IsMessage v l mask (grid_of v l mask cw) d
 message-read v l mask d cw p h n a m i = let o = to_come-start v in search (arith, read-grid)

@@ -2,7 +2,7 @@
 use Rattle.{qr_bits.specs.{Bits.bits_of, Parsing.Content, declared.fault.ParseFault.ParseFault}, qr_layout.specs.declared.level.Level.Level}
 use Rattle.{qr_matrix.specs.Grid.Grid, qr_symbol.proofs.lemmas.reading.{FormatLemmas.format-one, ReadLemmas.message-one}}
 use Rattle.qr_symbol.specs.{Reading.{IsFormat, IsMessage, IsReading, IsOfVersion, IsParsedAs, IsUnread}, declared.fault.ReadFault.ReadFault}
-use Rattle.std.{proofs.Common.{◌≡◌, ℕ, List, refl, inl, inr, sym, ◌⊎◌, arith}, specs.Prelude.{◌↔◌, MatchResult, Result, Ok, Err}}
+use Rattle.std.{proofs.Common.{◌≡◌, ℕ, List, refl, inl, inr, sym, ◌∙◌, ◌⊎◌, arith}, specs.Prelude.{◌↔◌, MatchResult, Result, Ok, Err}}
 use Rattle.qr_symbol.specs.declared.fault.ReadFault.TheVariants as fault
 
 -- two faults are equal, or one of them is lack of memory
@@ -54,6 +54,14 @@ refused-one g e fault.Side a b = absurd (b a.0 a.1)
 refused-one g fault.Format fault.Check a b = absurd (a.2 b.2 b.3 b.4)
 refused-one g fault.Check fault.Format a b = absurd (b.2 a.2 a.3 a.4)
 refused-one g e f a b = inr (inr refl)
+
+-- of the faults `Side` and `Format` at most one holds
+pub stated-fault : (g : Grid) (e f : ReadFault) → (e ≡ fault.Side) ⊎ (e ≡ fault.Format) → (f ≡ fault.Side) ⊎ (f ≡ fault.Format) → IsUnread g e → IsUnread g f → e ≡ f
+stated-fault g e f a b u w = elim (refused-one g e f u w) [
+  | inl m ↦ absurd (elim a [ inl s ↦ (let t = sym m ∙ s in cc) | inr s ↦ (let t = sym m ∙ s in cc) ])
+  | inr (inl m) ↦ absurd (elim b [ inl s ↦ (let t = sym m ∙ s in cc) | inr s ↦ (let t = sym m ∙ s in cc) ])
+  | inr (inr q) ↦ q
+]
 
 -- if at most one fault besides lack of memory can hold, and none of these beside a value, a call returns such a fault
 -- exactly if it holds, unless memory is refused

@@ -7,16 +7,16 @@ pub returns-in_err-message : goal.returns-in_err-message
 returns-in_err-message c =
     let g = c.args.matrix.now in
     let p = err_from_is_err_and c.from_residual-in_err-message.result c.from_residual-in_err-message.ensures.1 in
-    rw (p.1, p.2) (not-checked g c.args.version _ _ _ _ (record { least = omega arith; most = omega arith; side = c.requires.side }) c.requires.format
-    (subst (IsRead c.args.version c.args.mask g) (sym c.deref.ensures.value) c.in_ok-codewords.ensures.read) c.in_err-message.ensures.fault
+    rw (p.1, p.2) (not-checked g c.args.size.version _ _ _ _ (record { least = omega arith; most = omega arith; side = c.requires.side }) c.requires.format
+    (subst (IsRead c.args.size.version c.args.mask g) (sym c.deref.ensures.value) c.in_ok-codewords.ensures.read) c.in_err-message.ensures.fault
     (λ e d n h. (c.in_err-message.ensures.check.0 (ap (λ (f : ReadFault). Err f) e)).1 d (n, h)))
 
 pub parse-requires : goal.parse-requires
-parse-requires c = let most = (laws-of c.args.level c.args.version (omega arith) (omega arith)).most in
+parse-requires c = let most = (laws-of c.args.size.level c.args.size.version (omega arith) (omega arith)).most in
     search rules
 
 -- the message that was deinterleaved is that of the square
-held : (c : After-deref-2) → IsMessage c.args.version c.args.level c.args.mask c.args.matrix.now c.deref-2.result.now
+held : (c : After-deref-2) → IsMessage c.args.size.version c.args.size.level c.args.mask c.args.matrix.now c.deref-2.result.now
 held c = search rules
 
 pub returns-in_err-parse : goal.returns-in_err-parse
