@@ -832,6 +832,7 @@ uint8_t qrproved_room(uint32_t version, uint32_t level, uint32_t mode, uint32_t 
 #define QRPROVED_ENCODE_LOGO_MEMORY(version) (QRPROVED_ENCODE_MEMORY(version) + 1000)
 #define QRPROVED_ENCODE_SERIES_MEMORY(version, count) \
 	(QRPROVED_ENCODE_MEMORY(version) + (size_t)(count) * (600 + 380 * (size_t)(version) + 12 * (size_t)(version) * (version)))
+#define QRPROVED_SET_MASK_MEMORY(version) (3300 + 770 * (size_t)(version) + 3 * (size_t)(version) * (version))
 #define QRPROVED_READ_MEMORY(version) (2500 + 1500 * (size_t)(version) + 105 * (size_t)(version) * (version))
 #define QRPROVED_MEND_MEMORY(version) (QRPROVED_READ_MEMORY(version) + 2500 + 700 * (size_t)(version))
 #define QRPROVED_DRAW_MEMORY(drawing, side, count, margin) \
@@ -859,6 +860,8 @@ QRPROVED_CALL(11)
 uint8_t qrproved_encode_series_in(void *memory, size_t memory_len, const uint8_t *input, size_t input_len, uint32_t version,
                                   uint32_t level, uint32_t rule, uint32_t interpretation, uint8_t *modules, size_t modules_len,
                                   struct qrproved_series *series);
+QRPROVED_RESULT
+uint8_t qrproved_set_mask_in(void *memory, size_t memory_len, uint8_t *modules, size_t modules_len, uint32_t side, uint32_t mask);
 QRPROVED_CALL(10)
 uint8_t qrproved_read_in(void *memory, size_t memory_len, const uint8_t *modules, size_t modules_len, uint32_t side,
                          uint8_t *bytes, size_t bytes_len, struct qrproved_eci *ecis, size_t ecis_len,

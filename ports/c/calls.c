@@ -333,6 +333,12 @@ uint8_t qrproved_encode_series_in(void *memory, size_t memory_len, const uint8_t
 	                                BYTES(series));
 }
 
+uint8_t qrproved_set_mask_in(void *memory, size_t memory_len, uint8_t *modules, size_t modules_len, uint32_t side, uint32_t mask)
+{
+	struct heap heap = heap_of(memory, memory_len);
+	return m_qrproved_set_mask(&heap, modules, modules_len, side, mask);
+}
+
 uint8_t qrproved_read_in(void *memory, size_t memory_len, const uint8_t *modules, size_t modules_len, uint32_t side, uint8_t *bytes,
                          size_t bytes_len, struct qrproved_eci *ecis, size_t ecis_len, struct qrproved_content *content)
 {

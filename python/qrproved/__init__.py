@@ -226,8 +226,8 @@ class Symbol:
                 given, prints a dot for each pixel
         dark, light, inverse
                 the colours, as in svg. With light=None the ground is transparent
-        logo    a PNG file, as its bytes, by its path or open, which is drawn in the place of the logo for which the symbol was encoded, within a light ring of one module. It
-                has 8 bits a channel and is not interlaced
+        logo    a PNG file, as its bytes, by its path or open, which is drawn in the place of the logo for which the symbol was encoded,
+                within a light ring of one module. It has 8 bits a channel and is not interlaced
 
         Without mm, dpi and fit_mm the picture does not say how large it is. Raises SettingsError if a number is out of range, if the size
         is one that PNG cannot state (its pixels are counted by the metre), or if not even modules of one pixel are as narrow as fit_mm
@@ -252,8 +252,8 @@ class Symbol:
         title       what the drawing is called by programs that read it aloud; it has then the role of an image
         class_name  its class in a page
         caption     a line of text below the symbol and its margin, which makes the drawing four modules higher
-        logo        a PNG or SVG file, as its bytes, by its path or open, which becomes a part of the document, in the place of the logo for which the symbol was encoded, within a
-                    light ring of one module
+        logo        a PNG or SVG file, as its bytes, by its path or open, which becomes a part of the document, in the place of the logo
+                    for which the symbol was encoded, within a light ring of one module
 
         Raises as document does, and raises SettingsError for colours with a contrast under 3 (WCAG 2.1), and for an order of them that
         `inverse` does not say. Warns by PrintWarning of what scanners may not read."""

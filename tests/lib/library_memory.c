@@ -2,7 +2,7 @@
  *
  * WHAT is `enough` or `least`. Both make symbols of some versions in all levels, rules and interpretations, of the longest inputs of
  * many kinds that fit. Standard input has symbols with as many ECI headers as fit, each as its side and its modules. All are read and
- * mended, drawn in each type, written in each format of documents, and parsed, and series are made. Some are found in pictures.
+ * mended, drawn under another mask and in each type, written in each format of documents, and parsed, and series are made. Some are found in pictures.
  *
  * `enough` makes each call with exactly as much memory as its macro says, at an odd address, and looks for the least memory with which
  * it succeeds. The macro has to be above that by a tenth. With less, down to none, the call has to return MEMORY and to change nothing
@@ -14,15 +14,15 @@
 #include <string.h>
 
 enum { MARK = 7, MEMORY_MAX = 16000000, TEXT_MAX = 8000000, LEVELS = 4, RULES = 3, DRAWINGS = 4, VERSIONS = 40, KINDS = 12, SHORTER = 12, PIXELS_MAX = 400 };
-enum call { ENCODE, BITS, LOGO, SERIES, READ, MEND, DRAW, DOCUMENT, COLOURED, SHEETS, PARSE, FIND, CALLS };
+enum call { ENCODE, BITS, LOGO, SERIES, MASK, READ, MEND, DRAW, DOCUMENT, COLOURED, SHEETS, PARSE, FIND, CALLS };
 
-static const char *const NAMES[CALLS] = {"encode", "encode_bits", "encode_logo", "encode_series", "read", "mend", "draw", "document", "pdf", "sheets", "parse_drawing", "find"};
+static const char *const NAMES[CALLS] = {"encode", "encode_bits", "encode_logo", "encode_series", "set_mask", "read", "mend", "draw", "document", "pdf", "sheets", "parse_drawing", "find"};
 static const uint32_t INTERPRETATIONS[] = {QRPROVED_INTERPRETATION_DEFAULT, 999999, QRPROVED_INTERPRETATION_GS1};
 
 /* Paper with one label on each sheet. */
 static const struct qrproved_sheet PAPER = {100000, 100000, 0, 0, 0, 0, 1, 1, 0};
 
-static uint8_t memory[MEMORY_MAX + 1], input[QRPROVED_BYTES_MAX * 17], modules[QRPROVED_SERIES_MAX], damaged[QRPROVED_SYMBOL_MAX];
+static uint8_t memory[MEMORY_MAX + 1], input[QRPROVED_BYTES_MAX * 17], modules[QRPROVED_SERIES_MAX], damaged[QRPROVED_SYMBOL_MAX], masked[QRPROVED_SYMBOL_MAX];
 static uint8_t out[TEXT_MAX], text[TEXT_MAX], kept[TEXT_MAX], pixels[PIXELS_MAX * PIXELS_MAX];
 static size_t input_len, text_len, most[CALLS][VERSIONS + 1];
 static uint32_t version, level, rule, interpretation, side, count, drawing, width, version_for_logo;
@@ -47,6 +47,16 @@ static union {
 	uint8_t bytes[64];
 } told, kept_told;
 
+/* The call writes to the buffer that it reads, so `out` becomes what that buffer has if it has changed. */
+static uint8_t mask_with(uint8_t *place, size_t len, size_t area)
+{
+	memcpy(masked, modules, area);
+	uint8_t status = qrproved_set_mask_in(place, len, masked, area, side, QRPROVED_MASK_MAX);
+	if (memcmp(masked, modules, area))
+		memcpy(out, masked, area);
+	return status;
+}
+
 static uint8_t call_with(enum call call, uint8_t *place, size_t len)
 {
 	size_t area = (size_t)side * side;
@@ -60,6 +70,8 @@ static uint8_t call_with(enum call call, uint8_t *place, size_t len)
 		                               &told.logo.largest);
 	case SERIES:
 		return qrproved_encode_series_in(place, len, input, input_len, version, level, rule, interpretation, out, QRPROVED_SERIES_MAX, &told.series);
+	case MASK:
+		return mask_with(place, len, area);
 	case READ:
 		return qrproved_read_in(place, len, modules, area, side, out, QRPROVED_BYTES_MAX, NULL, 0, &told.content);
 	case MEND:
@@ -82,8 +94,8 @@ static uint8_t call_with(enum call call, uint8_t *place, size_t len)
 /* The bytes of `out` that a call may write. */
 static size_t room_of(enum call call)
 {
-	const size_t rooms[CALLS] = {QRPROVED_SYMBOL_MAX, QRPROVED_BITS(177), QRPROVED_SYMBOL_MAX, QRPROVED_SERIES_MAX, QRPROVED_BYTES_MAX, QRPROVED_BYTES_MAX, TEXT_MAX, TEXT_MAX,
-				     TEXT_MAX, TEXT_MAX, QRPROVED_SERIES_MAX, QRPROVED_SYMBOL_MAX};
+	const size_t rooms[CALLS] = {QRPROVED_SYMBOL_MAX, QRPROVED_BITS(177), QRPROVED_SYMBOL_MAX, QRPROVED_SERIES_MAX, QRPROVED_SYMBOL_MAX, QRPROVED_BYTES_MAX, QRPROVED_BYTES_MAX,
+				     TEXT_MAX, TEXT_MAX, TEXT_MAX, TEXT_MAX, QRPROVED_SERIES_MAX, QRPROVED_SYMBOL_MAX};
 	return rooms[call];
 }
 
@@ -97,6 +109,8 @@ static size_t enough_for(enum call call)
 		return QRPROVED_ENCODE_LOGO_MEMORY(version_for_logo);
 	case SERIES:
 		return QRPROVED_ENCODE_SERIES_MEMORY(version, count);
+	case MASK:
+		return QRPROVED_SET_MASK_MEMORY(version);
 	case READ:
 		return QRPROVED_READ_MEMORY(version);
 	case MEND:
@@ -212,10 +226,11 @@ static int find_longest(void)
 	return fits > 0 && call_with(ENCODE, memory, MEMORY_MAX) == QRPROVED_DONE && told.symbol.version == version;
 }
 
-/* Reads the modules, and mends them with some of them inverted. */
+/* Draws the symbol under another mask, reads its modules, and mends them with some of them inverted. */
 static void read_and_mend(void)
 {
 	size_t area = (size_t)side * side;
+	try_call(MASK);
 	try_call(READ);
 	memcpy(damaged, modules, area);
 	for (size_t k = 0; k < 1 + version / 2; k++)
