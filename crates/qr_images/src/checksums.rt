@@ -4,12 +4,13 @@
 //! CRC-32 is the remainder of a division of polynomials. The eight steps for a byte are linear, so a table has what
 //! they make of each byte. Adler-32 has two sums: `low` is the sum of the bytes, and `high` the sum of all values of
 //! `low`. Both are remainders of a division by 65,521. What a line and its copies add to them follows from the line's
-//! own two sums, so all of them cost one step, and not one step a byte.
+//! own two sums, so all of them cost one step, and not one step a byte. The sums are numbers of 64 bits, and most images
+//! are too small to fill them, so that they are divided once, at the end.
 
-ghost use Rattle.std.specs.Prelude.{◌≡◌, ◌<◌, ◌≤◌, ◌^◌, ◌*◌, ◌+◌, ◌-◌, ◌∷◌, [], ℕ, List};
+ghost use Rattle.std.specs.Prelude.{◌≡◌, ◌<◌, ◌≤◌, ◌^◌, ◌*◌, ◌+◌, ◌-◌, ◌%◌, ◌∷◌, [], ℕ, List};
 ghost use Rattle.qr_images.specs.Image.{repeated};
 ghost use Rattle.qr_images.specs.Steps.Checksums.{AddsUp, IsSummed};
-ghost use Rattle.qr_images.specs.declared.checksums.TheConstants.{LINE_MAX};
+ghost use Rattle.qr_images.specs.declared.checksums.TheConstants.{HIGH_LIMIT, LINE_MAX, LOW_LIMIT};
 ghost use Rattle.qr_images.specs.Checksums.{crc_from, crc_byte};
 
 // What eight steps make of a byte. The index is the byte.
@@ -69,13 +70,18 @@ pub(crate) fn crc_after(crc: u32, bytes: &[u8]) -> u32
 /// The greatest number of bytes of a line: 37,700 pixels, and the byte before them.
 pub(crate) const LINE_MAX: usize = 4714;
 
-/// The two sums of Adler-32.
+// Limits of the two sums, 2^34 and 2^62: what is added to smaller ones fits 64 bits.
+const LOW_LIMIT: u64 = 0x4_0000_0000;
+
+const HIGH_LIMIT: u64 = 0x4000_0000_0000_0000;
+
+/// The two sums of Adler-32, of which only the remainders of a division by 65,521 count.
 #[derive(Clone, Copy)]
 pub(crate) struct Sums {
-    pub(crate) low: u32,
-    pub(crate) high: u32,
-    ghost low_in: { low < 65521 },
-    ghost high_in: { high < 65521 },
+    low: u64,
+    high: u64,
+    ghost low_in: { low < LOW_LIMIT },
+    ghost high_in: { high < HIGH_LIMIT },
 }
 
 /// Of the bytes of a line: how many they are, their sum, and the sum of the sums of the first byte, of the first two,
@@ -122,6 +128,15 @@ pub(crate) fn first_byte() -> LineSums
     }
 }
 
+// Returns a number below the limit with the remainder of `sum`.
+fn below(limit: u64, sum: u64) -> u64
+    requires { 65521 ≤ limit }
+    ensures less { result < limit }
+    ensures same { result % 65521 ≡ sum % 65521 }
+{
+    if sum < limit { sum } else { sum % 65521 }
+}
+
 /// Returns the sums after a line with the sums `line`, which comes `times` times.
 pub(crate) fn sums_after(sums: Sums, line: LineSums, times: u32) -> Sums
     requires some { 1 ≤ times }
@@ -129,16 +144,22 @@ pub(crate) fn sums_after(sums: Sums, line: LineSums, times: u32) -> Sums
     ensures { (bytes : List ℕ) → IsSummed bytes line.len line.sum line.sums
         → AddsUp sums.low sums.high result.low result.high (repeated times bytes) }
 {
-    let low = u64::from(sums.low);
     let len = u64::from(line.len);
     let sum = u64::from(line.sum);
     let times = u64::from(times);
     // All these lines are one list of bytes. In it, each line has the bytes of those before it in front of its own.
     let all = times * line.sums + len * sum * (times * (times - 1) / 2);
     Sums {
-        low: ((low + times * sum) % 65521) as u32,
-        high: ((u64::from(sums.high) + times * len * low + all) % 65521) as u32,
+        low: below(LOW_LIMIT, sums.low + times * sum),
+        high: below(HIGH_LIMIT, sums.high + times * len * sums.low + all),
     }
+}
+
+/// Returns Adler-32 of the bytes with these sums.
+pub(crate) fn adler_of(sums: Sums) -> u32
+    ensures { result ≡ sums.high % 65521 * 65536 + sums.low % 65521 }
+{
+    (sums.high % 65521 * 65536 + sums.low % 65521) as u32
 }
 
 /// Returns the sums of the line with one byte more.
@@ -178,9 +199,9 @@ pub(crate) fn white_sums(len: u32) -> LineSums
     requires short { len ≤ LINE_MAX }
     ensures { IsSummed (0 ∷ repeated (len - 1) (255 ∷ [])) result.len result.sum result.sums }
 {
-    let mut line = first_byte();
-    for done in 1..len {
-        line = with_byte(line, 255);
+    LineSums {
+        len,
+        sum: 255 * (len - 1),
+        sums: 255 * (u64::from(len) * u64::from(len - 1) / 2),
     }
-    line
 }
