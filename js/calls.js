@@ -143,7 +143,7 @@ export function foundIn(grey, width, height, unread) {
 export function printed(modules, side, count, kind, margin, micrometres) {
   return run(() => {
     const given = [BigInt(put(modules)), BigInt(modules.length), side, count, DOCUMENTS[kind], margin, micrometres];
-    return copied(...written(MODULE_LIKELY * modules.length, (...buffer) => call('qrproved_document', ...given, ...buffer)));
+    return written('qrproved_document', given, MODULE_LIKELY * modules.length).slice();
   });
 }
 
@@ -151,7 +151,7 @@ export function printed(modules, side, count, kind, margin, micrometres) {
 export function colouredPdf(modules, side, count, margin, micrometres, dark, light) {
   return run(() => {
     const given = [BigInt(put(modules)), BigInt(modules.length), side, count, margin, micrometres, dark, light];
-    return copied(...written(MODULE_LIKELY * modules.length, (...buffer) => call('qrproved_pdf', ...given, ...buffer)));
+    return written('qrproved_pdf', given, MODULE_LIKELY * modules.length).slice();
   });
 }
 
@@ -161,7 +161,7 @@ export function sheetsBy(modules, side, count, margin, micrometres, sheet) {
     const paper = take(SHEET_FIELDS.length * 4), at = struct(paper, SHEET_FIELDS.length * 4);
     SHEET_FIELDS.forEach((name, k) => at.setUint32(4 * k, sheet[name], true));
     const given = [BigInt(put(modules)), BigInt(modules.length), side, count, margin, micrometres, BigInt(paper)];
-    return copied(...written(MODULE_LIKELY * modules.length, (...buffer) => call('qrproved_sheets', ...given, ...buffer)));
+    return written('qrproved_sheets', given, MODULE_LIKELY * modules.length).slice();
   });
 }
 
@@ -176,7 +176,7 @@ function imageLikely(modules, side, format, scale, margin) {
 export function colouredPng(modules, side, scale, margin, pixelsAMetre, dark, light) {
   return run(() => {
     const given = [BigInt(put(modules)), BigInt(modules.length), side, scale, margin, pixelsAMetre, dark, light];
-    return copied(...written(imageLikely(modules, side, 'png', scale, margin), (...buffer) => call('qrproved_png', ...given, ...buffer)));
+    return written('qrproved_png', given, imageLikely(modules, side, 'png', scale, margin)).slice();
   });
 }
 
@@ -184,7 +184,6 @@ export function colouredPng(modules, side, scale, margin, pixelsAMetre, dark, li
 export function imageOf(modules, side, format, scale, margin, pixelsAMetre, left, top) {
   return run(() => {
     const given = [BigInt(put(modules)), BigInt(modules.length), side, FORMATS[format], scale, margin, pixelsAMetre, left, top];
-    const likely = imageLikely(modules, side, format, scale, margin);
-    return copied(...written(likely, (...buffer) => call('qrproved_image', ...given, ...buffer)));
+    return written('qrproved_image', given, imageLikely(modules, side, format, scale, margin)).slice();
   });
 }

@@ -79,17 +79,20 @@ export function engineOf(code) {
     }
   }
 
-  /** Calls `write` with a buffer, and once more if it says that it needs a longer one; returns the address of the text and its length. */
-  function written(likely, write) {
-    const told = take(8), length = () => Number(struct(told, 8).getBigUint64(0, true));
-    let room = likely, text = take(room), status = write(BigInt(text), BigInt(room), BigInt(told));
+  /**
+   * Calls a function with what is given and with a buffer, and once more if it says that it needs a longer one. Returns what it wrote, in its
+   * memory.
+   */
+  function written(name, given, likely) {
+    const told = take(8 + likely), length = () => struct(told, 8).getUint32(0, true); // no length has more than 32 bits
+    let room = likely, text = told + 8, status = call(name, ...given, BigInt(text), BigInt(room), BigInt(told));
     if (nameOf(status) === 'ROOM') {
       room = length();
       text = take(room);
-      status = write(BigInt(text), BigInt(room), BigInt(told));
+      status = call(name, ...given, BigInt(text), BigInt(room), BigInt(told));
     }
     throwFor(status);
-    return [text, length()];
+    return bytesAt(text, length());
   }
 
   /** Asks how many characters of a mode fit a symbol of version 40; returns the status and the number. */
@@ -136,7 +139,7 @@ export function engineOf(code) {
   function drawn(modules, side, count, drawing, margin) {
     return run(() => {
       const given = [BigInt(put(modules)), BigInt(modules.length), side, count, drawing, margin];
-      return UTF8.decode(bytesAt(...written(MODULE_LIKELY * modules.length, (...buffer) => call('qrproved_draw', ...given, ...buffer))));
+      return UTF8.decode(written('qrproved_draw', given, MODULE_LIKELY * modules.length));
     });
   }
 

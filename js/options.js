@@ -34,7 +34,7 @@ const warned = new Set(); // each is said once
 
 /** Warns of what scanners may not read: a margin, and the width of a module in millimetres. */
 export function warn(quiet, margin, module) {
-  if (quiet) return;
+  if (quiet || (margin >= MARGIN_WANTED && module >= MODULE_MIN)) return;
   const faults = [
     ...(margin < MARGIN_WANTED ? [`a margin of ${margin} ${margin === 1 ? 'module' : 'modules'}: scanners need ${MARGIN_WANTED}`] : []),
     ...(module < MODULE_MIN ? [`modules of ${module.toPrecision(3)} mm: under ${MODULE_MIN} mm few scanners read them`] : []),

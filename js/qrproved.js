@@ -84,9 +84,9 @@ export class QRSymbol extends PlainSymbol {
   }
 
   png(options = {}) {
-    const { margin, quiet, dark, light, inverse, ...sizes } = chosen(options, OF_PNG), colours = { dark, light, inverse };
+    const asked = chosen(options, OF_PNG), { margin, quiet } = asked;
     const modules = this.side + 2 * whole('margin', margin, 0, LIMITS.MARGIN_MAX);
-    const { scale = PIXELS, mm, dpi } = fitted(this, sizes, margin), pixels = modules * whole('scale', scale, 1, LIMITS.SCALE_MAX);
+    const { scale = PIXELS, mm, dpi } = fitted(this, asked, margin), pixels = modules * whole('scale', scale, 1, LIMITS.SCALE_MAX);
     if (mm !== undefined && dpi !== undefined) {
       throw new TypeError('mm and dpi both say how large the image is: one of them is given, or fitMm and dpi for a printer');
     }
@@ -96,7 +96,7 @@ export class QRSymbol extends PlainSymbol {
       throw new SettingsError(`${pixels} pixels cannot be ${Number(size.toPrecision(3))} mm wide in a PNG image`);
     }
     warn(quiet, margin, (size ?? Infinity) / modules);
-    const shown = drawnModules(this), numbers = numbersAsked(colours);
+    const shown = drawnModules(this), numbers = numbersAsked(asked);
     return numbers === null ? imageOf(shown, this.side, 'png', scale, margin, Math.round(density), 0, 0)
       : colouredPng(shown, this.side, scale, margin, Math.round(density), ...numbers);
   }
