@@ -8,7 +8,7 @@ use Rattle.qr_drawing.specs.declared.drawing.Drawing.{Drawing}
 use Rattle.qr_parsing.specs.Parsing.{IsDrawingOf}
 use Rattle.qrencode_cli.specs.Command.{DrawnWhole, HasSettingsWith, RunsTo, held, input_for}
 use Rattle.qrencode_cli.specs.Input.{IsInputOf}
-use Rattle.qrencode_cli.specs.Settings.{SettingsView}
+use Rattle.qrencode_settings.specs.Settings.{SettingsView}
 use Rattle.qrencode_cli.specs.Symbols.{AreSymbols}
 
 -- `drawing` is a drawing of the squares that the settings ask for. It is the drawing of no other type, margin or list

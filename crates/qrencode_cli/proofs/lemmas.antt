@@ -1,5 +1,3 @@
 -- Lemmas, in files and folders with the name of the file of src that they serve, in the order in which to read them.
-pub mod arguments
-pub mod settings
 pub mod command
 pub mod laws

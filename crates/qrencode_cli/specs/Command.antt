@@ -16,11 +16,11 @@ use Rattle.qr_devices.specs.Device.{AppendsBeginning, IsWrittenWithin, Reader, W
 use Rattle.qr_drawing.specs.Drawing.{drawn}
 use Rattle.qrencode_cli.specs.Fault.{fault_line}
 use Rattle.qrencode_cli.specs.Input.{IsInputOf, IsReadWithin}
-use Rattle.qrencode_cli.specs.Settings.{IsUsageFault, SettingsView, rule_for, settings_for}
-use Rattle.qrencode_cli.specs.Symbols.{AreSymbols, IsTooLong, IsTooMany}
+use Rattle.qrencode_settings.specs.Settings.{IsUsageFault, SettingsView, settings_for}
+use Rattle.qrencode_cli.specs.Symbols.{AreSymbols, IsTooLong, IsTooMany, rule_for}
 use Rattle.qrencode_cli.specs.declared.fault.Fault.{Fault}
 use Rattle.qrencode_cli.specs.declared.fault.Fault.TheVariants as fault
-use Rattle.qrencode_cli.specs.declared.settings.UsageFault.TheVariants as usage
+use Rattle.qrencode_settings.specs.declared.settings.UsageFault.TheVariants as usage
 use Rattle.qr_symbol.specs.declared.fault.EncodeFault.TheVariants as encode
 
 -- The input of a run. If there is a string among the arguments, it is this string, or the first `INPUT_MAX` bytes of a

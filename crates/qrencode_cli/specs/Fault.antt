@@ -4,7 +4,7 @@ use Rattle.std.specs.String.{string_bytes}
 use Rattle.qr_symbol.specs.declared.fault.EncodeFault.TheVariants as encode
 use Rattle.qrencode_cli.specs.declared.fault.Fault.{Fault}
 use Rattle.qrencode_cli.specs.declared.fault.Fault.TheVariants as fault
-use Rattle.qrencode_cli.specs.declared.settings.UsageFault.TheVariants as usage
+use Rattle.qrencode_settings.specs.declared.settings.UsageFault.TheVariants as usage
 
 -- What is written to standard error for this fault. It is one line, except if `clap` refuses the arguments: then it is
 -- the text of `clap`, which may have several lines [own]

@@ -1,12 +1,19 @@
--- Which symbols the settings `s` ask for. A symbol is given by its square of modules.
-use Rattle.std.specs.Prelude.{◌≡◌, ◌⊎◌, ℕ, true, false, List, [], ◌∷◌, unwrap_or}
+-- Which symbols the settings `s` ask for, and under which rule of modes. A symbol is given by its square of modules.
+use Rattle.std.specs.Prelude.{◌≡◌, ◌⊎◌, ℕ, true, false, List, [], ◌∷◌, unwrap_or, if◌then◌else◌}
 use Rattle.qr_symbol.specs.declared.symbol.Symbol.{Symbol}
 use Rattle.qr_bits.specs.declared.interpretation.Interpretation.TheVariants.{Default}
+use Rattle.qr_bits.specs.declared.modes.Rule.{Rule}
+use Rattle.qr_bits.specs.declared.modes.Rule.TheVariants.{Auto, BytesOnly, WithKanji}
 use Rattle.qr_matrix.specs.Grid.{Grid}
 use Rattle.qr_symbol.specs.Encoding.{IsSymbol}
 use Rattle.qr_symbol.specs.VersionChoice.{HasNoVersion}
 use Rattle.qr_symbol.specs.Series.{HasNoSeries, IsSeries, squares_of}
-use Rattle.qrencode_cli.specs.Settings.{SettingsView, rule_for}
+use Rattle.qrencode_settings.specs.Settings.{SettingsView}
+
+-- The rule that the settings determine. With -8 it allows byte mode alone. Without -8 it allows all modes if -k is
+-- given, and otherwise all modes but kanji mode [own]
+abbrev pub rule_for : SettingsView → Rule
+rule_for s = if s.bytes_only then BytesOnly else (if s.kanji then WithKanji else Auto)
 
 -- The smallest version that the symbol of an input may have. In a series all symbols have this version. It is the one
 -- that -v gives, or 1 if -v is 0 or not given [own]

@@ -11,12 +11,12 @@ ghost use Rattle.qrencode_cli.specs.Steps.Command.{Attempts, HasRead, IsJobFor, 
 
 use crate::drawing_job::DrawingJob;
 use crate::fault::Fault;
-use crate::settings::{Settings, options};
 use qr_bits::{INPUT_MAX, Interpretation, Rule, fold};
 use qr_devices::{INTERRUPTIONS_MAX, Sink, Source, Trouble};
 use qr_drawing::{draw, write_text};
 use qr_layout::Version;
 use qr_symbol::{encode, encode_series};
+use qrencode_settings::{Settings, options};
 use std::alloc::Global;
 use std::borrow::CowSlice;
 

@@ -3,9 +3,9 @@
 ghost use Rattle.std.specs.Prelude.{◌≡◌};
 ghost use Rattle.qrencode_cli.specs.Fault.{fault_line};
 
-use crate::settings::UsageFault;
 use qr_drawing::DrawFault;
 use qr_symbol::EncodeFault;
+use qrencode_settings::UsageFault;
 use std::alloc::{AllocError, AllocFailed};
 
 /// Why a run failed. Lack of memory is always the variant `Memory`: the conversions turn `UsageFault::Memory` and

@@ -1,17 +1,11 @@
 //! Laws of the command. A function here does nothing: its contract is the law. The theorems that the README claims are
-//! in `qr_theorems`. The laws here compute examples and refuse wrong definitions.
+//! in `qr_theorems`, and the laws of the arguments alone in `qrencode_settings`. The laws here compute examples and refuse wrong definitions.
 
 ghost use Rattle.std.specs.Prelude.{◌≡◌};
 ghost use Rattle.qr_bits.specs.declared.modes.TheConstants.{INPUT_MAX};
 ghost use Rattle.qr_devices.specs.declared.device.TheConstants.{INTERRUPTIONS_MAX};
 ghost use Rattle.qr_devices.specs.declared.pen.TheConstants.{WRITE_MAX};
-ghost use Rattle.qrencode_cli.specs.Laws.{AnswersAreOne, FoldingFollowsTheRule, LinesOfFaults, NumbersOfUsageFaults, RefusalsAreOne, RefusalsExcludeDrawings, CommandLines, RulesOfModes, StatusesAreTwo};
-
-/// `CommandLines` has 45 lists of arguments. It says for each list which settings its arguments mean, or why they are
-/// refused.
-pub fn command_lines()
-    ensures { CommandLines }
-{}
+ghost use Rattle.qrencode_cli.specs.Laws.{AnswersAreOne, FoldingFollowsTheRule, LinesOfFaults, RefusalsAreOne, RefusalsExcludeDrawings, RulesOfModes, StatusesAreTwo};
 
 /// These are the values of three limits that the contract of `run` uses: the most bytes of input that are read
 /// (`INPUT_MAX`), the most bytes that one write of the drawing offers (`WRITE_MAX`), and the most interrupted calls of
@@ -52,9 +46,4 @@ pub fn statuses_are_two()
 /// refusal is the text of `clap`.
 pub fn lines_of_faults()
     ensures { LinesOfFaults }
-{}
-
-/// `UsageFault::number` returns the numbers that `NumbersOfUsageFaults` lists.
-pub fn numbers_of_usage_faults()
-    ensures { NumbersOfUsageFaults }
 {}

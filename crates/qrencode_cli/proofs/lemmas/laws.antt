@@ -5,17 +5,18 @@ use Rattle.qr_bits.{proofs.Facts.empty-fits, specs.declared.interpretation.Inter
 use Rattle.qr_devices.specs.Device.{Reader, Writer}
 use Rattle.{qr_drawing.specs.declared.drawing.Drawing.Drawing, qr_layout.specs.declared.level.Level.Level, qr_matrix.specs.Grid.Grid}
 use Rattle.qr_symbol.{proofs.Facts.{series-one, symbol-one}, specs.VersionChoice.FitsVersion}
-use Rattle.qrencode_cli.specs.{Arguments.{faults_for, rows_for}, Command.{DrawnWhole, HasDrawing, HasRefusal, IsDrawing, IsRefusal, Runs, RunsTo, held, input_for}}
+use Rattle.qrencode_cli.specs.{Command.{DrawnWhole, HasDrawing, HasRefusal, IsDrawing, IsRefusal, Runs, RunsTo, held, input_for}}
 use Rattle.qrencode_cli.specs.{Input.IsInputOf, Laws.{AnswersAreOne, RefusalsAreOne, RefusalsExcludeDrawings}}
-use Rattle.qrencode_cli.specs.Settings.{Reason, SettingsView, checked_series, drawing_named, level_named, needs_version, refused_by_clap, rule_for, settings_for, settings_of, settings_with, unknown_level, unknown_type}
-use Rattle.qrencode_cli.specs.{Symbols.{AreSymbols, IsTooLong, IsTooMany, smallest_of}, declared.{fault.Fault.Fault, settings.UsageFault.UsageFault}}
+use Rattle.qrencode_cli.specs.{Symbols.{AreSymbols, IsTooLong, IsTooMany, rule_for, smallest_of}, declared.fault.Fault.Fault}
+use Rattle.qrencode_settings.specs.{Arguments.{faults_for, rows_for}, declared.settings.UsageFault.UsageFault}
+use Rattle.qrencode_settings.specs.Settings.{Reason, SettingsView, checked_series, drawing_named, level_named, needs_version, refused_by_clap, settings_for, settings_of, settings_with, unknown_level, unknown_type}
 use Rattle.std.proofs.Common.{◌≡◌, ◌<◌, ◌≤◌, ◌==◌, inl, inr, ℕ, suc, Bool, true, false, cond, List, [], length, Option, Some, codes, Result, Ok, Err, refl, sym, subst, arith}
 use Rattle.std.specs.{Option.option_map_or, Prelude.option_and_then}
 use borrow.Author.Tests.{leb-true}
 use Rattle.qr_layout.specs.declared.level.Level.TheVariants as level
 use Rattle.qr_symbol.specs.declared.fault.EncodeFault.TheVariants as encode
 use Rattle.qrencode_cli.specs.declared.fault.Fault.TheVariants as fault
-use Rattle.qrencode_cli.specs.declared.settings.UsageFault.TheVariants as usage
+use Rattle.qrencode_settings.specs.declared.settings.UsageFault.TheVariants as usage
 
 -- a command line has at most one list of settings
 settings-one : (words : List Text) (s t : SettingsView) → settings_for words ≡ Ok s → settings_for words ≡ Ok t → s ≡ t

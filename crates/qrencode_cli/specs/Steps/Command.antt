@@ -13,7 +13,7 @@ use Rattle.qr_symbol.specs.Series.{squares_of}
 use Rattle.qr_drawing.specs.Drawing.{HaveOneSide, drawn}
 use Rattle.qr_devices.specs.declared.pen.TheConstants.{WRITE_MAX}
 use Rattle.qrencode_cli.specs.Input.{IsInputOf, IsReadWithin}
-use Rattle.qrencode_cli.specs.Settings.{SettingsView}
+use Rattle.qrencode_settings.specs.Settings.{SettingsView}
 use Rattle.qrencode_cli.specs.Symbols.{AreSymbols, IsTooLong, IsTooMany}
 use Rattle.qrencode_cli.specs.declared.fault.Fault.{Fault}
 use Rattle.qrencode_cli.specs.declared.fault.Fault.TheVariants.{Encode, Memory, Read, Write}

@@ -4,8 +4,8 @@ use Rattle.qr_symbol.specs.declared.fault.EncodeFault.{EncodeFault}
 use Rattle.qr_symbol.specs.declared.fault.EncodeFault.TheVariants as encode
 use Rattle.qrencode_cli.specs.declared.fault.Fault.{Fault}
 use Rattle.qrencode_cli.specs.declared.fault.Fault.TheVariants as fault
-use Rattle.qrencode_cli.specs.declared.settings.UsageFault.{UsageFault}
-use Rattle.qrencode_cli.specs.declared.settings.UsageFault.TheVariants as usage
+use Rattle.qrencode_settings.specs.declared.settings.UsageFault.{UsageFault}
+use Rattle.qrencode_settings.specs.declared.settings.UsageFault.TheVariants as usage
 
 -- The `Fault` of a run that finds the given `UsageFault` in its arguments
 abbrev pub fault_of_words : UsageFault → Fault

@@ -3,8 +3,8 @@ use Rattle.clap.specs.{Walk.Text, Words.one_of}
 use Rattle.{qr_bits.specs.declared.interpretation.Interpretation.TheVariants.Default}
 use Rattle.{qr_drawing.specs.{Drawing.drawn}, qr_matrix.specs.Grid.Grid}
 use Rattle.qr_parsing.{proofs.Facts.{one-drawing, series-drawing, symbol-drawing}, specs.Parsing.IsDrawingOf}
-use Rattle.qrencode_cli.{proofs.Facts.{smallest-most, success-drawn, taken-have}, specs.{Arguments.{faults_for, rows_for}, Symbols.{AreSymbols, smallest_of}}}
-use Rattle.qrencode_cli.specs.{Command.{HasDrawing, HasSettingsWith, IsDrawing, held, input_for}, Settings.{SettingsView, number_or, rule_for, settings_for}}
+use Rattle.qrencode_cli.{proofs.Facts.{smallest-most, success-drawn, taken-have}, specs.{Command.{HasDrawing, HasSettingsWith, IsDrawing, held, input_for}, Symbols.{AreSymbols, rule_for, smallest_of}}}
+use Rattle.qrencode_settings.specs.{Arguments.{faults_for, rows_for}, Settings.{SettingsView, number_or, settings_for}}
 use Rattle.qr_theorems.specs.Laws.{OutputsReadBack, ShowsInput}
 use Rattle.std.proofs.Common.{◌≡◌, ◌≤◌, ◌==◌, inl, inr, ℕ, List, length, Option, Ok, codes, sym, subst, arith}
 use Rattle.std.proofs.lemmas.Bool.Decides.{nat_tests}

@@ -1,7 +1,7 @@
 use Rattle.qr_bits.specs.declared.interpretation.Interpretation.TheVariants.{Default}
 use Rattle.std.{proofs.{Common.{◌≡◌, ◌∙◌, List, ℕ, ap, subst, sym, arith, rules, Err, Ok}, lemmas.Result.err_from_is_err_and}, specs.Cow.cow_slice_items}
 use Rattle.qr_symbol.specs.{declared.fault.EncodeFault.{EncodeFault, TheVariants.Empty}, VersionChoice.HasNoVersion}
-use Rattle.qrencode_cli.specs.{Command.held, Settings.SettingsView, Settings.rule_for, Symbols.smallest_of, Steps.Command.AreDrawnFor}
+use Rattle.{qrencode_cli.specs.{Command.held, Symbols.{rule_for, smallest_of}, Steps.Command.AreDrawnFor}, qrencode_settings.specs.Settings.SettingsView}
 use Rattle.qrencode_cli.proofs.lemmas.command.AskingLemmas.{drawn-for-one, drawn-for-series, told-one}
 use Rattle.qrencode_cli.proofs.command.job_of.Goals.{Joined-settings-3, Joined-settings-4, else-settings-4+in_ok-symbol+in_ok-symbols-2, then-settings-4+in_ok-symbols}
 use Rattle.qrencode_cli.proofs.command.job_of.Goals as goal

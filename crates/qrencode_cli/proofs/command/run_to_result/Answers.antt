@@ -1,5 +1,5 @@
 use Rattle.std.{proofs.{Common.{◌∙◌, Ok, ap, inl, inr, map, option_map, refl, sym}, lemmas.Result.err_from_is_err_and}, specs.String.string_bytes}
-use Rattle.qrencode_cli.{specs.{Settings.SettingsView, Steps.Command.Prepares}, proofs.lemmas.command.RunningLemmas.{draws-part, draws-unflushed, draws-whole}}
+use Rattle.{qrencode_cli.{specs.Steps.Command.Prepares, proofs.lemmas.command.RunningLemmas.{draws-part, draws-unflushed, draws-whole}}, qrencode_settings.specs.Settings.SettingsView}
 use Rattle.qrencode_cli.proofs.lemmas.command.AskingLemmas.{prepares-reader, prepares-string, prepares-unread, prepares-usage}
 use Rattle.qrencode_cli.proofs.command.run_to_result.{Given.Over, Goals.{Joined-settings, in-Some+in_ok-job-in-Some, in-None+in_ok-bytes-in-None+in_ok-job-in-None}}
 use Rattle.qrencode_cli.proofs.command.run_to_result.Goals as goal

@@ -9,12 +9,12 @@ use Rattle.qr_symbol.specs.declared.{fault.EncodeFault.EncodeFault, symbol.Symbo
 use Rattle.qr_symbol.specs.declared.fault.EncodeFault.TheVariants as encode
 use Rattle.qr_symbol.specs.{Joining.AreReadBy, Joining.IsJoined, Reading.IsReadBack, Series.IsSeries, Series.squares_of, Encoding.IsSymbol, VersionChoice.HasNoVersion}
 use Rattle.qr_symbol.proofs.Facts.{long-has-no-series, series-few, series-side, series-some, version-short}
-use Rattle.qrencode_cli.specs.{Command.{HasSettingsWith, ReadsInput, held, input_for}, Settings.{IsUsageFault, Reason, SettingsView, rule_for, settings_for}}
+use Rattle.{qrencode_cli.specs.Command.{HasSettingsWith, ReadsInput, held, input_for}, qrencode_settings.specs.Settings.{IsUsageFault, Reason, SettingsView, settings_for}}
 use Rattle.qrencode_cli.specs.Steps.Command.{AreDrawnFor, HasRead, IsInputFault, IsJobFor, IsJobGiven, Prepares, StopsReading}
-use Rattle.qrencode_cli.specs.{Symbols.smallest_of, declared.fault.Fault.Fault, Steps.Fault.{fault_of_input, fault_of_words}, Input.IsInputOf}
-use Rattle.qrencode_cli.specs.declared.{drawing_job.DrawingJob.DrawingJob, settings.UsageFault.UsageFault}
+use Rattle.qrencode_cli.specs.{Symbols.{rule_for, smallest_of}, declared.fault.Fault.Fault, Steps.Fault.{fault_of_input, fault_of_words}, Input.IsInputOf}
+use Rattle.{qrencode_cli.specs.declared.drawing_job.DrawingJob.DrawingJob, qrencode_settings.specs.declared.settings.UsageFault.UsageFault}
 use Rattle.qrencode_cli.specs.declared.fault.Fault.TheVariants as fault
-use Rattle.qrencode_cli.specs.declared.settings.UsageFault.TheVariants as usage
+use Rattle.qrencode_settings.specs.declared.settings.UsageFault.TheVariants as usage
 
 -- there is always an input that the reader may return
 any-input : (remaining : Option (List ℕ)) → (given : List ℕ) × IsInputOf remaining given

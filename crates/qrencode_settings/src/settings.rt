@@ -5,8 +5,8 @@ ghost use Rattle.qr_layout.specs.declared.level.Level.{Level};
 ghost use Rattle.std.specs.String.{string_bytes};
 ghost use Rattle.clap.specs.Words.{first_of, found_of, one_of};
 ghost use Rattle.clap.specs.Walk.{rows_of};
-ghost use Rattle.qrencode_cli.specs.Settings.{IsUsageFault, drawing_named, flag_at, level_named, needs_version, number_or, refused_by_clap, settings_for, settings_of, unknown_level, unknown_type};
-ghost use Rattle.qrencode_cli.specs.declared.settings.UsageFault.{UsageFault};
+ghost use Rattle.qrencode_settings.specs.Settings.{IsUsageFault, drawing_named, flag_at, level_named, needs_version, number_or, refused_by_clap, settings_for, settings_of, unknown_level, unknown_type};
+ghost use Rattle.qrencode_settings.specs.declared.settings.UsageFault.{UsageFault};
 ghost use Rattle.std.specs.Global.{Global};
 
 use crate::arguments::{
@@ -49,7 +49,7 @@ pub struct Settings {
 impl Model for Settings {
     ghost use Rattle.std.specs.Prelude.{option_map};
     ghost use Rattle.std.specs.String.{string_bytes};
-    ghost use Rattle.qrencode_cli.specs.Settings.{SettingsView};
+    ghost use Rattle.qrencode_settings.specs.Settings.{SettingsView};
 
     ghost Value = { SettingsView };
 
@@ -87,7 +87,7 @@ pub enum UsageFault {
 }
 
 impl UsageFault {
-    ghost use Rattle.qrencode_cli.specs.Settings.{usage_fault_number};
+    ghost use Rattle.qrencode_settings.specs.Settings.{usage_fault_number};
 
     /// Returns the number of this fault, from 1 to 5.
     ///
@@ -109,7 +109,7 @@ impl UsageFault {
 
 impl From<AllocError> for UsageFault {
     ghost use Rattle.std.specs.Prelude.{◌≡◌};
-    ghost use Rattle.qrencode_cli.specs.declared.settings.UsageFault.{UsageFault};
+    ghost use Rattle.qrencode_settings.specs.declared.settings.UsageFault.{UsageFault};
 
     ghost from_gives = { λ _ f. f ≡ UsageFault.Memory };
 

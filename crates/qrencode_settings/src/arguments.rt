@@ -5,8 +5,8 @@ ghost use Rattle.std.specs.String.{string_bytes};
 ghost use Rattle.clap.specs.Words.{found_of, kind_of};
 ghost use Rattle.clap.specs.Simple.{new_rule};
 ghost use Rattle.clap.specs.Walk.{rows_of, rule_of};
-ghost use Rattle.qrencode_cli.specs.Arguments.{faults_for, rows_for};
-ghost use Rattle.qrencode_cli.specs.Settings.{IsUsageFault, Reason, SettingsView, refused_by_clap, settings_for};
+ghost use Rattle.qrencode_settings.specs.Arguments.{faults_for, rows_for};
+ghost use Rattle.qrencode_settings.specs.Settings.{IsUsageFault, Reason, SettingsView, refused_by_clap, settings_for};
 ghost use Rattle.clap.specs.declared.error.kind.ErrorKind.TheVariants.{OutOfMemory};
 
 use crate::settings::UsageFault;

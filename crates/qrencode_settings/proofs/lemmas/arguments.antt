@@ -3,7 +3,7 @@ use Rattle.std.proofs.{Common.{arith, ◌≡◌, ◌==◌, cond, length, Bool, f
 use Rattle.clap.specs.{Words.{HasKind, Kinds, fault_of, found_of, is_simple_and_free, kind_of}, Walk.{Text, rows_of}, Simple.{App, HasMatchesOf, is_simple}}
 use Rattle.clap.specs.declared.{error.Error.Error, parser.matches.ArgMatches.ArgMatches}
 use Rattle.clap.specs.declared.error.kind.ErrorKind.TheVariants as kind
-use Rattle.qrencode_cli.specs.{Arguments.{command, faults_for, rows_for}, Settings.{refused_by_clap, settings_for, settings_of}}
+use Rattle.qrencode_settings.specs.{Arguments.{command, faults_for, rows_for}, Settings.{refused_by_clap, settings_for, settings_of}}
 
 pub is_simple-command : is_simple command ≡ true
 unfolding command

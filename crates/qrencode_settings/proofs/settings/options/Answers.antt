@@ -1,9 +1,9 @@
 use Rattle.std.proofs.Common.{◌≡◌, ◌≢◌, ◌↔◌, Result, Ok, Err, String, MatchResult, map, refl, rules}
 use Rattle.std.{proofs.lemmas.Result.err_from_is_err_and, specs.{Global.Global, String.string_bytes}}
-use Rattle.qrencode_cli.specs.Settings.{IsUsageFault, Reason, SettingsView, needs_version, refused_by_clap, settings_for, unknown_level, unknown_type}
-use Rattle.qrencode_cli.specs.declared.settings.UsageFault.{UsageFault}
-use Rattle.qrencode_cli.specs.declared.settings.UsageFault.TheVariants as usage
-use Rattle.qrencode_cli.proofs.settings.options.Goals as goal
+use Rattle.qrencode_settings.specs.Settings.{IsUsageFault, Reason, SettingsView, needs_version, refused_by_clap, settings_for, unknown_level, unknown_type}
+use Rattle.qrencode_settings.specs.declared.settings.UsageFault.{UsageFault}
+use Rattle.qrencode_settings.specs.declared.settings.UsageFault.TheVariants as usage
+use Rattle.qrencode_settings.proofs.settings.options.Goals as goal
 
 -- each fault comes exactly for its reason, unless memory is refused
 record ComeExactly (o : Result SettingsView Reason) (r : Result SettingsView UsageFault) : Type 0 where

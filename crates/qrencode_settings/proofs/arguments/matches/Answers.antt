@@ -1,8 +1,8 @@
 use Rattle.clap.specs.{Simple.{new_app, with_rule}, Walk.Rule, Words.{app_of, is_simple_and_free}, declared.builder.action.ArgAction.TheVariants.SetTrue}
-use Rattle.{clap.specs.declared.builder.value_parser.ValueParser.TheVariants.Signed, qrencode_cli.proofs.arguments.matches.Goals.After-try_get_matches_from}
-use Rattle.qrencode_cli.{proofs.lemmas.arguments.{faults-are, rows-are, is_free-command, kinds-not-empty, refused-words}, specs.Arguments.command}
+use Rattle.{clap.specs.declared.builder.value_parser.ValueParser.TheVariants.Signed, qrencode_settings.proofs.arguments.matches.Goals.After-try_get_matches_from}
+use Rattle.qrencode_settings.{proofs.lemmas.arguments.{faults-are, rows-are, is_free-command, kinds-not-empty, refused-words}, specs.Arguments.command}
 use Rattle.std.proofs.Common.{◌≡◌, true, Some, ℤ, pos, ap, ap₂, codes, sym, ◌∙◌}
-use Rattle.qrencode_cli.proofs.arguments.matches.Goals as goal
+use Rattle.qrencode_settings.proofs.arguments.matches.Goals as goal
 
 -- what `clap` is told of the command
 is-command : (c : After-try_get_matches_from) → app_of c.in_ok-command.command ≡ command

@@ -1,5 +1,5 @@
 -- The number that `try_get_one` returns is the number of the definition.
-use Rattle.{clap.{proofs.WalkLemmas.byte_read, specs.{Matches.TriesOne, Walk.Text}}, qrencode_cli.specs.Settings.number_or}
+use Rattle.{clap.{proofs.WalkLemmas.byte_read, specs.{Matches.TriesOne, Walk.Text}}, qrencode_settings.specs.Settings.number_or}
 use Rattle.std.{proofs.Common.{◌≡◌, ℕ, Option, None, Some, Result, Ok, Err, refl}, specs.Str.Parse.ParsesUnsigned}
 
 -- in this module, `gives` says which results there can be if a text is parsed as a number of one byte

@@ -6,15 +6,13 @@ use Rattle.std.specs.Option.{is_none, option_map_or}
 use Rattle.std.specs.Str.{bytes_eq, str_eq_ignore_ascii_case}
 use Rattle.clap.specs.Words.{first_of, one_of}
 use Rattle.clap.specs.Walk.{Row, Text, byte_or_zero}
-use Rattle.qr_bits.specs.declared.modes.Rule.{Rule}
-use Rattle.qr_bits.specs.declared.modes.Rule.TheVariants.{Auto, BytesOnly, WithKanji}
 use Rattle.qr_layout.specs.declared.level.Level.{Level}
 use Rattle.qr_layout.specs.declared.level.Level.TheVariants as level
-use Rattle.qrencode_cli.specs.Arguments.{faults_for, rows_for}
+use Rattle.qrencode_settings.specs.Arguments.{faults_for, rows_for}
 use Rattle.qr_drawing.specs.declared.drawing.Drawing.{Drawing}
 use Rattle.qr_drawing.specs.declared.drawing.Drawing.TheVariants as drawing
-use Rattle.qrencode_cli.specs.declared.settings.UsageFault.{UsageFault}
-use Rattle.qrencode_cli.specs.declared.settings.UsageFault.TheVariants as usage
+use Rattle.qrencode_settings.specs.declared.settings.UsageFault.{UsageFault}
+use Rattle.qrencode_settings.specs.declared.settings.UsageFault.TheVariants as usage
 
 -- The reasons to refuse arguments. The reason `refused_by_clap` does not say which text `clap` writes. Lack of memory
 -- is a fault, but no reason [own]
@@ -36,11 +34,6 @@ pub record SettingsView : Type 0 where
   pub fold : Bool
   pub structured : Bool
   pub string : Option Text
-
--- The rule that the settings determine. With -8 it allows byte mode alone. Without -8 it allows all modes if -k is
--- given, and otherwise all modes but kanji mode [own]
-abbrev pub rule_for : SettingsView → Rule
-rule_for s = if s.bytes_only then BytesOnly else (if s.kanji then WithKanji else Auto)
 
 -- The error correction level whose letter is the text `t`, or none if there is no such level [own]
 abbrev pub level_named : Text → Option Level

@@ -1,7 +1,7 @@
 use Rattle.clap.{proofs.WalkLemmas.one_text-rows, specs.Words.{found_of, one_text}}
-use Rattle.qrencode_cli.{proofs.lemmas.settings.{number-some, number-none, number-err}, specs.Settings.number_or}
+use Rattle.qrencode_settings.{proofs.lemmas.settings.{number-some, number-none, number-err}, specs.Settings.number_or}
 use Rattle.std.{proofs.Common.{rules, ◌∙◌, ap, Ok}, specs.Str.Parse.{ParsesUnsigned, ExplainsUnsignedError, HasUnsignedDigitsIfOk}}
-use Rattle.qrencode_cli.proofs.settings.number_in.Goals as goal
+use Rattle.qrencode_settings.proofs.settings.number_in.Goals as goal
 
 pub returns-in-Ok-Some : goal.returns-in-Ok-Some
 returns-in-Ok-Some c = number-some (λ bs r. ParsesUnsigned 8 10 bs r × ExplainsUnsignedError 10 bs r × HasUnsignedDigitsIfOk bs r) (λ t r g. g.0) c.args.otherwise

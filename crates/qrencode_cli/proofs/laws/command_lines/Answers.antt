@@ -1,6 +1,0 @@
-use Rattle.{clap.proofs.OnLiterals.clap_on_literals, qrencode_cli.specs.Arguments.{command, faults_for, rows_for}, std.proofs.Common.rules}
-use Rattle.qrencode_cli.proofs.laws.command_lines.Goals as goal
-
-pub returns : goal.returns
-unfolding clap_on_literals command faults_for rows_for
-returns c = search rules
