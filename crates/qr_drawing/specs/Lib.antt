@@ -2,12 +2,5 @@ pub mod Drawing
 pub mod Raster
 pub mod Text
 pub mod Svg
-pub mod Measures
-pub mod Boxes
-pub mod Colours
-pub mod Eps
-pub mod Pdf
-pub mod Sheets
-pub mod Document
 pub mod Laws
 pub mod Steps

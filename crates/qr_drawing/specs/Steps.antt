@@ -1,4 +1,3 @@
 -- What the code does step by step. Only private contracts use these definitions.
 pub mod Text
 pub mod Svg
-pub mod Document

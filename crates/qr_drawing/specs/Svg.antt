@@ -77,6 +77,10 @@ foreground margin squares = codes "<path fill=\"#000000\" d=\"" ++ stack_path ma
 unfoldable pub closing : List ℕ
 closing = codes "</svg>\n"
 
+-- The end of the line with the path, and the last line [own]
+unfoldable pub tail : List ℕ
+tail = codes "\"/>\n" ++ closing
+
 -- The SVG document of symbols of equal size, one below the other. It is as wide as one raster, and as high as all
 -- rasters together [own]
 unfoldable pub svg_document : ℕ → List Grid → List ℕ

@@ -66,16 +66,18 @@ impl Eights for Matrix {
     }
 }
 
-// A square, and the width of the light margin around it in modules.
+/// A square with a light margin around it.
 #[derive(Drop)]
-pub(crate) struct Raster<'a> {
-    pub(crate) matrix: &'a Matrix,
-    pub(crate) margin: u8,
+pub struct Raster<'a> {
+    /// The square.
+    pub matrix: &'a Matrix,
+    /// The width of the margin on each side in modules.
+    pub margin: u8,
 }
 
 impl Raster<'_> {
-    // The width of the raster in modules, which is also its height.
-    pub(crate) fn width(&self) -> u16
+    /// Returns the width of the square with its margin in modules, which is also its height.
+    pub fn width(&self) -> u16
         ensures value { result ≡ raster_width self.now.margin self.now.matrix.now }
         ensures most { result < 1000 }
     {

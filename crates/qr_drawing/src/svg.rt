@@ -6,8 +6,8 @@
 ghost use Rattle.std.specs.Prelude.{◌≡◌, ◌≤◌, ◌<◌, ◌+◌, ◌*◌, ◌++◌, ◌∷◌, [], ℕ, ◌/◌, ◌%◌, codes, decimal, length, map};
 ghost use Rattle.qr_drawing.specs.Drawing.{HaveOneSide};
 ghost use Rattle.qr_devices.specs.Pen.{Puts};
-ghost use Rattle.qr_drawing.specs.Steps.Svg.{head, tail, width_path};
-ghost use Rattle.qr_drawing.specs.Svg.{background, box_path, numbered, opening, row_path, stack_path, svg_document, symbol_path};
+ghost use Rattle.qr_drawing.specs.Steps.Svg.{head, width_path};
+ghost use Rattle.qr_drawing.specs.Svg.{background, box_path, numbered, opening, row_path, stack_path, svg_document, symbol_path, tail};
 
 use crate::drawing::Raster;
 use itoa::Buffer;
@@ -23,14 +23,16 @@ const BOX_MAX: usize = 32;
 // the path.
 const HEAD_MAX: usize = 300;
 
-// The number of bytes after the last box.
-pub(crate) const TAIL: usize = 11;
+/// The number of bytes after the last box.
+pub const TAIL: usize = 11;
 
 // `push_digit` and the three functions after it append numbers digit by digit, which takes fewer instructions than the
 // crate `itoa` does. They are used for the row of a box, and for its width if the box has ten modules or more. Smaller
 // widths come from the table `SHORT_RUNS`. For a column `push_column` takes the last two digits from the table
 // `TWO_DIGITS`, and computes the first of three digits, or the only one. `itoa` formats the numbers before the path.
-pub(crate) fn push_digit<const CAP: usize>(text: &mut Piece<CAP>, digit: u16)
+
+/// Appends a digit.
+pub fn push_digit<const CAP: usize>(text: &mut Piece<CAP>, digit: u16)
     requires digit { digit < 10 }
     requires room { length text.old < CAP }
     ensures items { text.new ≡ text.old ++ (48 + digit) ∷ [] }
@@ -69,8 +71,9 @@ fn push_three<const CAP: usize>(text: &mut Piece<CAP>, number: u16)
     }
 }
 
+/// Appends the decimal digits of a number.
 #[tactic(auto, using(crate::proofs::lemmas::svg::more_digits))]
-pub(crate) fn push_number<const CAP: usize>(text: &mut Piece<CAP>, number: u16)
+pub fn push_number<const CAP: usize>(text: &mut Piece<CAP>, number: u16)
     requires room { length text.old + 5 ≤ CAP }
     ensures items { text.new ≡ text.old ++ decimal number }
     ensures len { length text.new ≤ length text.old + 5 }
@@ -188,8 +191,9 @@ fn text_of_row(y: u16) -> Piece<8>
     text
 }
 
+/// Appends these bytes and then the decimal digits of a number.
 #[tactic(auto, unfolding(crate::specs::Svg::numbered))]
-pub(crate) fn push_numbered(text: &mut Piece<PEN_SIZE>, bytes: &[u8], number: u16)
+pub fn push_numbered(text: &mut Piece<PEN_SIZE>, bytes: &[u8], number: u16)
     requires room { length text.old + length bytes.now + 5 ≤ WRITE_MAX }
     ensures items { text.new ≡ text.old ++ numbered bytes.now number }
     ensures len { length text.new ≤ length text.old + length bytes.now + 5 }
@@ -210,8 +214,9 @@ fn push_opening(text: &mut Piece<PEN_SIZE>, width: u16, height: u16)
     text.push_all(b"\" shape-rendering=\"crispEdges\">\n");
 }
 
+/// Appends the line that makes a document white which is this wide and high in modules.
 #[tactic(auto, unfolding(crate::specs::Svg::background))]
-pub(crate) fn push_background(text: &mut Piece<PEN_SIZE>, width: u16, height: u16)
+pub fn push_background(text: &mut Piece<PEN_SIZE>, width: u16, height: u16)
     requires room { length text.old + 80 ≤ WRITE_MAX }
     ensures items { text.new ≡ text.old ++ background width height }
     ensures len { length text.new ≤ length text.old + 80 }
@@ -233,9 +238,9 @@ fn push_head(text: &mut Piece<PEN_SIZE>, width: u16, height: u16)
     text.push_all(b"<path fill=\"#000000\" d=\"");
 }
 
-// Appends all that comes after the last box.
-#[tactic(auto, unfolding(crate::specs::Steps::Svg::tail, crate::specs::Svg::closing))]
-pub(crate) fn push_tail(text: &mut Piece<PEN_SIZE>)
+/// Appends all that comes after the last box of a document.
+#[tactic(auto, unfolding(crate::specs::Svg::tail, crate::specs::Svg::closing))]
+pub fn push_tail(text: &mut Piece<PEN_SIZE>)
     requires room { length text.old + TAIL ≤ WRITE_MAX }
     ensures items { text.new ≡ text.old ++ tail }
     ensures len { length text.new ≤ length text.old + TAIL }
@@ -287,8 +292,14 @@ fn put_symbol<W: Sink>(
     Ok(())
 }
 
-// Writes the boxes of all symbols. Each symbol stands below the one before it.
-pub(crate) fn put_stack<S: HasSquare, W: Sink>(
+/// Writes the boxes of at most 16 symbols or other squares, all with the same side, each with a light margin of `margin`
+/// modules on all sides. Each square stands below the one before it. The pen may then still contain the last bytes.
+///
+/// # Errors
+///
+/// `Write`, only if a write fails or accepts no byte, or if 1,000 writes are interrupted; `out` has then accepted a
+/// prefix of the pen's bytes and the boxes.
+pub fn put_stack<S: HasSquare, W: Sink>(
     pen: &mut Pen,
     out: &mut W,
     symbols: &[S],

@@ -1,8 +1,8 @@
 -- What `qrproved_document` writes, and when it refuses a buffer as too short. It takes squares as `qrproved_draw` does.
 use Rattle.std.specs.Prelude.{ℕ, ◌<◌, ◌≤◌, ◌==◌, if◌then◌else◌, List, None}
-use Rattle.qr_drawing.specs.declared.document.Document.{Document}
-use Rattle.qr_drawing.specs.declared.document.Document.TheVariants.{Eps, Pdf, Svg}
-use Rattle.qr_drawing.specs.Document.{document}
+use Rattle.qr_documents.specs.declared.document.Document.{Document}
+use Rattle.qr_documents.specs.declared.document.Document.TheVariants.{Eps, Pdf, Svg}
+use Rattle.qr_documents.specs.Document.{document}
 use Rattle.qrproved.specs.Drawing.{LacksModules, LacksTextRoom, squares_of_bytes}
 
 -- The format that the number `n` of a caller means: 0 is SVG with a size in millimetres, 1 is EPS and 2 is PDF. Numbers

@@ -2,9 +2,9 @@
 -- document in two colours. The buffer `modules` begins with a byte for each module, one square after the other and row by
 -- row.
 use Rattle.std.specs.Prelude.{ℕ, ◌≡◌, ◌⊎◌, ◌/◌, ◌%◌, ◌≤◌, ◌==◌, if◌then◌else◌, List, None, Some}
-use Rattle.qr_drawing.specs.Document.{document}
-use Rattle.qr_drawing.specs.declared.document.Document.TheVariants.{Pdf}
-use Rattle.qr_drawing.specs.declared.document.DocumentSettings.{DocumentSettings}
+use Rattle.qr_documents.specs.Document.{document}
+use Rattle.qr_documents.specs.declared.document.Document.TheVariants.{Pdf}
+use Rattle.qr_documents.specs.declared.document.DocumentSettings.{DocumentSettings}
 use Rattle.qrproved.specs.Drawing.{LacksModules, LacksTextRoom, squares_of_bytes}
 
 -- What the numbers of a caller mean. A colour is 0xRRGGBBAA, and a light one whose lowest byte is 0 is not drawn [own]

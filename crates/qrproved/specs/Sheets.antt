@@ -1,7 +1,7 @@
 -- What `qrproved_sheets` writes, and when it refuses a buffer as too short. It takes squares as `qrproved_draw` does.
 use Rattle.std.specs.Prelude.{ℕ, ◌+◌, ◌*◌, ◌≤◌, List}
-use Rattle.qr_drawing.specs.declared.sheets.{Sheet.Sheet, SheetSettings.SheetSettings}
-use Rattle.qr_drawing.specs.Sheets.{FitsSheet, IsSheet, sheets_document}
+use Rattle.qr_documents.specs.declared.sheets.{Sheet.Sheet, SheetSettings.SheetSettings}
+use Rattle.qr_documents.specs.Sheets.{FitsSheet, IsSheet, sheets_document}
 use Rattle.qrproved.specs.declared.sheets.QrprovedSheet.{QrprovedSheet}
 use Rattle.qrproved.specs.Drawing.{LacksModules, LacksTextRoom, squares_of_bytes}
 

@@ -1,7 +1,7 @@
 //! The call that writes squares of modules as a document for print (ISO/IEC 18004:2015, 6.3.8).
 
 ghost use Rattle.std.specs.Prelude.{◌≡◌, ◌≢◌, ◌*◌, ◌<◌, ◌≤◌, ◌↔◌, ◌⊎◌, length, IfOk, SomeIff};
-ghost use Rattle.qr_drawing.specs.Document.{document};
+ghost use Rattle.qr_documents.specs.Document.{document};
 ghost use Rattle.qrproved.specs.Document.{AreDocumentSettings, LacksDocumentModules, LacksDocumentRoom, document_of_bytes, format_of};
 ghost use Rattle.qrproved.specs.Drawing.{HoldsText, squares_of_bytes};
 
@@ -10,7 +10,7 @@ use crate::modules::area;
 use crate::settings::between;
 use crate::status::{DONE, MEMORY, ROOM, SETTINGS};
 use qr_devices::Counted;
-use qr_drawing::{Document, DocumentSettings, write_document};
+use qr_documents::{Document, DocumentSettings, write_document};
 use std::alloc::{AllocError, Global};
 
 /// The numbers of a caller, after they were checked.

@@ -14,7 +14,7 @@ ghost use Rattle.qrproved.specs.Document.{AreDocumentSettings, format_of};
 ghost use Rattle.qrproved.specs.Drawing.{drawing_of, AreDrawingSettings};
 ghost use Rattle.qrproved.specs.Mending.{spent_in, square_of_unknown, wrong_in};
 ghost use Rattle.qr_matrix.specs.Grid.{colour};
-ghost use Rattle.qr_drawing.specs.declared.document.Document.{Document};
+ghost use Rattle.qr_documents.specs.declared.document.Document.{Document};
 ghost use Rattle.qr_drawing.specs.declared.drawing.Drawing.{Drawing};
 ghost use Rattle.qr_drawing.specs.declared.text.TextStyle.{TextStyle};
 ghost use Rattle.qrproved.specs.Interpretation.{TellsFnc1, TellsKanji};

@@ -8,7 +8,7 @@ use crate::document::{DocumentNumbers, document};
 use crate::modules::area;
 use crate::settings::between;
 use crate::status::{DONE, MEMORY, ROOM, SETTINGS};
-use qr_drawing::{Colours, Document, DocumentSettings};
+use qr_documents::{Colours, Document, DocumentSettings};
 use std::alloc::Global;
 
 // The two colours of a caller, as 0xRRGGBBAA.

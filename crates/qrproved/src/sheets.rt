@@ -1,7 +1,7 @@
 //! The call that writes squares of modules as labels on sheets of label paper (ISO/IEC 18004:2015, 6.3.8).
 
 ghost use Rattle.std.specs.Prelude.{◌≡◌, ◌≢◌, ◌+◌, ◌-◌, ◌*◌, ◌<◌, ◌≤◌, ◌↔◌, ◌⊎◌, length, true, IfOk, SomeIff};
-ghost use Rattle.qr_drawing.specs.Sheets.{FitsSheet, IsSheet, sheets_document};
+ghost use Rattle.qr_documents.specs.Sheets.{FitsSheet, IsSheet, sheets_document};
 ghost use Rattle.qrproved.specs.Drawing.{HoldsText, squares_of_bytes};
 ghost use Rattle.qrproved.specs.Sheets.{AreSheetSettings, LacksSheetModules, LacksSheetRoom, settings_of, sheet_of, sheets_of_bytes};
 
@@ -10,7 +10,7 @@ use crate::modules::area;
 use crate::settings::between;
 use crate::status::{DONE, MEMORY, ROOM, SETTINGS};
 use qr_devices::Counted;
-use qr_drawing::{Sheet, SheetSettings, write_sheets};
+use qr_documents::{Sheet, SheetSettings, write_sheets};
 use std::alloc::{AllocError, Global};
 
 /// Label paper. All lengths are in micrometres.

@@ -1,11 +1,11 @@
 //! Tests of documents for print: of what a device that is full receives, and of the colours of PDF documents. The documents
-//! that are expected were made by a program in Python that shares no code with `qr_drawing`. The rows of the library have
+//! that are expected were made by a program in Python that shares no code with `qr_documents`. The rows of the library have
 //! whole documents in black and white.
 
 ghost use Rattle.std.specs.Prelude.{◌≡◌, IfOk};
 
 use qr_devices::{Faults, Trial};
-use qr_drawing::{Colours, Document, DocumentSettings, write_document};
+use qr_documents::{Colours, Document, DocumentSettings, write_document};
 use qr_matrix::{Matrix, matrix_of_bytes};
 use std::alloc::Global;
 use std::test::Fail;

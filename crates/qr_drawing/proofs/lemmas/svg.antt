@@ -1,7 +1,7 @@
 -- Numbers that are written digit by digit.
 use Rattle.qr_drawing.{proofs.lemmas.text.LineLemmas.{texts_below-more, texts_below-none, texts_below-same, texts-of-items}, specs.Drawing.HaveOneSide}
-use Rattle.qr_drawing.specs.{Raster.{is_dark_at, raster_width, texts_below}, Steps.Svg.{width_path, head, tail}}
-use Rattle.qr_drawing.specs.Svg.{numbered, background, begins_run, box_path, closing, declaration, foreground, opening, row_path, run_length, run_path, square_at, stack_path, svg_document, symbol_path}
+use Rattle.qr_drawing.specs.{Raster.{is_dark_at, raster_width, texts_below}, Steps.Svg.{width_path, head}}
+use Rattle.qr_drawing.specs.Svg.{numbered, background, begins_run, box_path, closing, declaration, foreground, opening, row_path, run_length, run_path, square_at, stack_path, svg_document, symbol_path, tail}
 use Rattle.qr_drawing.specs.declared.svg.TheConstants.{SHORT_RUNS, TWO_DIGITS}
 use Rattle.qr_matrix.{proofs.Facts.{below-at, AreRunsFrom, all-runs, other-runs, run-colours, run-in}, specs.{DarkRuns.AreDarkRuns, Grid.{Grid, colour, light}}}
 use Rattle.qr_matrix.specs.{Sums.all_below, declared.dark_runs.Run.Run}

@@ -1,15 +1,11 @@
--- Three pieces of the text of an SVG document: what comes before the boxes of its path, what comes after them, and the
--- end of a box. A box is a part of the path, a rectangle that shows a run of dark modules.
+-- Two pieces of the text of an SVG document: what comes before the boxes of its path, and the end of a box. A box is a part
+-- of the path, a rectangle that shows a run of dark modules.
 use Rattle.std.specs.Prelude.{ℕ, List, ◌++◌, codes}
-use Rattle.qr_drawing.specs.Svg.{background, closing, declaration, numbered, opening}
+use Rattle.qr_drawing.specs.Svg.{background, declaration, numbered, opening}
 
 -- All lines of the document before the line with the path, and the beginning of this line
 unfoldable pub head : ℕ → ℕ → List ℕ
 head width height = declaration ++ opening width height ++ background width height ++ codes "<path fill=\"#000000\" d=\""
-
--- The end of the line with the path, and the last line
-unfoldable pub tail : List ℕ
-tail = codes "\"/>\n" ++ closing
 
 -- The end of the text of a box that is `modules` modules wide. The beginning, which gives the box's column and row, is
 -- left out

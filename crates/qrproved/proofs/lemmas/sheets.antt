@@ -1,5 +1,5 @@
 -- Labels that fit their places.
-use Rattle.{qr_drawing.specs.{Sheets.{FitsSheet, label_size}, declared.sheets.SheetSettings.SheetSettings}, qrproved.specs.Drawing.squares_of_bytes}
+use Rattle.{qr_documents.specs.{Sheets.{FitsSheet, label_size}, declared.sheets.SheetSettings.SheetSettings}, qrproved.specs.Drawing.squares_of_bytes}
 use Rattle.std.proofs.{Common.{ℕ, zero, suc, ◌+◌, ◌*◌, List, drop}, lemmas.List.Elements.{All-cons, All-nil}}
 use Rattle.std.specs.List.{All}
 

@@ -1,5 +1,5 @@
 use Rattle.qr_devices.proofs.Facts.{formed, stops-before, stops-between, stops-first, writes-on, writes-stop}
-use Rattle.qr_drawing.{proofs.lemmas.svg.document-parts, specs.Steps.Svg.tail}
+use Rattle.qr_drawing.{proofs.lemmas.svg.document-parts, specs.Svg.tail}
 use Rattle.{qr_drawing.specs.Svg.closing, std.proofs.{Common.refl, lemmas.Result.err_from_is_err_and}}
 use Rattle.qr_drawing.proofs.svg.put_document.Goals as goal
 

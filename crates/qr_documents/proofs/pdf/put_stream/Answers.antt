@@ -1,0 +1,26 @@
+use Rattle.qr_devices.proofs.Facts.{formed, stops-between, stops-first, writes-on, writes-stop}
+use Rattle.qr_documents.specs.Pdf.{stream}
+use Rattle.std.proofs.lemmas.Result.{err_from_is_err_and}
+use Rattle.qr_documents.proofs.pdf.put_stream.Goals as goal
+
+pub returns-in_err-put_commands : goal.returns-in_err-put_commands
+unfolding stream
+returns-in_err-put_commands g c =
+    let held = c.args.pen.now.piece in
+    rw ((err_from_is_err_and c.from_residual-in_err-put_commands.result c.from_residual-in_err-put_commands.ensures.1).1) (stops-first _ _ _ held _ _ (writes-stop _ _ _ _ _ held _ _ _
+    (formed _ _ _ _ held _ _ _ c.in_ok-reserve.ensures.writes (rw c.commands_length.ensures.value at c.push_stream_start.ensures.items)) c.in_err-put_commands.ensures))
+
+pub returns-in_err-reserve-2 : goal.returns-in_err-reserve-2
+unfolding stream
+returns-in_err-reserve-2 g c =
+    let held = c.args.pen.now.piece in
+    rw ((err_from_is_err_and c.from_residual-in_err-reserve-2.result c.from_residual-in_err-reserve-2.ensures.1).1) (stops-between _ _ _ _ _ held _ _ _ (writes-on _ _ _ _ _ _ held _ _ _ _
+    (formed _ _ _ _ held _ _ _ c.in_ok-reserve.ensures.writes (rw c.commands_length.ensures.value at c.push_stream_start.ensures.items)) c.in_ok-put_commands.ensures) c.in_err-reserve-2.ensures.writes)
+
+pub returns : goal.returns
+unfolding stream
+returns g c =
+    let held = c.args.pen.now.piece in
+    writes-on _ _ _ _ _ _ held _ _ _ _ (writes-on _ _ _ _ _ _ held _ _ _ _
+    (formed _ _ _ _ held _ _ _ c.in_ok-reserve.ensures.writes (rw c.commands_length.ensures.value at c.push_stream_start.ensures.items)) c.in_ok-put_commands.ensures)
+    (formed _ _ _ _ _ _ _ _ c.in_ok-reserve-2.ensures.writes c.push_all.ensures.items)

@@ -1,0 +1,9 @@
+pub mod Measures
+pub mod Boxes
+pub mod Colours
+pub mod Eps
+pub mod Pdf
+pub mod Sheets
+pub mod Document
+pub mod Laws
+pub mod Steps

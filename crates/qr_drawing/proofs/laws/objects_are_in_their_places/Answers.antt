@@ -1,5 +1,0 @@
-use Rattle.qr_drawing.proofs.lemmas.pdf.{has-its-places}
-use Rattle.qr_drawing.proofs.laws.objects_are_in_their_places.Goals as goal
-
-pub returns : goal.returns
-returns c p = has-its-places p
